@@ -1,0 +1,5 @@
+pub mod Text
+pub mod Pool
+pub mod Spelling
+pub mod PoolTook
+pub mod Again

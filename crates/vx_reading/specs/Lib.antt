@@ -1,0 +1,4 @@
+pub mod Place
+pub mod Reading
+pub mod Steps
+pub mod Took
