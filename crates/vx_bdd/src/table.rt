@@ -1,0 +1,152 @@
+//! The table of distinct reduced nodes, from which all sets are made.
+
+ghost use Rattle.std.specs.Prelude.{◌≡◌, ℕ, ◌<◌, ◌≤◌, Some, IfOk, OnOk, true, if◌then◌else◌, slice_index_or, None};
+ghost use Rattle.std.proofs.Props.{props};
+ghost use Rattle.vx_space.specs.Config.{value_of};
+ghost use Rattle.vx_bdd.specs.Diagram.{IsReduced, IsNode, node_at, is_stored, level, reaches};
+ghost use Rattle.vx_bdd.specs.Marks.{IsBounded, IsClosed, has_mark};
+ghost use Rattle.vx_bdd.specs.Table.{IsIndex, Grows, Stands, AreParts, IsStep};
+
+use crate::marks::sweep;
+use crate::node::Node;
+use slab::Slab;
+use std::collections::{HashMap, HashSet};
+use vx_space::{Config, SpaceFault};
+
+/// The nodes by id, and the ids by node (the unique table). The ids 0 and 1 are never and always, which have no node.
+#[derive(Drop)]
+pub struct Table {
+    pub options: u32,
+    pub nodes: Slab<Node>,
+    pub ids: HashMap<Node, usize>,
+    pub ghost few: { options < 65 },
+    pub ghost reduced: { IsReduced options nodes.slots } by { Prim.hlevel props },
+    pub ghost index: { IsIndex nodes.slots ids } by { Prim.hlevel props },
+    pub ghost bounded: { IsBounded nodes.slots nodes.capacity } by { Prim.hlevel props },
+}
+
+impl Table {
+    /// The id of a node, which is added if it is new.
+    pub fn find_or_add(&mut self, node: Node) -> Result<usize, SpaceFault>
+        requires { IsNode self.old.options self.old.nodes.slots node }
+        ensures options { self.new.options ≡ self.old.options }
+        ensures grows { Grows self.old.nodes.slots self.new.nodes.slots }
+        ensures ok { IfOk result (λ id. node_at self.new.nodes.slots id ≡ Some node) }
+    {
+        match self.ids.get(&node) {
+            Some(id) => Ok(*id),
+            None => {
+                self.nodes.reserve(1)?;
+                let id = self.nodes.vacant_key();
+                self.ids.insert(node, id)?;
+                Ok(self.nodes.insert_reserved(node))
+            }
+        }
+    }
+
+    /// The id of the set that is one part where an option is off, and another where it is on.
+    pub fn make(&mut self, option: u32, low: usize, high: usize) -> Result<usize, SpaceFault>
+        requires option { option < self.old.options }
+        requires low { is_stored self.old.nodes.slots low ≡ true }
+        requires high { is_stored self.old.nodes.slots high ≡ true }
+        requires low_later { option < level self.old.nodes.slots self.old.options low }
+        requires high_later { option < level self.old.nodes.slots self.old.options high }
+        ensures options { self.new.options ≡ self.old.options }
+        ensures grows { Grows self.old.nodes.slots self.new.nodes.slots }
+        ensures ok { IfOk result (λ id. Stands self.old.options self.new.nodes.slots option id (λ c. if value_of c option then reaches self.old.nodes.slots self.old.options high c else reaches self.old.nodes.slots self.old.options low c)) }
+    {
+        if low == high {
+            return Ok(low);
+        }
+        self.find_or_add(Node { option, low, high })
+    }
+
+    /// Drops all nodes that have no mark.
+    pub fn keep(&mut self, marks: &HashSet<usize>)
+        requires closed { IsClosed self.old.nodes.slots (has_mark marks.now) }
+        requires never { has_mark marks.now 0 ≡ true }
+        requires always { has_mark marks.now 1 ≡ true }
+        ensures options { self.new.options ≡ self.old.options }
+        ensures kept { (x : ℕ) → slice_index_or self.new.nodes.slots x None ≡ (if has_mark marks.now x then slice_index_or self.old.nodes.slots x None else None) }
+    {
+        sweep(&mut self.nodes, &mut self.ids, marks);
+    }
+
+    /// The node of an id.
+    pub fn node(&self, id: usize) -> Option<Node>
+        ensures { result ≡ node_at self.now.nodes.slots id }
+    {
+        if id < 2 {
+            None
+        } else {
+            self.nodes.get(id).copied()
+        }
+    }
+
+    /// The option that an id asks, or the number of options.
+    pub fn level(&self, id: usize) -> u32
+        requires { is_stored self.now.nodes.slots id ≡ true }
+        ensures level { result ≡ level self.now.nodes.slots self.now.options id }
+        ensures at_most { result ≤ self.now.options }
+    {
+        if id < 2 {
+            return self.options;
+        }
+        match self.nodes.get(id) {
+            Some(node) => node.option,
+            None => self.options,
+        }
+    }
+
+    /// The parts of an id's set, with an option off and on that is not after the id's own.
+    pub fn parts(&self, id: usize, option: u32) -> (usize, usize)
+        requires stored { is_stored self.now.nodes.slots id ≡ true }
+        requires option { option < self.now.options }
+        requires level { option ≤ level self.now.nodes.slots self.now.options id }
+        ensures { AreParts self.now.options self.now.nodes.slots id option result.0 result.1 }
+    {
+        if id < 2 {
+            return (id, id);
+        }
+        match self.nodes.get(id) {
+            Some(node) => {
+                if node.option == option {
+                    (node.low, node.high)
+                } else {
+                    (id, id)
+                }
+            }
+            None => (id, id),
+        }
+    }
+
+    /// Where a configuration goes from a node.
+    fn next(&self, at: usize, c: &Config) -> usize
+        requires stored { is_stored self.now.nodes.slots at ≡ true }
+        requires node { 2 ≤ at }
+        ensures { IsStep self.now.options self.now.nodes.slots at c.now result }
+    {
+        match self.nodes.get(at) {
+            Some(node) => {
+                if c.is_on(node.option) {
+                    node.high
+                } else {
+                    node.low
+                }
+            }
+            None => unreachable!(),
+        }
+    }
+
+    /// Whether an id's set has a configuration.
+    pub fn holds(&self, id: usize, c: &Config) -> bool
+        requires { is_stored self.now.nodes.slots id ≡ true }
+        ensures { result ≡ reaches self.now.nodes.slots self.now.options id c.now }
+    {
+        let mut at = id;
+        while at >= 2 {
+            at = self.next(at, c);
+        }
+        at == 1
+    }
+}
