@@ -1,0 +1,8 @@
+//! Tools over the sets of any space: their nodes as a list, their options, a member.
+#![tactic(auto)]
+
+pub mod member;
+pub mod node;
+
+pub use member::one_of;
+pub use node::{Node, NodeList};
