@@ -1,0 +1,3 @@
+pub mod Took
+pub mod ClassTook
+pub mod Holding

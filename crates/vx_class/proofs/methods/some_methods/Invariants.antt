@@ -1,0 +1,7 @@
+use Rattle.std.proofs.Common.{◌≡◌, ◌-◌, []}
+use Rattle.vx_reading.specs.Reading.{steps, behind}
+use Rattle.vx_class.specs.Members.{method_at}
+use Rattle.vx_class.proofs.methods.some_methods.Given as goal
+
+abbrev pub invariant-loop : goal.invariant-loop
+invariant-loop l = steps (behind (method_at l.pool l.major)) l.methods.items (l.count - l.counter) l.cursor ≡ steps (behind (method_at l.pool l.major)) [] l.count l.fn.cursor

@@ -1,0 +1,6 @@
+pub mod Fits
+pub mod Code
+pub mod Members
+pub mod Class
+pub mod Spelling
+pub mod File

@@ -1,0 +1,15 @@
+//! Reading class files.
+#![tactic(auto)]
+
+mod class_file;
+mod code;
+mod members;
+mod methods;
+mod reading;
+
+pub use class_file::{Catch, ClassFile, Code, Field, Method};
+pub use reading::read_class;
+pub use vx_reading::ClassFault;
+
+#[cfg(test)]
+mod tests;

@@ -1,0 +1,5 @@
+pub mod Lookups
+pub mod Checks
+pub mod Entries
+pub mod Instructions
+pub mod Loops

@@ -1,0 +1,196 @@
+//! The checks of the pool's entries.
+
+ghost use Rattle.std.specs.Prelude.{◌≡◌, ◌+◌, ◌^◌, ◌<◌, ◌&&◌, Err, length, is_some, sum_by, IfOk, true, false, Bool, Option, None};
+ghost use Rattle.vx_reading.specs.Reading.{Answers};
+ghost use Rattle.vx_pool.specs.Pool.{size};
+ghost use Rattle.vx_pool.specs.declared.pool.Entry.TheVariants.{Class, Text, Field, Method, MethodHandle, MethodType, NameAndType};
+ghost use Rattle.vx_desc.specs.Names.{is_field_name, is_method_name};
+ghost use Rattle.vx_desc.specs.Descriptors.{is_field_descriptor, is_method_descriptor};
+ghost use Rattle.vx_code.specs.Lookups.{text, member_name, member_descriptor, is_class_text};
+ghost use Rattle.vx_code.specs.Entries.{where_read, kind_checks, member_checks, checks_of, entries_checked};
+ghost use Rattle.vx_code.specs.Checks.{first_failing};
+
+use crate::lookups::{
+    is_class, is_class_text, is_name_and_type, is_usable, member_descriptor, member_name, text,
+};
+use std::alloc::{AllocError, Global};
+use vx_desc::{is_field_descriptor, is_field_name, is_method_name, method_slots};
+use vx_pool::{ClassFault, Entry, Pool};
+use vx_reading::refusal;
+
+fn is_method_descriptor(alloc: Global, bytes: &[u8]) -> Result<bool, AllocError>
+    requires { length bytes.now < 2 ^ 16 }
+    ensures { IfOk result (λ b. b ≡ is_method_descriptor bytes.now) }
+{
+    Ok(method_slots(alloc, bytes)?.is_some())
+}
+
+fn class_entry(pool: &Pool, index: u16, at: u64) -> Result<(), ClassFault>
+    ensures { Answers result (first_failing at (checks_of pool.now (Class index))) }
+{
+    if !is_usable(pool, index) {
+        return refusal(at, 5);
+    }
+    match text(pool, index) {
+        None => refusal(at, 6),
+        Some(name) if !is_class_text(name) => refusal(at, 7),
+        Some(_) => Ok(()),
+    }
+}
+
+fn text_entry(pool: &Pool, index: u16, at: u64) -> Result<(), ClassFault>
+    ensures { Answers result (first_failing at (checks_of pool.now (Text index))) }
+{
+    if !is_usable(pool, index) {
+        return refusal(at, 5);
+    }
+    match text(pool, index) {
+        None => refusal(at, 6),
+        Some(_) => Ok(()),
+    }
+}
+
+fn method_type_entry(alloc: Global, pool: &Pool, index: u16, at: u64) -> Result<(), ClassFault>
+    ensures { Answers result (first_failing at (checks_of pool.now (MethodType index))) }
+{
+    if !is_usable(pool, index) {
+        return refusal(at, 5);
+    }
+    match text(pool, index) {
+        None => refusal(at, 6),
+        Some(descriptor) if is_method_descriptor(alloc, descriptor)? => Ok(()),
+        Some(_) => refusal(at, 8),
+    }
+}
+
+/// The checks of an entry that names a member, before those of its name and descriptor.
+fn member_entry(pool: &Pool, class: u16, member: u16, at: u64) -> Result<(), ClassFault>
+    ensures { Answers result (first_failing at (kind_checks pool.now class member)) }
+{
+    if !(is_usable(pool, class) && is_usable(pool, member)) {
+        return refusal(at, 5);
+    }
+    if !(is_class(pool, class) && is_name_and_type(pool, member)) {
+        return refusal(at, 6);
+    }
+    Ok(())
+}
+
+fn field_entry(pool: &Pool, class: u16, member: u16, at: u64) -> Result<(), ClassFault>
+    ensures { Answers result (first_failing at (checks_of pool.now (Field class member))) }
+{
+    member_entry(pool, class, member, at)?;
+    if member_name(pool, member).is_some_and(|name| !is_field_name(name)) {
+        return refusal(at, 7);
+    }
+    match member_descriptor(pool, member) {
+        Some(descriptor) if !is_field_descriptor(descriptor) => refusal(at, 8),
+        _ => Ok(()),
+    }
+}
+
+fn method_entry(
+    alloc: Global,
+    pool: &Pool,
+    class: u16,
+    member: u16,
+    at: u64,
+) -> Result<(), ClassFault>
+    ensures { Answers result (first_failing at (checks_of pool.now (Method class member))) }
+{
+    member_entry(pool, class, member, at)?;
+    match member_name(pool, member) {
+        Some(name) if !is_method_name(name) => return refusal(at, 7),
+        _ => {}
+    }
+    match member_descriptor(pool, member) {
+        Some(descriptor) if !is_method_descriptor(alloc, descriptor)? => refusal(at, 8),
+        _ => Ok(()),
+    }
+}
+
+fn name_and_type_entry(
+    alloc: Global,
+    pool: &Pool,
+    name: u16,
+    descriptor: u16,
+    at: u64,
+) -> Result<(), ClassFault>
+    ensures { Answers result (first_failing at (checks_of pool.now (NameAndType name descriptor))) }
+{
+    if !(is_usable(pool, name) && is_usable(pool, descriptor)) {
+        return refusal(at, 5);
+    }
+    match (text(pool, name), text(pool, descriptor)) {
+        (Some(name), Some(descriptor)) => {
+            if !is_field_name(name) {
+                refusal(at, 7)
+            } else if is_field_descriptor(descriptor) || is_method_descriptor(alloc, descriptor)? {
+                Ok(())
+            } else {
+                refusal(at, 8)
+            }
+        }
+        _ => refusal(at, 6),
+    }
+}
+
+fn usable_entry(pool: &Pool, index: u16, at: u64) -> Result<(), ClassFault>
+    ensures { Answers result (first_failing at (checks_of pool.now (MethodHandle 0 index))) }
+{
+    if is_usable(pool, index) {
+        Ok(())
+    } else {
+        refusal(at, 5)
+    }
+}
+
+/// The checks of an entry whose tag stands at `at`.
+fn entry(alloc: Global, pool: &Pool, entry: &Entry, at: u64) -> Result<(), ClassFault>
+    ensures { Answers result (first_failing at (checks_of pool.now entry.now)) }
+{
+    match entry {
+        Entry::Class(name) => class_entry(pool, *name, at),
+        Entry::Text(text) => text_entry(pool, *text, at),
+        Entry::Field(class, member) => field_entry(pool, *class, *member, at),
+        Entry::Method(class, member) | Entry::InterfaceMethod(class, member) => {
+            method_entry(alloc, pool, *class, *member, at)
+        }
+        Entry::NameAndType(name, descriptor) => {
+            name_and_type_entry(alloc, pool, *name, *descriptor, at)
+        }
+        Entry::MethodHandle(_, index) | Entry::InvokeDynamic(_, index) => {
+            usable_entry(pool, *index, at)
+        }
+        Entry::MethodType(descriptor) => method_type_entry(alloc, pool, *descriptor, at),
+        _ => Ok(()),
+    }
+}
+
+/// How many bytes an entry takes.
+fn size(entry: &Entry) -> u64
+    ensures { result ≡ size entry.now }
+{
+    match entry {
+        Entry::Unusable => 0,
+        Entry::Utf8(text) => 3 + text.as_slice().len() as u64,
+        Entry::Integer(_) | Entry::Float(_) => 5,
+        Entry::Long(_) | Entry::Double(_) => 9,
+        Entry::Class(_) | Entry::Text(_) | Entry::MethodType(_) => 3,
+        Entry::MethodHandle(_, _) => 4,
+        _ => 5,
+    }
+}
+
+/// The checks of the entries, the first of which stands at `start`.
+pub fn check_entries(alloc: Global, pool: &Pool, start: u64) -> Result<(), ClassFault>
+    requires { start + sum_by size pool.now.entries < 2 ^ 64 }
+    ensures { Answers result (entries_checked pool.now pool.now.entries start) }
+{
+    let mut at = start;
+    for item in pool.entries.as_slice() {
+        entry(alloc, pool, item, at)?;
+        at += size(item);
+    }
+    Ok(())
+}

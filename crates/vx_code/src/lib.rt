@@ -1,0 +1,12 @@
+//! The checks of a class file that read no bytes: entries of the pool, instructions, jumps and switches.
+#![tactic(auto)]
+
+mod entries;
+mod instructions;
+mod jumps;
+mod lookups;
+
+pub use entries::check_entries;
+pub use instructions::starts_of;
+pub use jumps::{check_jumps, is_start};
+pub use lookups::{class_text, entry_of, is_array, is_class, is_usable, text};

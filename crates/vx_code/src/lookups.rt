@@ -1,0 +1,94 @@
+//! What an index of the pool names.
+
+ghost use Rattle.std.specs.Prelude.{◌≡◌, ◌^◌, ◌<◌, ◌==◌, length, slice_index, is_some, IfSome, IfOk, Some};
+ghost use Rattle.std.specs.Option.{option_copied};
+ghost use Rattle.vx_code.specs.Lookups.{entry_of, is_usable, utf8, class, name_and_type, is_field, is_method, is_interface_method, is_invoke_dynamic, text, class_text, member_name, member_descriptor, is_array, is_class_text};
+
+use vx_desc::{is_class_name, is_field_descriptor};
+use vx_pool::{Entry, Pool};
+
+pub fn entry_of(pool: &Pool, index: u16) -> Option<&Entry>
+    ensures { option_copied result ≡ entry_of pool.now index }
+{
+    pool.entries.as_slice().get(index as usize)
+}
+
+pub fn is_usable(pool: &Pool, index: u16) -> bool
+    ensures { result ≡ is_usable (entry_of pool.now index) }
+{
+    !matches!(entry_of(pool, index), None | Some(Entry::Unusable))
+}
+
+pub fn is_class(pool: &Pool, index: u16) -> bool
+    ensures { result ≡ is_some (class (entry_of pool.now index)) }
+{
+    matches!(entry_of(pool, index), Some(Entry::Class(_)))
+}
+
+pub fn is_name_and_type(pool: &Pool, index: u16) -> bool
+    ensures { result ≡ is_some (name_and_type (entry_of pool.now index)) }
+{
+    matches!(entry_of(pool, index), Some(Entry::NameAndType(_, _)))
+}
+
+/// The text of an index.
+pub fn text(pool: &Pool, index: u16) -> Option<&[u8]>
+    ensures value { option_copied result ≡ text pool.now index }
+    ensures few { IfSome result (λ t. length t.now < 2 ^ 16) }
+{
+    match entry_of(pool, index) {
+        Some(Entry::Utf8(text)) => Some(text.as_slice()),
+        _ => None,
+    }
+}
+
+/// The text that a class entry names.
+pub fn class_text(pool: &Pool, index: u16) -> Option<&[u8]>
+    ensures value { option_copied result ≡ class_text pool.now index }
+    ensures few { IfSome result (λ t. length t.now < 2 ^ 16) }
+{
+    match entry_of(pool, index) {
+        Some(Entry::Class(name)) => text(pool, *name),
+        _ => None,
+    }
+}
+
+/// The name of a name and type.
+pub fn member_name(pool: &Pool, index: u16) -> Option<&[u8]>
+    ensures value { option_copied result ≡ member_name pool.now index }
+    ensures few { IfSome result (λ t. length t.now < 2 ^ 16) }
+{
+    match entry_of(pool, index) {
+        Some(Entry::NameAndType(name, _)) => text(pool, *name),
+        _ => None,
+    }
+}
+
+/// The descriptor of a name and type.
+pub fn member_descriptor(pool: &Pool, index: u16) -> Option<&[u8]>
+    ensures value { option_copied result ≡ member_descriptor pool.now index }
+    ensures few { IfSome result (λ t. length t.now < 2 ^ 16) }
+{
+    match entry_of(pool, index) {
+        Some(Entry::NameAndType(_, descriptor)) => text(pool, *descriptor),
+        _ => None,
+    }
+}
+
+pub fn is_array(name: &[u8]) -> bool
+    ensures { result ≡ is_array name.now }
+{
+    name.first() == Some(&b'[')
+}
+
+/// Whether a text is the name of a class, or the descriptor of an array.
+pub fn is_class_text(name: &[u8]) -> bool
+    requires { length name.now < 2 ^ 16 }
+    ensures { result ≡ is_class_text name.now }
+{
+    if is_array(name) {
+        is_field_descriptor(name)
+    } else {
+        is_class_name(name)
+    }
+}
