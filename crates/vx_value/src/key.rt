@@ -1,6 +1,11 @@
 //! Keys of states: where a run stands.
 
+ghost use Rattle.std.specs.Prelude.{◌≡◌, IfOk, refl};
+ghost use Rattle.std.specs.Ordering.{eq_by_cmp, as_partial_cmp};
+
 use crate::ids::MethodId;
+use std::alloc::{AllocError, Global};
+use std::cmp::Ordering;
 use std::marker::Model;
 use vx_list::Items;
 
@@ -35,4 +40,120 @@ impl Model for Key {
     ghost Value = { List KeyPart };
 
     ghost view = { λ key. key.parts };
+}
+
+impl Key {
+    /// The key with these parts, from bottom to top.
+    pub fn of(alloc: Global, parts: &[KeyPart]) -> Result<Key, AllocError>
+        ensures { IfOk result (λ key. key ≡ parts.now) }
+    {
+        Ok(Key::from_vec(Vec::from_slice(alloc, parts)?))
+    }
+
+    /// The key with the parts of a vector, from bottom to top, without memory.
+    pub fn from_vec(parts: Vec<KeyPart>) -> Key
+        ensures { result ≡ parts.items }
+    {
+        Key {
+            parts: Items::of(parts),
+        }
+    }
+
+    /// Its parts, from bottom to top.
+    pub fn parts(&self) -> &[KeyPart]
+        ensures { result.now ≡ self.now }
+    {
+        self.parts.as_slice()
+    }
+}
+
+/// The key with more frames is first; of two with equally many, the one whose parts from bottom to top are the lesser
+/// list.
+impl Ord for Key {
+    ghost use Rattle.vx_value.specs.Key.{key_cmp};
+    ghost use Rattle.vx_value.specs.KeyLaws.{key_cmp_total};
+
+    ghost cmp = { key_cmp };
+
+    ghost total = { key_cmp_total };
+
+    ghost matches_partial_cmp = { λ a b. refl };
+
+    ghost matches_eq = { λ a b. refl };
+
+    fn cmp(&self, other: &Key) -> Ordering {
+        let (mine, theirs) = (self.parts(), other.parts());
+        match theirs.len().cmp(&mine.len()) {
+            Ordering::Equal => mine.cmp(&theirs),
+            unequal => unequal,
+        }
+    }
+}
+
+impl PartialOrd for Key {
+    ghost use Rattle.vx_value.specs.Key.{key_cmp};
+    ghost use Rattle.vx_value.specs.KeyLaws.{key_partial_order};
+
+    ghost partial_cmp = { as_partial_cmp key_cmp };
+
+    ghost laws = { key_partial_order };
+
+    fn partial_cmp(&self, other: &Key) -> Option<Ordering> {
+        Some(self.cmp(other))
+    }
+}
+
+/// Keys are equal where they have the same parts.
+impl PartialEq for Key {
+    ghost use Rattle.vx_value.specs.Key.{key_cmp};
+    ghost use Rattle.vx_value.specs.KeyLaws.{key_partial_equivalence};
+
+    ghost eq = { eq_by_cmp key_cmp };
+
+    ghost laws = { key_partial_equivalence };
+
+    fn eq(&self, other: &Key) -> bool {
+        self.cmp(other) == Ordering::Equal
+    }
+}
+
+impl Eq for Key {
+    ghost use Rattle.vx_value.specs.KeyLaws.{key_equivalence};
+
+    ghost laws = { key_equivalence };
+}
+
+#[cfg(test)]
+mod tests {
+    use super::*;
+    use std::test::Fail;
+
+    fn part(method: u32, position: u32, depth: u32, kind: Kind) -> KeyPart {
+        KeyPart {
+            method: MethodId(method),
+            position,
+            depth,
+            kind,
+        }
+    }
+
+    #[test]
+    fn keys_go_by_frames_then_by_parts(rt: HostRuntime) -> Result<(), Fail> {
+        let alloc = rt.alloc();
+        let one = Key::of(alloc, &[part(0, 0, 0, Kind::Call)])?;
+        let later = Key::of(alloc, &[part(0, 3, 0, Kind::Call)])?;
+        let deeper = Key::of(alloc, &[part(0, 3, 1, Kind::Call)])?;
+        let waiting = Key::of(alloc, &[part(0, 3, 1, Kind::Wait)])?;
+        let two = Key::of(
+            alloc,
+            &[part(9, 9, 9, Kind::Init), part(0, 0, 0, Kind::Call)],
+        )?;
+        assert!(rt; two < one);
+        assert!(rt; one < later);
+        assert!(rt; later < deeper);
+        assert!(rt; deeper < waiting);
+        assert!(rt; one == Key::from_vec(Vec::from_slice(alloc, one.parts())?));
+        assert_eq!(rt; two.parts().len(), 2);
+        Ok(())
+    }
 }

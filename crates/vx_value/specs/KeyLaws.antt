@@ -1,0 +1,71 @@
+-- The laws of the order of keys: it is total, and keys that compare equal are one key.
+use Rattle.std.specs.Prelude.{◌≡◌, List, [], ◌∷◌, length, refl}
+use Rattle.std.proofs.lemmas.Map.Lookups.{exact_unsigned}
+use Rattle.std.specs.declared.cmp.Ordering.{Ordering}
+use Rattle.std.specs.declared.cmp.Ordering.TheVariants.{Less, Equal, Greater}
+use Rattle.std.specs.Ordering.{nat_cmp, on, flip_args, ordering_then, eq_by_cmp, as_partial_cmp}
+use Rattle.std.specs.Cmp.{IsTotalOrder, IsPartialOrder, IsEquivalence, IsPartialEquivalence, partial_equiv_from_equiv, partial_order_from_total, eq_by_cmp_equiv, then_total, back_total, on_total, nat_cmp_total}
+use Rattle.std.specs.Cmp.Lexicographic.{slice_cmp, lists_total}
+use Rattle.vx_value.specs.declared.key.KeyPart.{KeyPart}
+use Rattle.vx_value.specs.declared.key.Kind.{Kind}
+use Rattle.vx_value.specs.declared.key.Kind.TheVariants.{Call, Wait, Init}
+use Rattle.vx_value.specs.contracts.key.KindOrd.TheImpl as kind_ord
+use Rattle.vx_value.specs.contracts.key.KeyPartOrd.TheImpl.Laws.{total-law}
+use Rattle.vx_value.specs.Key.{part_cmp, key_cmp}
+
+pub key_cmp_total : IsTotalOrder key_cmp
+key_cmp_total = then_total (back_total (on_total length nat_cmp_total)) (lists_total total-law)
+
+pub key_partial_order : IsPartialOrder (eq_by_cmp key_cmp) (as_partial_cmp key_cmp)
+key_partial_order = partial_order_from_total key_cmp_total
+
+pub key_equivalence : IsEquivalence (eq_by_cmp key_cmp)
+key_equivalence = eq_by_cmp_equiv key_cmp_total
+
+pub key_partial_equivalence : IsPartialEquivalence (eq_by_cmp key_cmp)
+key_partial_equivalence = partial_equiv_from_equiv key_equivalence
+
+-- an order that answers Equal for the first, and then the second, answers it for each
+then_first : (a b : Ordering) → ordering_then a b ≡ Equal → a ≡ Equal
+then_first Less b h = h
+then_first Equal b h = refl
+then_first Greater b h = h
+
+then_second : (a b : Ordering) → ordering_then a b ≡ Equal → b ≡ Equal
+then_second Less b h = cc
+then_second Equal b h = h
+then_second Greater b h = cc
+
+kind_exact : (a b : Kind) → kind_ord.ghosts.cmp a b ≡ Equal → a ≡ b
+kind_exact Call Call h = refl
+kind_exact Wait Wait h = refl
+kind_exact Init Init h = refl
+kind_exact _ _ h = cc
+
+all_equal : (p q r s : Ordering) → ordering_then p (ordering_then q (ordering_then r s)) ≡ Equal → (p ≡ Equal) × (q ≡ Equal) × (r ≡ Equal) × (s ≡ Equal)
+all_equal p q r s h =
+    let tail = then_second p (ordering_then q (ordering_then r s)) h in
+    let end = then_second q (ordering_then r s) tail in
+    (then_first p (ordering_then q (ordering_then r s)) h, then_first q (ordering_then r s) tail, then_first r s end, then_second r s end)
+
+part_exact : (a b : KeyPart) → part_cmp a b ≡ Equal → a ≡ b
+part_exact a b h =
+    let same = all_equal (nat_cmp a.method.0 b.method.0) (nat_cmp a.position b.position) (nat_cmp a.depth b.depth) (kind_ord.ghosts.cmp a.kind b.kind) h in
+    let method = exact_unsigned a.method.0 b.method.0 same.0 in
+    let position = exact_unsigned a.position b.position same.1 in
+    let depth = exact_unsigned a.depth b.depth same.2 in
+    let kind = kind_exact a.kind b.kind same.3 in
+    λ i. record { method = record { 0 = method i }; position = position i; depth = depth i; kind = kind i }
+
+parts_exact : (xs ys : List KeyPart) → slice_cmp part_cmp xs ys ≡ Equal → xs ≡ ys
+parts_exact [] [] h = refl
+parts_exact [] (y ∷ ys) h = cc
+parts_exact (x ∷ xs) [] h = cc
+parts_exact (x ∷ xs) (y ∷ ys) h =
+    let first = part_exact x y (then_first (part_cmp x y) (slice_cmp part_cmp xs ys) h) in
+    let rest = parts_exact xs ys (then_second (part_cmp x y) (slice_cmp part_cmp xs ys) h) in
+    cc
+
+-- keys that compare equal are one key
+pub key_exact : (a b : List KeyPart) → key_cmp a b ≡ Equal → a ≡ b
+key_exact a b h = parts_exact a b (then_second (flip_args (on length nat_cmp) a b) (slice_cmp part_cmp a b) h)
