@@ -38,7 +38,7 @@ least_later sets id at low high k i values d t = cases (order i k)
     cases (inr l) = l
 
 -- a part, in a configuration that takes it
-part_here : {I : Type 0} {sets : Sets I} → IsLawful sets → (at part : I) (i : ℕ) (b : Bool) → sets.is_known at ≡ true → IsSet sets part (fixed (sets.test at) i b) → (c : List Bool) → value_of c i ≡ b → sets.test at c ≡ sets.test part c
+pub part_here : {I : Type 0} {sets : Sets I} → IsLawful sets → (at part : I) (i : ℕ) (b : Bool) → sets.is_known at ≡ true → IsSet sets part (fixed (sets.test at) i b) → (c : List Bool) → value_of c i ≡ b → sets.test at c ≡ sets.test part c
 part_here lawful at part i b k s c e = sym (s.test c ∙ lawful.options_alone at (with_option c i b) c k (λ j l. elim (cases_eq i j) [
   | inl q ↦ ap (value_of (with_option c i b)) (sym q) ∙ value_of-same c i b ∙ sym e ∙ ap (value_of c) q
   | inr n ↦ value_of-other c i j b n
@@ -55,7 +55,7 @@ swap_values c i j m b v n = cases (cases_eq i m) (cases_eq j m)
     cases (inr e) (inr f) = value_of-other (with_option c j v) i m b e ∙ value_of-other c j m v f ∙ sym (value_of-other c i m b e) ∙ sym (value_of-other (with_option c i b) j m v f)
 
 -- a part depends neither on the option that is fixed nor on those on which the whole doesn't
-part_free : {I : Type 0} {sets : Sets I} → IsLawful sets → (at part : I) (i : ℕ) (b : Bool) → sets.is_known at ≡ true → IsSet sets part (fixed (sets.test at) i b) → ((j : ℕ) → j < i → IsFree (sets.test at) j) → (j : ℕ) → j < i + 1 → IsFree (sets.test part) j
+pub part_free : {I : Type 0} {sets : Sets I} → IsLawful sets → (at part : I) (i : ℕ) (b : Bool) → sets.is_known at ≡ true → IsSet sets part (fixed (sets.test at) i b) → ((j : ℕ) → j < i → IsFree (sets.test at) j) → (j : ℕ) → j < i + 1 → IsFree (sets.test part) j
 part_free {sets = sets} lawful at part i b k s f j l c = elim (cases_eq j i) [
   | inl q ↦ s.test (with_option c j true) ∙ lawful.options_alone at (with_option (with_option c j true) i b) (with_option (with_option c j false) i b) k (λ m n. twice m (cases_eq i m) q) ∙ sym (s.test (with_option c j false))
   | inr n ↦

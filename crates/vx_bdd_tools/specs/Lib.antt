@@ -1,3 +1,5 @@
 pub mod Members
 pub mod Nodes
 pub mod Numbering
+pub mod Listing
+pub mod Steps

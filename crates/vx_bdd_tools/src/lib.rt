@@ -3,6 +3,8 @@
 
 pub mod member;
 pub mod node;
+pub mod numbering;
 
 pub use member::one_of;
 pub use node::{Node, NodeList};
+pub use numbering::listing;
