@@ -1,0 +1,12 @@
+//! Reports of runs: their lines, written in their one spelling, read back, and projected at a configuration. A report
+//! says what was written and how the runs ended, each with the set of its configurations as a node of one diagram.
+#![tactic(auto)]
+
+pub mod line;
+pub mod meaning;
+pub mod report;
+pub mod spelling;
+pub mod writing;
+
+pub use report::{AttemptLine, EndLine, Piece, Report};
+pub use writing::write_report;

@@ -1,0 +1,246 @@
+//! Reports in their one spelling.
+
+ghost use Rattle.std.specs.Prelude.{◌≡◌, ◌++◌, ◌+◌, ◌<◌, ◌^◌, [], ◌∷◌, OnOk, IfOk, map, length, codes};
+ghost use Rattle.std.specs.List.{flat_map};
+ghost use Rattle.vx_value.specs.Words.{word_of};
+ghost use Rattle.vx_report.specs.declared.line.Line.TheVariants.{Head, Count, Named, Limit, Rounds, Numbered, Printed, Ended, Spent, Done};
+ghost use Rattle.vx_report.specs.Lines.{whole_line, kind_word, unsupported_words, end_words, stream_word};
+ghost use Rattle.vx_report.specs.Text.{numbered, front_lines, found_lines, report_text};
+
+use crate::report::{AttemptLine, EndLine, Piece, Report};
+use crate::spelling::{TEXT, WORD, put_number, put_signed_number, put_spelled, put_wide_number};
+use std::alloc::{AllocError, Global};
+use vx_bdd_tools::Node;
+use vx_value::{End, Name, Stream};
+
+#[tactic(auto, unfolding(crate::specs::Lines::kind_word))]
+fn kind_of(word: u8) -> &'static [u8]
+    ensures { result.now ≡ kind_word word }
+{
+    match word {
+        1 => b"float",
+        2 => b"subroutine",
+        3 => b"dynamic",
+        4 => b"constant",
+        5 => b"native",
+        6 => b"class",
+        7 => b"field",
+        8 => b"method",
+        _ => b"",
+    }
+}
+
+/// Puts a space and a word.
+fn put_next_word(out: &mut Vec<u8>, bytes: &[u8]) -> Result<(), AllocError>
+    ensures { OnOk result (out.new.items ≡ out.old.items ++ codes " " ++ word_of bytes.now) }
+{
+    out.extend_from_slice(b" ")?;
+    put_spelled(out, WORD, bytes)
+}
+
+fn put_unsupported(out: &mut Vec<u8>, word: u8, what: &Name, place: &Name) -> Result<(), AllocError>
+    ensures { OnOk result (out.new.items ≡ out.old.items ++ unsupported_words word what.now place.now) }
+{
+    out.extend_from_slice(b"unsupported ")?;
+    out.extend_from_slice(kind_of(word))?;
+    put_next_word(out, what.bytes())?;
+    put_next_word(out, place.bytes())?;
+    Ok(())
+}
+
+/// Puts the words of an end.
+#[tactic(auto, unfolding(crate::specs::Lines::end_words))]
+pub fn put_end(out: &mut Vec<u8>, end: &End) -> Result<(), AllocError>
+    ensures { OnOk result (out.new.items ≡ out.old.items ++ end_words end.now) }
+{
+    match end {
+        End::Return => out.extend_from_slice(b"return"),
+        End::Exit(code) => {
+            out.extend_from_slice(b"exit ")?;
+            put_signed_number(out, *code)
+        }
+        End::Uncaught(class) => {
+            out.extend_from_slice(b"uncaught ")?;
+            put_spelled(out, WORD, class.bytes())
+        }
+        End::Unsupported { word, what, place } => put_unsupported(out, *word, what, place),
+        End::Illegal(place) => {
+            out.extend_from_slice(b"illegal ")?;
+            put_spelled(out, WORD, place.bytes())
+        }
+        End::Unfinished => out.extend_from_slice(b"unfinished"),
+    }
+}
+
+#[tactic(auto, unfolding(crate::specs::Lines::line_text, crate::specs::Lines::whole_line))]
+fn put_option(out: &mut Vec<u8>, name: &Name) -> Result<(), AllocError>
+    ensures { OnOk result (out.new.items ≡ out.old.items ++ whole_line (Named name.now)) }
+{
+    out.extend_from_slice(b"option ")?;
+    out.extend_from_slice(name.bytes())?;
+    out.extend_from_slice(b"\n")
+}
+
+#[tactic(auto, unfolding(crate::specs::Lines::line_text, crate::specs::Lines::whole_line))]
+fn put_node(out: &mut Vec<u8>, id: u64, node: &Node) -> Result<(), AllocError>
+    ensures { OnOk result (out.new.items ≡ out.old.items ++ whole_line (Numbered id node.now)) }
+{
+    out.extend_from_slice(b"node ")?;
+    put_number(out, id)?;
+    out.extend_from_slice(b" ")?;
+    put_number(out, u64::from(node.option))?;
+    out.extend_from_slice(b" ")?;
+    put_number(out, node.low)?;
+    out.extend_from_slice(b" ")?;
+    put_number(out, node.high)?;
+    out.extend_from_slice(b"\n")
+}
+
+/// The word of a stream.
+pub fn word_of_stream(stream: Stream) -> &'static [u8]
+    ensures { result.now ≡ stream_word stream }
+{
+    match stream {
+        Stream::Out => b"out",
+        Stream::Err => b"err",
+    }
+}
+
+#[tactic(auto, unfolding(crate::specs::Lines::line_text, crate::specs::Lines::whole_line))]
+fn put_piece(out: &mut Vec<u8>, piece: &Piece) -> Result<(), AllocError>
+    ensures { OnOk result (out.new.items ≡ out.old.items ++ whole_line (Printed piece.now)) }
+{
+    out.extend_from_slice(word_of_stream(piece.stream))?;
+    out.extend_from_slice(b" ")?;
+    put_number(out, piece.node)?;
+    out.extend_from_slice(b" ")?;
+    put_spelled(out, TEXT, piece.text.bytes())?;
+    out.extend_from_slice(b"\n")
+}
+
+#[tactic(auto, unfolding(crate::specs::Lines::line_text, crate::specs::Lines::whole_line))]
+fn put_end_line(out: &mut Vec<u8>, line: &EndLine) -> Result<(), AllocError>
+    ensures { OnOk result (out.new.items ≡ out.old.items ++ whole_line (Ended line.now)) }
+{
+    out.extend_from_slice(b"end ")?;
+    put_number(out, line.node)?;
+    out.extend_from_slice(b" ")?;
+    put_end(out, &line.end)?;
+    out.extend_from_slice(b"\n")
+}
+
+#[tactic(auto, unfolding(crate::specs::Lines::line_text, crate::specs::Lines::whole_line))]
+fn put_attempts(out: &mut Vec<u8>, line: &AttemptLine) -> Result<(), AllocError>
+    ensures { OnOk result (out.new.items ≡ out.old.items ++ whole_line (Spent line.now)) }
+{
+    out.extend_from_slice(b"attempts ")?;
+    put_number(out, line.node)?;
+    out.extend_from_slice(b" ")?;
+    put_number(out, line.attempts)?;
+    out.extend_from_slice(b"\n")
+}
+
+#[tactic(auto, unfolding(crate::specs::Lines::line_text, crate::specs::Lines::whole_line))]
+fn put_head(out: &mut Vec<u8>, version: u8) -> Result<(), AllocError>
+    ensures { OnOk result (out.new.items ≡ out.old.items ++ whole_line (Head version)) }
+{
+    out.extend_from_slice(b"varexj report ")?;
+    put_number(out, version as u64)?;
+    out.extend_from_slice(b"\n")?;
+    Ok(())
+}
+
+/// Puts how many options there are, and their names.
+#[tactic(auto, unfolding(crate::specs::Lines::line_text, crate::specs::Lines::whole_line))]
+fn put_options(out: &mut Vec<u8>, options: &[Name]) -> Result<(), AllocError>
+    ensures { OnOk result (out.new.items ≡ out.old.items ++ (whole_line (Count (length options.now)) ++ flat_map whole_line (map Named options.now))) }
+{
+    out.extend_from_slice(b"options ")?;
+    put_number(out, options.len() as u64)?;
+    out.extend_from_slice(b"\n")?;
+    for name in options {
+        put_option(out, name)?;
+    }
+    Ok(())
+}
+
+/// Puts the limit and the rounds.
+#[tactic(auto, unfolding(crate::specs::Lines::line_text, crate::specs::Lines::whole_line))]
+fn put_bounds(out: &mut Vec<u8>, limit: u64, rounds: u128) -> Result<(), AllocError>
+    ensures { OnOk result (out.new.items ≡ out.old.items ++ (whole_line (Limit limit) ++ whole_line (Rounds rounds))) }
+{
+    out.extend_from_slice(b"limit ")?;
+    put_number(out, limit)?;
+    out.extend_from_slice(b"\nrounds ")?;
+    put_wide_number(out, rounds)?;
+    out.extend_from_slice(b"\n")
+}
+
+fn put_nodes(out: &mut Vec<u8>, nodes: &[Node]) -> Result<(), AllocError>
+    ensures { OnOk result (out.new.items ≡ out.old.items ++ flat_map whole_line (numbered 2 nodes.now)) }
+{
+    for (place, node) in nodes.iter().enumerate() {
+        put_node(out, place as u64 + 2, node)?;
+    }
+    Ok(())
+}
+
+fn put_pieces(out: &mut Vec<u8>, pieces: &[Piece]) -> Result<(), AllocError>
+    ensures { OnOk result (out.new.items ≡ out.old.items ++ flat_map whole_line (map Printed pieces.now)) }
+{
+    for piece in pieces {
+        put_piece(out, piece)?;
+    }
+    Ok(())
+}
+
+fn put_ends(out: &mut Vec<u8>, ends: &[EndLine]) -> Result<(), AllocError>
+    ensures { OnOk result (out.new.items ≡ out.old.items ++ flat_map whole_line (map Ended ends.now)) }
+{
+    for line in ends {
+        put_end_line(out, line)?;
+    }
+    Ok(())
+}
+
+fn put_all_attempts(out: &mut Vec<u8>, attempts: &[AttemptLine]) -> Result<(), AllocError>
+    ensures { OnOk result (out.new.items ≡ out.old.items ++ flat_map whole_line (map Spent attempts.now)) }
+{
+    for line in attempts {
+        put_attempts(out, line)?;
+    }
+    Ok(())
+}
+
+/// Puts what a report says of all configurations: its version, its options, the limit, the rounds.
+fn put_front(out: &mut Vec<u8>, report: &Report) -> Result<(), AllocError>
+    ensures { OnOk result (out.new.items ≡ out.old.items ++ flat_map whole_line (front_lines report.now)) }
+{
+    put_head(out, report.version)?;
+    put_options(out, report.options.as_slice())?;
+    put_bounds(out, report.limit, report.rounds)?;
+    Ok(())
+}
+
+/// Puts what a report found, each with the node of its configurations.
+fn put_found(out: &mut Vec<u8>, report: &Report) -> Result<(), AllocError>
+    ensures { OnOk result (out.new.items ≡ out.old.items ++ flat_map whole_line (found_lines report.now)) }
+{
+    put_pieces(out, report.pieces.as_slice())?;
+    put_ends(out, report.ends.as_slice())?;
+    put_all_attempts(out, report.attempts.as_slice())?;
+    Ok(())
+}
+
+/// The text of a report, in its one spelling.
+#[tactic(auto, using(crate::proofs::Numbered::whole_text), unfolding(crate::specs::Lines::line_text, crate::specs::Lines::whole_line))]
+pub fn write_report(alloc: Global, report: &Report) -> Result<Vec<u8>, AllocError>
+    ensures { IfOk result (λ text. text.items ≡ report_text report.now) }
+{
+    let mut out = Vec::new(alloc);
+    put_front(&mut out, report)?;
+    put_nodes(&mut out, report.nodes.as_slice())?;
+    put_found(&mut out, report)?;
+    out.extend_from_slice(b"done\n")?;
+    Ok(out)
+}
