@@ -1,5 +1,5 @@
 -- The listing of some sets.
-use Rattle.std.specs.Prelude.{ℕ, List, map}
+use Rattle.std.specs.Prelude.{◌≡◌, ℕ, List, map}
 use Rattle.vx_space.specs.Sets.{Sets}
 use Rattle.vx_bdd_tools.specs.declared.node.Node.{Node}
 use Rattle.vx_bdd_tools.specs.Numbering.{IsNumbered, HoldAll}
@@ -8,3 +8,7 @@ use Rattle.vx_bdd_tools.specs.Numbering.{IsNumbered, HoldAll}
 pub record IsListing {I : Type 0} (sets : Sets I) (ids : List I) (nodes : List Node) (roots : List ℕ) : Type 0 where
   pub hold : HoldAll nodes roots (map sets.test ids)
   pub numbered : IsNumbered sets.options nodes roots
+
+-- no other list is a listing of the sets
+pub record IsOnlyListing {I : Type 0} (sets : Sets I) (ids : List I) (nodes : List Node) (roots : List ℕ) : Type 0 where
+  pub only : (other : List Node) (numbers : List ℕ) → IsListing sets ids other numbers → (other ≡ nodes) × (numbers ≡ roots)

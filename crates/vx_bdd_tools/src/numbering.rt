@@ -3,7 +3,7 @@
 ghost use Rattle.std.specs.Prelude.{◌≡◌, ◌≢◌, ℕ, ◌≤◌, Option, IfOk, map};
 ghost use Rattle.std.specs.BTreeMap.{get};
 ghost use Rattle.vx_space.specs.Sets.{IsKnown, AreKnown};
-ghost use Rattle.vx_bdd_tools.specs.Listing.{IsListing};
+ghost use Rattle.vx_bdd_tools.specs.Listing.{IsListing, IsOnlyListing};
 ghost use Rattle.vx_bdd_tools.specs.Steps.{IsFreeBelow, IsListed, IsNumberingStep};
 
 use crate::node::{Node, NodeList};
@@ -16,7 +16,8 @@ use vx_space::Space;
 /// root in order first the low part is numbered, then the high part, then the node itself, passing over what is numbered.
 pub fn listing<S: Space>(alloc: Global, space: &S, roots: &[S::Id]) -> Result<NodeList, AllocError>
     requires { AreKnown (S.sets space.now) roots.now }
-    ensures { IfOk result (λ list. IsListing (S.sets space.now) roots.now list.nodes list.roots) }
+    ensures ok { IfOk result (λ list. IsListing (S.sets space.now) roots.now list.nodes list.roots) }
+    ensures only { IfOk result (λ list. IsOnlyListing (S.sets space.now) roots.now list.nodes list.roots) }
 {
     let mut nodes = Vec::new(alloc);
     let mut numbers = BTreeMap::new(alloc);
