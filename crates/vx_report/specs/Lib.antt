@@ -1,3 +1,4 @@
 pub mod Lines
 pub mod Projection
+pub mod Runs
 pub mod Text

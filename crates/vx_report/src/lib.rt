@@ -4,9 +4,11 @@
 
 pub mod line;
 pub mod meaning;
+pub mod projection;
 pub mod report;
 pub mod spelling;
 pub mod writing;
 
+pub use projection::project_text;
 pub use report::{AttemptLine, EndLine, Piece, Report};
 pub use writing::write_report;
