@@ -45,7 +45,7 @@ part_here lawful at part i b k s c e = sym (s.test c ∙ lawful.options_alone at
 ]))
 
 -- the order in which two options are set doesn't matter
-swap_values : (c : List Bool) (i j m : ℕ) (b v : Bool) → j ≢ i → value_of (with_option (with_option c j v) i b) m ≡ value_of (with_option (with_option c i b) j v) m
+pub swap_values : (c : List Bool) (i j m : ℕ) (b v : Bool) → j ≢ i → value_of (with_option (with_option c j v) i b) m ≡ value_of (with_option (with_option c i b) j v) m
 swap_values c i j m b v n = cases (cases_eq i m) (cases_eq j m)
   where
     cases : (i ≡ m) ⊎ (i ≢ m) → (j ≡ m) ⊎ (j ≢ m) → value_of (with_option (with_option c j v) i b) m ≡ value_of (with_option (with_option c i b) j v) m

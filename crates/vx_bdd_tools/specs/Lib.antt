@@ -3,3 +3,4 @@ pub mod Nodes
 pub mod Numbering
 pub mod Listing
 pub mod Steps
+pub mod Support

@@ -4,7 +4,9 @@
 pub mod member;
 pub mod node;
 pub mod numbering;
+pub mod options;
 
 pub use member::one_of;
 pub use node::{Node, NodeList};
 pub use numbering::listing;
+pub use options::support;
