@@ -1,0 +1,167 @@
+-- The one spelling of a class spells it.
+use Rattle.std.specs.Prelude.{◌≡◌, ℕ, zero, suc, ◌+◌, ◌<◌, List, [], ◌∷◌, length, filter, is_some, unwrap_or, Bool, true, false, not, ◌&&◌, ◌||◌, Option, Some, None, codes, refl}
+use Rattle.std.specs.List.{flat_map, slice_get, position_or_len}
+use Rattle.std.proofs.Common.{ap, ◌∙◌, arith, cond}
+use Rattle.std.proofs.lemmas.Bool.{lt-ltb}
+use Rattle.std.proofs.lemmas.List.Concat.{flat_map-cons}
+use Rattle.vx_pool.specs.declared.pool.Entry.{Entry}
+use Rattle.vx_pool.specs.declared.pool.Entry.TheVariants as entry
+use Rattle.vx_pool.specs.declared.pool.Pool.{Pool}
+use Rattle.vx_class.specs.declared.class_file.ClassFile.{ClassFile}
+use Rattle.vx_class.specs.declared.class_file.Field.{Field}
+use Rattle.vx_class.specs.declared.class_file.Method.{Method}
+use Rattle.vx_class.specs.declared.class_file.Code.{Code}
+use Rattle.vx_code.specs.Lookups.{text, utf8}
+use Rattle.vx_class.specs.Members.{has, INTERFACE, STATIC, is_given, is_text_of}
+use Rattle.vx_class.specs.Spelling.{u2, Attribute, AreNamed, One, IsOneAmong, IsConstant, is_constant, IsCode, is_code, FieldSpells, MethodSpells, AllSpell, Spells}
+use Rattle.vx_writer.specs.Written.{is_text_entry, least_place, constant_attributes, field_bytes, code_attribute, code_attributes, method_bytes, head_bytes, members_bytes, spelling}
+
+-- ---- the least place of a text
+
+-- the first item that passes, where one does
+first_passes : {A : Type 0} (p : A → Bool) (xs : List A) (i : ℕ) (x : A) → slice_get xs i ≡ Some x → p x ≡ true
+    → (position_or_len p xs < length xs) × (y : A) × (slice_get xs (position_or_len p xs) ≡ Some y) × (p y ≡ true)
+first_passes p [] i x e t = absurd cc
+first_passes p (z ∷ zs) zero x e t =
+    let same : z ≡ x = cc in
+    let passes : p z ≡ true = ap p same ∙ t in
+    rw passes (omega arith, z, refl, passes)
+first_passes {A = A} p (z ∷ zs) (suc i) x e t = by_test (first_passes p zs i x e t) (p z) refl
+  where
+    by_test : ((position_or_len p zs < length zs) × (y : A) × (slice_get zs (position_or_len p zs) ≡ Some y) × (p y ≡ true)) → (b : Bool) → p z ≡ b
+        → (cond (not b) (1 + position_or_len p zs) 0 < length (z ∷ zs)) × (y : A) × (slice_get (z ∷ zs) (cond (not b) (1 + position_or_len p zs) 0) ≡ Some y) × (p y ≡ true)
+    by_test others true f = (omega arith, z, refl, f)
+    by_test others false f =
+        let k : 1 + position_or_len p zs ≡ suc (position_or_len p zs) = omega arith in
+        rw k (omega (arith, others.0), others.1, others.2, others.3)
+
+-- an entry is a text where the text that an index names is that text
+given_is : (expected : List ℕ) (e : Option Entry) → is_given expected (utf8 e) ≡ true → (x : Entry) × (e ≡ Some x) × (is_text_entry expected x ≡ true)
+given_is expected None t = absurd cc
+given_is expected (Some (entry.Utf8 text)) t = (entry.Utf8 text, refl, t)
+given_is expected (Some _) t = absurd cc
+
+is_given_back : (expected : List ℕ) (x : Entry) → is_text_entry expected x ≡ true → is_given expected (utf8 (Some x)) ≡ true
+is_given_back expected (entry.Utf8 text) t = t
+is_given_back expected _ t = absurd cc
+
+-- the least place of a text that the pool has is a place of it
+pub least_is : (pool : Pool) (expected : List ℕ) (i : ℕ) → is_text_of pool i expected ≡ true → is_text_of pool (least_place pool expected) expected ≡ true
+least_is pool expected i t =
+    let found = given_is expected (slice_get pool.entries i) t in
+    let first = first_passes (is_text_entry expected) pool.entries i found.0 found.1 found.2 in
+    rw (lt-ltb _ _ first.0) (rw first.2 (is_given_back expected first.1 first.3))
+
+-- ---- members
+
+and_first : (a b : Bool) → (a && b) ≡ true → a ≡ true
+and_first true b e = refl
+and_first false b e = absurd cc
+
+and_second : (a b : Bool) → (a && b) ≡ true → b ≡ true
+and_second true b e = e
+and_second false b e = absurd cc
+
+and_both : (a b : Bool) → a ≡ true → b ≡ true → (a && b) ≡ true
+and_both true b e f = f
+and_both false b e f = absurd cc
+
+-- where one attribute of a kind is found, there is one
+some_mine : {B : Type 0} (mine : Attribute → Bool) (Holds : B → List ℕ → Type 0) (attributes : List Attribute) (b : B) → IsOneAmong mine Holds attributes (Some b)
+    → (a : Attribute) × (mine a ≡ true) × Holds b a.content
+some_mine mine Holds [] b one = absurd one
+some_mine {B = B} mine Holds (a ∷ attributes) b one = by_test (λ h. some_mine mine Holds attributes b h) (mine a) refl one
+  where
+    by_test : (IsOneAmong mine Holds attributes (Some b) → (a : Attribute) × (mine a ≡ true) × Holds b a.content) → (t : Bool) → mine a ≡ t
+        → One Holds (cond t (a ∷ filter mine attributes) (filter mine attributes)) (Some b) → (a : Attribute) × (mine a ≡ true) × Holds b a.content
+    by_test others true e one = (a, e, only (filter mine attributes) one)
+      where
+        only : (others : List Attribute) → One Holds (a ∷ others) (Some b) → Holds b a.content
+        only [] h = h
+        only (x ∷ xs) h = absurd h
+    by_test others false e one = others one
+
+-- an attribute that stands alone
+alone : {B : Type 0} (mine : Attribute → Bool) (Holds : B → List ℕ → Type 0) (a : Attribute) (b : B) → mine a ≡ true → Holds b a.content → IsOneAmong mine Holds (a ∷ []) (Some b)
+alone mine Holds a b e h = rw e h
+
+is_named : (pool : Pool) (i : ℕ) (expected : List ℕ) → is_text_of pool i expected ≡ true → is_some (text pool i) ≡ true
+is_named pool i expected t = given (text pool i) t
+  where
+    given : (o : Option (List ℕ)) → is_given expected o ≡ true → is_some o ≡ true
+    given None t = absurd cc
+    given (Some x) t = refl
+
+abbrev ConstantSpells : Pool → Bool → ℕ → List Attribute → Type 0
+ConstantSpells pool static n attributes = AreNamed pool attributes × (constant : Option ℕ) × IsOneAmong (is_constant pool static) IsConstant attributes constant × (n ≡ unwrap_or constant 0)
+
+constant_spelled : (pool : Pool) (static : Bool) (n : ℕ) (attributes : List Attribute) (constant : Option ℕ) → IsOneAmong (is_constant pool static) IsConstant attributes constant
+    → n ≡ unwrap_or constant 0 → ConstantSpells pool static n (constant_attributes pool n)
+constant_spelled pool static zero attributes constant one e = (tt, None, tt, refl)
+constant_spelled pool static (suc n) attributes None one e = absurd (omega arith)
+constant_spelled pool static (suc n) attributes (Some k) one e =
+    let found = some_mine (is_constant pool static) IsConstant attributes k one in
+    let is_static = and_first static (is_text_of pool found.0.name (codes "ConstantValue")) found.1 in
+    let place = least_is pool (codes "ConstantValue") found.0.name (and_second static (is_text_of pool found.0.name (codes "ConstantValue")) found.1) in
+    let mine = and_both static (is_text_of pool (least_place pool (codes "ConstantValue")) (codes "ConstantValue")) is_static place in (
+      (is_named pool (least_place pool (codes "ConstantValue")) (codes "ConstantValue") place, tt),
+      Some (suc n),
+      alone (is_constant pool static) IsConstant (record { name = least_place pool (codes "ConstantValue"); content = u2 (suc n) }) (suc n) mine refl,
+      refl,
+    )
+
+field_spelled : (pool : Pool) (interface : Bool) (f : Field) (bytes : List ℕ) → FieldSpells pool interface f bytes → FieldSpells pool interface f (field_bytes pool f)
+field_spelled pool interface f bytes h =
+    let constant = constant_spelled pool (interface || has f.flags STATIC) f.constant h.0 h.3 h.4 h.5 in
+    (constant_attributes pool f.constant, refl, constant.0, constant.1, constant.2, constant.3)
+
+fields_spelled : (pool : Pool) (interface : Bool) (fs : List Field) (bytes : List ℕ) → AllSpell (FieldSpells pool interface) fs bytes → AllSpell (FieldSpells pool interface) fs (flat_map (field_bytes pool) fs)
+fields_spelled pool interface [] bytes h = refl
+fields_spelled pool interface (f ∷ fs) bytes h = (
+  field_bytes pool f,
+  flat_map (field_bytes pool) fs,
+  flat_map-cons (field_bytes pool) f fs,
+  field_spelled pool interface f h.0 h.3,
+  fields_spelled pool interface fs h.1 h.4,
+)
+
+abbrev CodeSpells : Pool → Option Code → List Attribute → Type 0
+CodeSpells pool code attributes = AreNamed pool attributes × IsOneAmong (is_code pool) (IsCode pool) attributes code
+
+code_spelled : (pool : Pool) (code : Option Code) (attributes : List Attribute) → IsOneAmong (is_code pool) (IsCode pool) attributes code → CodeSpells pool code (code_attributes pool code)
+unfolding code_attribute
+code_spelled pool None attributes one = (tt, tt)
+code_spelled pool (Some code) attributes one =
+    let found = some_mine (is_code pool) (IsCode pool) attributes code one in
+    let place = least_is pool (codes "Code") found.0.name found.1 in (
+      (is_named pool (least_place pool (codes "Code")) (codes "Code") place, tt),
+      alone (is_code pool) (IsCode pool) (code_attribute pool code) code place ([], tt, refl),
+    )
+
+method_spelled : (pool : Pool) (m : Method) (bytes : List ℕ) → MethodSpells pool m bytes → MethodSpells pool m (method_bytes pool m)
+method_spelled pool m bytes h = let code = code_spelled pool m.code h.0 h.3 in (code_attributes pool m.code, refl, code.0, code.1)
+
+methods_spelled : (pool : Pool) (ms : List Method) (bytes : List ℕ) → AllSpell (MethodSpells pool) ms bytes → AllSpell (MethodSpells pool) ms (flat_map (method_bytes pool) ms)
+methods_spelled pool [] bytes h = refl
+methods_spelled pool (m ∷ ms) bytes h = (
+  method_bytes pool m,
+  flat_map (method_bytes pool) ms,
+  flat_map-cons (method_bytes pool) m ms,
+  method_spelled pool m h.0 h.3,
+  methods_spelled pool ms h.1 h.4,
+)
+
+-- ---- the class
+
+-- where bytes spell a class, its one spelling spells it
+pub spelling_spells : (bytes : List ℕ) (c : ClassFile) → Spells bytes c → Spells (spelling c) c
+unfolding head_bytes members_bytes
+spelling_spells bytes c h = record {
+  fields = flat_map (field_bytes c.pool) c.fields;
+  methods = flat_map (method_bytes c.pool) c.methods;
+  skipped = [];
+  named = tt;
+  are_fields = fields_spelled c.pool (has c.flags INTERFACE) c.fields h.fields h.are_fields;
+  are_methods = methods_spelled c.pool c.methods h.methods h.are_methods;
+  parts = refl;
+}
