@@ -1,0 +1,27 @@
+-- Feature models.
+use Rattle.std.specs.Prelude.{◌≤◌, List, length, Bool, AllPairs, Option, Some, None, ◌≢◌}
+use Rattle.vx_model.specs.declared.model.Model.{Model}
+use Rattle.vx_model.specs.declared.model.OptionField.{OptionField}
+use Rattle.vx_model.specs.declared.model.FieldPlace.{FieldPlace}
+use Rattle.vx_model.specs.Formula.{formulas}
+use Rattle.vx_model.specs.Truth.{all_true, AllNamesBelow}
+
+-- no field is given to both
+abbrev pub DifferentPlaces : Option FieldPlace → Option FieldPlace → Type 0
+DifferentPlaces None b = Unit {0}
+DifferentPlaces (Some a) None = Unit {0}
+DifferentPlaces (Some a) (Some b) = a ≢ b
+
+-- the model allows the configuration: each rule is true
+abbrev pub is_allowed : Model → List Bool → Bool
+is_allowed model c = all_true (formulas model.rules) c
+
+-- the options have different names, and no field is given to both
+abbrev pub AreApart : OptionField → OptionField → Type 0
+AreApart a b = (a.name ≢ b.name) × DifferentPlaces a.place b.place
+
+-- what each call that takes a model asks of it
+pub record IsModel (model : Model) : Type 0 where
+  pub at_most_64 : length model.options ≤ 64
+  pub apart : AllPairs AreApart model.options
+  pub named : AllNamesBelow (length model.options) (formulas model.rules)

@@ -1,0 +1,12 @@
+//! Feature models: options, the fields that hold them, and rules; their text; and the configurations that they allow.
+#![tactic(auto)]
+
+mod configurations;
+mod expr;
+mod fault;
+mod model;
+
+pub use configurations::allowed;
+pub use expr::{Expr, Form};
+pub use fault::ModelFault;
+pub use model::{FieldPlace, Model, OptionField};
