@@ -1,0 +1,5 @@
+pub mod Machine
+pub mod Shared
+pub mod CoreNames
+pub mod FirstClass
+pub mod FirstModel

@@ -1,0 +1,20 @@
+//! Straight-line programs of one class, run for both values of one option at once: the part of the machine that is
+//! built so far, with the tests of what it takes.
+#![tactic(auto)]
+
+pub mod attempt;
+pub mod first_class;
+pub mod first_model;
+pub mod names;
+pub mod operand;
+pub mod program;
+pub mod runs;
+pub mod step;
+pub mod walk;
+
+pub use first_class::program_of;
+pub use first_model::OptionLine;
+pub use operand::{Line, Operand};
+pub use program::{Located, Program};
+pub use runs::{Findings, run};
+pub use step::Step;
