@@ -1,3 +1,4 @@
 pub mod Leads
 pub mod Walks
 pub mod Cuts
+pub mod Projections

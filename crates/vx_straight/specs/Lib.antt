@@ -3,3 +3,4 @@ pub mod Shared
 pub mod CoreNames
 pub mod FirstClass
 pub mod FirstModel
+pub mod Reported
