@@ -108,5 +108,14 @@ IsCondOf-overwritten {T = T} cmp {s0 = s0} {s1 = s1} {s2 = s2} s3 old new kept m
 
 pub ruleset conds = (IsCond-extends, cond_at-extends, AreLeaves-extends, Extends-trans, IsCondOf-restricted, IsCondOf-joined, IsCondOf-overwritten, AreLeavesApart-disjoint, kept_scope)
 
+-- a Cond with these values is a Cond, and has them
+pub IsCond-of : {T S I : Type 0} (cmp : T → T → Ordering) (sets : Sets I) (value : List Bool → Option T) (cond : Conditional T S I) → IsCondOf cmp sets value cond → IsCond cmp sets cond
+unfolding IsCondOf
+IsCond-of cmp sets value cond v = v.is_cond
+
+pub cond_at-of : {T S I : Type 0} (cmp : T → T → Ordering) (sets : Sets I) (value : List Bool → Option T) (cond : Conditional T S I) (c : List Bool) → IsCondOf cmp sets value cond → cond_at sets cond c ≡ value c
+unfolding IsCondOf
+cond_at-of cmp sets value cond c v = v.at c
+
 -- what `using` applies in the crates above
-pub ruleset cond_words = (IsCond-extends, IsCondOf-extends, cond_at-extends, AreDisjoint-extends, Extends-trans)
+pub ruleset cond_words = (IsCond-of, cond_at-of, IsCond-extends, IsCondOf-extends, cond_at-extends, AreDisjoint-extends, Extends-trans)
