@@ -1,0 +1,10 @@
+pub mod Examples
+pub mod Mnemonics
+pub mod Straight
+pub mod Branches
+pub mod Objects
+pub mod Initialisers
+pub mod Exceptions
+pub mod Programs
+pub mod Links
+pub mod Values

@@ -1,0 +1,21 @@
+//! Examples that are computed on the definitions: programs, written out as classes, whose reports, runs and link faults are
+//! known from the rules by hand. Each function states a group of them.
+#![tactic(auto)]
+
+mod branches;
+mod exceptions;
+mod initialisers;
+mod links;
+mod objects;
+mod programs;
+mod straight;
+mod values;
+
+pub use branches::branching_runs;
+pub use exceptions::throwing_runs;
+pub use initialisers::initialising_runs;
+pub use links::link_faults;
+pub use objects::object_runs;
+pub use programs::single_runs;
+pub use straight::straight_runs;
+pub use values::plain_values;

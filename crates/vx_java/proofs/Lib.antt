@@ -1,0 +1,5 @@
+pub mod Grouping
+pub mod Orders
+pub mod Members
+pub mod Rounds
+pub mod Projecting

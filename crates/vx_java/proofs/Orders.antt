@@ -1,0 +1,59 @@
+-- Pieces, ends and numbers that compare equal are equal.
+use Rattle.std.proofs.Common.{◌≡◌, ℕ, ℤ, List, [], ◌∷◌, refl, ap, arith}
+use Rattle.std.proofs.lemmas.Bool.Decides.{nat_tests}
+use Rattle.std.specs.declared.cmp.Ordering.{Ordering}
+use Rattle.std.specs.declared.cmp.Ordering.TheVariants.{Less, Equal, Greater}
+use Rattle.std.specs.Ordering.{nat_cmp, int_cmp, ordering_then}
+use Rattle.std.specs.Cmp.{int_ranks}
+use Rattle.std.specs.Cmp.Lexicographic.{slice_cmp}
+use Rattle.vx_value.specs.declared.end.Stream.TheVariants.{Out, Err}
+use Rattle.vx_value.specs.declared.end.End.{End}
+use Rattle.vx_value.specs.declared.end.End.TheVariants.{Return, Exit, Uncaught, Unsupported, Illegal, Unfinished}
+use Rattle.vx_value.specs.Ends.{compare_ends}
+use Rattle.vx_java.specs.Lockstep.{Piece, compare_pieces}
+
+pub nat_equal : (a b : ℕ) → nat_cmp a b ≡ Equal → a ≡ b
+nat_equal a b h = grind (arith, nat_tests)
+
+int_equal : (a b : ℤ) → int_cmp a b ≡ Equal → a ≡ b
+int_equal a b h = rw h at (int_ranks a b)
+
+-- both of two orders, one after the other, are Equal
+then_first : (a b : Ordering) → ordering_then a b ≡ Equal → a ≡ Equal
+then_first Equal b h = refl
+then_first Less b h = cc
+then_first Greater b h = cc
+
+then_second : (a b : Ordering) → ordering_then a b ≡ Equal → b ≡ Equal
+then_second Equal b h = h
+then_second Less b h = cc
+then_second Greater b h = cc
+
+text_equal : (xs ys : List ℕ) → slice_cmp nat_cmp xs ys ≡ Equal → xs ≡ ys
+text_equal [] [] h = refl
+text_equal [] (y ∷ ys) h = cc
+text_equal (x ∷ xs) [] h = cc
+text_equal (x ∷ xs) (y ∷ ys) h =
+    let e = nat_equal x y (then_first _ _ h) in
+    let f = text_equal xs ys (then_second _ _ h) in
+    cc
+
+pub end_equal : (a b : End) → compare_ends a b ≡ Equal → a ≡ b
+end_equal Return Return h = refl
+end_equal (Exit j) (Exit k) h = ap Exit (int_equal j k h)
+end_equal (Uncaught a) (Uncaught b) h = ap Uncaught (text_equal a b h)
+end_equal (Unsupported v a p) (Unsupported w b q) h =
+    let e = nat_equal v w (then_first _ _ h) in
+    let rest = then_second _ _ h in
+    let f = text_equal a b (then_first _ _ rest) in
+    let g = text_equal p q (then_second _ _ rest) in
+    cc
+end_equal (Illegal p) (Illegal q) h = ap Illegal (text_equal p q h)
+end_equal Unfinished Unfinished h = refl
+end_equal _ _ h = cc
+
+pub piece_equal : (a b : Piece) → compare_pieces a b ≡ Equal → a ≡ b
+piece_equal (Out, x) (Out, y) h = ap (λ t. (Out, t)) (text_equal x y h)
+piece_equal (Err, x) (Err, y) h = ap (λ t. (Err, t)) (text_equal x y h)
+piece_equal (Out, x) (Err, y) h = cc
+piece_equal (Err, x) (Out, y) h = cc

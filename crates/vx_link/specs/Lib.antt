@@ -1,0 +1,12 @@
+pub mod Names
+pub mod Signature
+pub mod Parts
+pub mod Hierarchy
+pub mod ClassNames
+pub mod Assignability
+pub mod Resolution
+pub mod Written
+pub mod CoreTable
+pub mod CoreFiles
+pub mod Faults
+pub mod Linked

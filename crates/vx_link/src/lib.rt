@@ -1,0 +1,13 @@
+//! Linked programs: class files put together, with their classes, methods and fields numbered through, and the
+//! definitions of linking, of resolution and of the core classes (JVMS 5.3, 5.4).
+#![tactic(auto)]
+
+pub mod access_flags;
+pub mod core_list;
+pub mod fault;
+pub mod program;
+
+pub use access_flags::AccessFlags;
+pub use core_list::CoreList;
+pub use fault::LinkFault;
+pub use program::{LinkedClass, LinkedField, LinkedMethod, Program};

@@ -1,0 +1,69 @@
+//! A linked program and its parts, each named by its number.
+
+use crate::access_flags::AccessFlags;
+use vx_class::Code;
+use vx_list::Items;
+use vx_pool::Pool;
+use vx_value::{ClassId, FieldId, MethodId, Name};
+
+/// A program: the classes of the folder and then the core classes, with their methods and fields numbered through. A number is
+/// a place in its list.
+#[derive(Debug, Drop)]
+pub struct Program {
+    pub classes: Items<LinkedClass>,
+    pub methods: Items<LinkedMethod>,
+    pub fields: Items<LinkedField>,
+    /// The method with which a run begins.
+    pub main: MethodId,
+    /// The field of each option of the model, or `None` for an option without a field.
+    pub options: Items<Option<FieldId>>,
+}
+
+/// A class or an interface of a program.
+#[derive(Debug, Drop)]
+pub struct LinkedClass {
+    pub name: Name,
+    /// `None` for `java/lang/Object` alone.
+    pub superclass: Option<ClassId>,
+    /// The direct superinterfaces in file order.
+    pub interfaces: Items<ClassId>,
+    pub flags: AccessFlags,
+    pub pool: Pool,
+    /// The methods of the class file, in its order.
+    pub methods: Items<MethodId>,
+    /// The fields of the class file, in its order.
+    pub fields: Items<FieldId>,
+    /// The class's `<clinit>`, or a method whose code is one `return` where it has none.
+    pub initialiser: MethodId,
+    /// Whether the class file has a `<clinit>`.
+    pub own_initialiser: bool,
+}
+
+/// A method of a program.
+#[derive(Debug, Drop)]
+pub struct LinkedMethod {
+    pub class: ClassId,
+    pub name: Name,
+    pub descriptor: Name,
+    /// A `<clinit>` has `STATIC`, and neither `ABSTRACT` nor `NATIVE`.
+    pub flags: AccessFlags,
+    pub code: Option<Code>,
+    /// The number of a native method of a core class, or 0.
+    pub native: u32,
+}
+
+/// A field of a program.
+#[derive(Debug, Drop)]
+pub struct LinkedField {
+    pub class: ClassId,
+    pub name: Name,
+    pub descriptor: Name,
+    /// A field of an interface has `STATIC`.
+    pub flags: AccessFlags,
+    /// The place of an instance field among the cells of an object, or 0 for a static field.
+    pub cell: u32,
+    /// The index of its constant in the class's pool, or 0.
+    pub constant: u16,
+    /// The option whose field it is.
+    pub option: Option<u32>,
+}
