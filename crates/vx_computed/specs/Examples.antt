@@ -1,5 +1,5 @@
 -- How the computed examples are written: classes, options, and what is expected of them.
-use Rattle.std.specs.Prelude.{Err, List, None, Ok, Option, Result, Some, [], codes, false, flat_map, map, true, ℕ, ◌++◌, ◌∷◌}
+use Rattle.std.specs.Prelude.{Err, List, None, Ok, Option, Result, Some, [], codes, false, flat_map, map, suc, true, zero, ℕ, ◌++◌, ◌∷◌}
 use Prim.Native.String.{String}
 use Rattle.vx_java.specs.Initialisation.{max_locals}
 use Rattle.vx_java.specs.Lockstep.{Piece, Shared}
@@ -43,6 +43,12 @@ where_on = (true ∷ []) ∷ []
 
 abbrev pub both : List Config
 both = (false ∷ []) ∷ (true ∷ []) ∷ []
+
+-- all configurations of so many options
+abbrev pub all_configurations : ℕ → List Config
+all_configurations zero = [] ∷ []
+all_configurations (suc n) =
+    let fewer = all_configurations n in map (λ c. false ∷ c) fewer ++ map (λ c. true ∷ c) fewer
 
 -- ---- reports
 

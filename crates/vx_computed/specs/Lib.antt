@@ -7,4 +7,6 @@ pub mod Initialisers
 pub mod Exceptions
 pub mod Programs
 pub mod Links
+pub mod Shop
+pub mod Many
 pub mod Values

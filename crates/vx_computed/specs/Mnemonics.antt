@@ -1,6 +1,5 @@
 -- The instructions of the computed examples (JVMS 7): a jump by its distance, a pool entry by its place among the references of the class.
 use Rattle.std.specs.Prelude.{List, [], flat_map, length, replicate, ℕ, ◌%◌, ◌++◌, ◌+◌, ◌-◌, ◌/◌, ◌∷◌}
-use Rattle.vx_java.specs.Operation.{local}
 use Rattle.vx_link.specs.Written.{Item, jump, naming, plain, two_bytes}
 
 abbrev pub four_bytes : ℕ → List ℕ
@@ -46,20 +45,38 @@ bipush n = plain 0x10 (n ∷ [])
 abbrev pub sipush : ℕ → Item
 sipush n = plain 0x11 (two_bytes n)
 
+abbrev pub iload : ℕ → Item
+iload local = plain 0x15 (local ∷ [])
+
+abbrev pub aload : ℕ → Item
+aload local = plain 0x19 (local ∷ [])
+
 abbrev pub iload_0 : Item
 iload_0 = plain 0x1a []
 
 abbrev pub iload_1 : Item
 iload_1 = plain 0x1b []
 
+abbrev pub iload_2 : Item
+iload_2 = plain 0x1c []
+
 abbrev pub lload_1 : Item
 lload_1 = plain 0x1f []
+
+abbrev pub aload_3 : Item
+aload_3 = plain 0x2d []
 
 abbrev pub iaload : Item
 iaload = plain 0x2e []
 
 abbrev pub aaload : Item
 aaload = plain 0x32 []
+
+abbrev pub istore : ℕ → Item
+istore local = plain 0x36 (local ∷ [])
+
+abbrev pub astore : ℕ → Item
+astore local = plain 0x3a (local ∷ [])
 
 abbrev pub istore_1 : Item
 istore_1 = plain 0x3c []
@@ -69,6 +86,9 @@ istore_2 = plain 0x3d []
 
 abbrev pub lstore_1 : Item
 lstore_1 = plain 0x40 []
+
+abbrev pub astore_3 : Item
+astore_3 = plain 0x4e []
 
 abbrev pub iastore : Item
 iastore = plain 0x4f []
@@ -82,8 +102,14 @@ pop = plain 0x57 []
 abbrev pub pop2 : Item
 pop2 = plain 0x58 []
 
+abbrev pub dup_x1 : Item
+dup_x1 = plain 0x5a []
+
 abbrev pub swap : Item
 swap = plain 0x5f []
+
+abbrev pub iadd : Item
+iadd = plain 0x60 []
 
 abbrev pub isub : Item
 isub = plain 0x64 []
@@ -96,6 +122,9 @@ lmul = plain 0x69 []
 
 abbrev pub idiv : Item
 idiv = plain 0x6c []
+
+abbrev pub iand : Item
+iand = plain 0x7e []
 
 abbrev pub iinc : (local by : ℕ) → Item
 iinc local by = plain 0x84 (local ∷ by ∷ [])
@@ -115,6 +144,12 @@ if_icmpne = jump 0xa0
 abbrev pub if_icmplt : ℕ → Item
 if_icmplt = jump 0xa1
 
+abbrev pub if_icmpge : ℕ → Item
+if_icmpge = jump 0xa2
+
+abbrev pub if_icmple : ℕ → Item
+if_icmple = jump 0xa4
+
 abbrev pub if_acmpeq : ℕ → Item
 if_acmpeq = jump 0xa5
 
@@ -130,6 +165,13 @@ tableswitch padding fallback low jumps =
     (replicate padding 0
     ++ (four_bytes fallback ++ (four_bytes low ++ (four_bytes (low + length jumps - 1) ++ flat_map four_bytes jumps))))
 
+abbrev pub lookupswitch : (padding fallback : ℕ) → (pairs : List (ℕ × ℕ)) → Item
+lookupswitch padding fallback pairs =
+    plain 0xab
+    (replicate padding 0
+    ++ (four_bytes fallback
+    ++ (four_bytes (length pairs) ++ flat_map (λ pair. four_bytes pair.0 ++ four_bytes pair.1) pairs)))
+
 abbrev pub getstatic : ℕ → Item
 getstatic reference = naming 0xb2 reference []
 
@@ -138,6 +180,9 @@ putstatic reference = naming 0xb3 reference []
 
 abbrev pub getfield : ℕ → Item
 getfield reference = naming 0xb4 reference []
+
+abbrev pub putfield : ℕ → Item
+putfield reference = naming 0xb5 reference []
 
 abbrev pub invokeinterface : (reference slots : ℕ) → Item
 invokeinterface reference slots = naming 0xb9 reference (slots ∷ 0 ∷ [])
