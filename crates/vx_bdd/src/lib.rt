@@ -6,5 +6,7 @@ mod marks;
 mod node;
 pub mod space;
 mod table;
+#[cfg(test)]
+mod tests;
 
 pub use space::BddSpace;

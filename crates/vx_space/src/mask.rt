@@ -1,9 +1,10 @@
 //! Sets of configurations of at most six options, as bits of one number. No call allocates or fails.
 
-ghost use Rattle.std.specs.Prelude.{◌≡◌, ◌≢◌, ℕ, ◌+◌, ◌^◌, ◌<◌, ◌≤◌, Bool, true, false, if◌then◌else◌, nat_eq, ◌-◌, ◌⊎◌, ◌↔◌, IsNone, IfSome};
+ghost use Rattle.std.specs.Prelude.{◌≡◌, ◌≢◌, ℕ, ◌+◌, ◌^◌, ◌<◌, ◌≤◌, Bool, true, false, if◌then◌else◌, nat_eq, ◌-◌, ◌⊎◌, ◌↔◌, IsNone, IfSome, IsOk, IfOk, OnOk, List, ◌&&◌, ◌||◌, not};
 ghost use Rattle.std.specs.Int.{bit_at};
 ghost use Rattle.std.proofs.lemmas.Map.Views.{exact_unsigned_eq};
-ghost use Rattle.vx_space.specs.Sets.{Sets, IsKnown, IsTop};
+ghost use Rattle.vx_space.specs.Config.{value_of};
+ghost use Rattle.vx_space.specs.Sets.{Sets, IsKnown, IsTop, IsSet, Extends, IsCompacted, AreKnown};
 ghost use Rattle.vx_space.specs.Mask.{masks, number_of, with_bit, HasBits};
 ghost use Rattle.vx_space.specs.MaskLaws.{lawful_masks};
 
@@ -52,19 +53,42 @@ impl Space for MaskSpace {
         all_below(self.options)
     }
 
-    fn option(&mut self, i: u32) -> Result<u64, SpaceFault> {
+    fn option(&mut self, i: u32) -> Result<u64, SpaceFault>
+        requires { i < (masks self.old.options).options }
+        ensures never_fails { IsOk result }
+        ensures ok { IfOk result (λ r. IsSet (masks self.new.options) r (λ c. value_of c i)) }
+        ensures extends { Extends (masks self.old.options) (masks self.new.options) }
+    {
         Ok(option_mask(self.options, i))
     }
 
-    fn and(&mut self, a: u64, b: u64) -> Result<u64, SpaceFault> {
+    fn and(&mut self, a: u64, b: u64) -> Result<u64, SpaceFault>
+        requires first { IsKnown (masks self.old.options) a }
+        requires second { IsKnown (masks self.old.options) b }
+        ensures never_fails { IsOk result }
+        ensures ok { IfOk result (λ r. IsSet (masks self.new.options) r (λ c. (masks self.old.options).test a c && (masks self.old.options).test b c)) }
+        ensures extends { Extends (masks self.old.options) (masks self.new.options) }
+    {
         Ok(a & b)
     }
 
-    fn or(&mut self, a: u64, b: u64) -> Result<u64, SpaceFault> {
+    fn or(&mut self, a: u64, b: u64) -> Result<u64, SpaceFault>
+        requires first { IsKnown (masks self.old.options) a }
+        requires second { IsKnown (masks self.old.options) b }
+        ensures never_fails { IsOk result }
+        ensures ok { IfOk result (λ r. IsSet (masks self.new.options) r (λ c. (masks self.old.options).test a c || (masks self.old.options).test b c)) }
+        ensures extends { Extends (masks self.old.options) (masks self.new.options) }
+    {
         Ok(a | b)
     }
 
-    fn minus(&mut self, a: u64, b: u64) -> Result<u64, SpaceFault> {
+    fn minus(&mut self, a: u64, b: u64) -> Result<u64, SpaceFault>
+        requires first { IsKnown (masks self.old.options) a }
+        requires second { IsKnown (masks self.old.options) b }
+        ensures never_fails { IsOk result }
+        ensures ok { IfOk result (λ r. IsSet (masks self.new.options) r (λ c. (masks self.old.options).test a c && not ((masks self.old.options).test b c))) }
+        ensures extends { Extends (masks self.old.options) (masks self.new.options) }
+    {
         Ok(a & !b)
     }
 
@@ -88,7 +112,12 @@ impl Space for MaskSpace {
         2
     }
 
-    fn compact(&mut self, _roots: &[u64]) -> Result<(), AllocError> {
+    fn compact(&mut self, _roots: &[u64]) -> Result<(), AllocError>
+        requires { AreKnown (masks self.old.options) _roots.now }
+        ensures never_fails { IsOk result }
+        ensures ok { OnOk result (IsCompacted (masks self.old.options) (masks self.new.options) _roots.now) }
+        ensures unchanged { self.new ≡ self.old }
+    {
         Ok(())
     }
 }

@@ -3,6 +3,7 @@
 ghost use Rattle.std.specs.Prelude.{◌≡◌, ◌≢◌, ℕ, ◌<◌, Bool, true, false, List, IfOk, OnOk, OnErr, IfSome, IsNone, ◌&&◌, ◌||◌, not, IsTrue, ◌↔◌, ◌⊎◌, map, All};
 ghost use Rattle.vx_space.specs.Config.{value_of};
 ghost use Rattle.vx_space.specs.Sets.{Sets, IsKnown, IsSet, IsLawful, Extends, IsTop, IsCompacted, IsJustUnder, AreKnown};
+ghost use Rattle.vx_space.specs.Under.{IsNumberUnder};
 
 use crate::config::Config;
 use std::alloc::{AllocError, AllocFailed};
@@ -108,6 +109,7 @@ pub trait Space {
         requires { AreKnown (sets self.old) roots.now }
         ensures ok { OnOk result (IsCompacted (sets self.old) (sets self.new) roots.now) }
         ensures counted { OnOk result ((sets self.new).counts ≡ true → IsJustUnder (sets self.new) (map (sets self.old).test roots.now)) }
+        ensures based { OnOk result ((sets self.new).counts ≡ true → IsNumberUnder (map (sets self.old).test roots.now) (sets self.new).base) }
         ensures err { OnErr result (sets self.new ≡ sets self.old) };
 
     /// The laws of every space: never and always, equal sets, options alone matter, the count.

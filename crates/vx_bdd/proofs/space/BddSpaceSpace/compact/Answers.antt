@@ -1,3 +1,7 @@
+use Rattle.std.proofs.Common.{subst, sym}
+use Rattle.vx_space.specs.Under.{IsNumberUnder}
+use Rattle.vx_space.proofs.Counts.{IsNumberUnder-count}
+use Rattle.vx_bdd.specs.Lawful.{lawful_sets}
 use Rattle.vx_bdd.specs.Marks.{has_mark}
 use Rattle.vx_bdd.proofs.CompactLaws.{KeepsMarked, IsCompacted-swept, IsJustUnder-swept}
 use Rattle.vx_bdd.proofs.space.BddSpaceSpace.compact.Goals as goal
@@ -13,3 +17,6 @@ returns-clause-counted c = λ _.
     let old = c.args.self.now in
     let kept : KeepsMarked (has_mark c.in_ok-marks.marks) old.table.nodes.slots c.keep.new.self.nodes.slots = record { slots = c.keep.ensures.kept } in
     rw c.keep.ensures.options (IsJustUnder-swept old.table.options c.count-self.result _ _ _ c.args.roots.now old.table.few old.table.reduced c.in_ok-marks.ensures kept)
+
+pub returns-clause-based : goal.returns-clause-based
+returns-clause-based c = λ e. subst (IsNumberUnder _) (sym c.count-self.ensures) (IsNumberUnder-count (lawful_sets c.keep.new.self.options c.keep.new.self.nodes.slots c.count-self.result c.keep.new.self.few c.keep.new.self.reduced) _ e (returns-clause-counted c e))
