@@ -1,11 +1,11 @@
 -- How the computed examples are written: classes, options, and what is expected of them.
-use Rattle.std.specs.Prelude.{Err, List, None, Ok, Option, Result, Some, [], codes, false, flat_map, map, suc, true, zero, ℕ, ◌++◌, ◌∷◌}
+use Rattle.std.specs.Prelude.{Err, List, None, Ok, Option, Result, Some, [], codes, false, flat_map, map, position, suc, true, zero, ℕ, ◌++◌, ◌∷◌}
 use Prim.Native.String.{String}
 use Rattle.vx_java.specs.Initialisation.{max_locals}
 use Rattle.vx_java.specs.Lockstep.{Piece, Shared}
 use Rattle.vx_java.specs.Report.{LockReport, lock_report}
 use Rattle.vx_java.specs.Returns.{max_stack}
-use Rattle.vx_java.specs.Step.{Config, run}
+use Rattle.vx_java.specs.Step.{Config, run, start, steps, trace}
 use Rattle.vx_link.specs.Faults.{OptionPlace}
 use Rattle.vx_link.specs.Linked.{linked}
 use Rattle.vx_link.specs.Written.{Item, WrittenCatch, WrittenClass, WrittenMethod, body, class_file}
@@ -92,6 +92,14 @@ outcome classes n = outcome_if (linked_example classes []) n
 -- lines on out, and an end
 abbrev pub comes_to : List String → End → Outcome
 comes_to lines end = (map (λ b. (Out, b)) (flat_map line lines), end)
+
+abbrev pub frames_if : Result Program LinkFault → (limit : ℕ) → List (ℕ × ℕ)
+frames_if (Ok p) n = map (λ f. (f.method, f.position)) (trace (steps p n (start p [])))
+frames_if (Err fault) n = []
+
+-- the frames of the last state of such a run, the top one first, by method number and position
+abbrev pub last_frames : List WrittenClass → (limit : ℕ) → List (ℕ × ℕ)
+last_frames classes n = frames_if (linked_example classes []) n
 
 -- ---- link faults
 

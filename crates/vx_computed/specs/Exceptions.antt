@@ -1,9 +1,9 @@
 -- Exceptions, handlers and exits.
 use Rattle.std.specs.Prelude.{List, None, Some, [], codes, false, pos, true, ◌∷◌, ◌≡◌}
-use Rattle.vx_computed.specs.Examples.{both, coded, comes_to, ended, line, option, outcome, piece, report, where_off, where_on}
-use Rattle.vx_computed.specs.Mnemonics.{athrow, getstatic, iaload, iconst_0, iconst_1, iconst_2, iconst_3, iconst_m1, idiv, ifne, imul, newarray, pop}
+use Rattle.vx_computed.specs.Examples.{both, coded, comes_to, ended, last_frames, line, option, outcome, piece, report, where_off, where_on}
+use Rattle.vx_computed.specs.Mnemonics.{athrow, getstatic, iaload, iconst_0, iconst_1, iconst_2, iconst_3, iconst_m1, idiv, ifne, iload_0, imul, newarray, pop}
 use Rattle.vx_java.specs.Step.{Config}
-use Rattle.vx_link.specs.CoreTable.{aconst_null, aload_1, astore_1, dup, ifeq, invokespecial, invokestatic, invokevirtual, new, return}
+use Rattle.vx_link.specs.CoreTable.{aconst_null, aload_1, astore_1, dup, ifeq, invokespecial, invokestatic, invokevirtual, ireturn, new, return}
 use Rattle.vx_link.specs.Written.{WrittenClass, a_class, a_field, a_method, a_text, ldc}
 use Rattle.vx_value.specs.declared.end.End.TheVariants.{Exit, Return, Uncaught}
 use Rattle.vx_value.specs.declared.end.Stream.TheVariants.{Out}
@@ -144,3 +144,35 @@ cause_as_message_main =
 abbrev pub CauseAsMessage : Type 0
 CauseAsMessage =
     outcome (cause_as_message_main ∷ []) 1000 ≡ comes_to ("java.lang.Error: deep" ∷ []) Return
+
+abbrev pub deep_exception_main : WrittenClass
+deep_exception_main =
+    record {
+      major = 51;
+      name = "Main";
+      superclass = Some "java/lang/Object";
+      interfaces = [];
+      flags = 0x0021;
+      fields = [];
+      methods =
+          coded 0x0009 "main" "([Ljava/lang/String;)V" 6 8
+          (iconst_2 ∷ invokestatic 0 ∷ pop ∷ return ∷ [])
+          []
+          ∷ coded 0x0009 "d" "(I)I" 2 1
+          (iload_0 ∷ iconst_0 ∷ idiv ∷ ireturn ∷ [])
+          []
+          ∷ [];
+      references =
+          a_method "Main" "d" "(I)I"
+          ∷ [];
+    }
+
+-- an exception that leaves two frames
+abbrev pub DeepException : Type 0
+DeepException =
+    outcome (deep_exception_main ∷ []) 1000 ≡ comes_to [] (Uncaught (codes "java/lang/ArithmeticException"))
+
+-- its last frames, by method number and position: those before anything was unwound
+abbrev pub ItsTrace : Type 0
+ItsTrace =
+    last_frames (deep_exception_main ∷ []) 1000 ≡ (1, 2) ∷ (0, 1) ∷ []

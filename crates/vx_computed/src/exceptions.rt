@@ -1,6 +1,6 @@
 //! Exceptions, handlers and exits.
 
-ghost use Rattle.vx_computed.specs.Exceptions.{TwoExceptions, ExitAndUncaught, PrintedException, CauseAsMessage};
+ghost use Rattle.vx_computed.specs.Exceptions.{TwoExceptions, ExitAndUncaught, PrintedException, CauseAsMessage, DeepException, ItsTrace};
 
 /// Exceptions, handlers and exits.
 pub fn throwing_runs()
@@ -12,4 +12,8 @@ pub fn throwing_runs()
     ensures printed_exception { PrintedException }
     // A cause, whose text is the message.
     ensures cause_as_message { CauseAsMessage }
+    // An exception that leaves two frames.
+    ensures deep_exception { DeepException }
+    // Its last frames, by method number and position: those before anything was unwound.
+    ensures its_trace { ItsTrace }
 {}

@@ -34,8 +34,8 @@ text_equal [] [] h = refl
 text_equal [] (y ∷ ys) h = cc
 text_equal (x ∷ xs) [] h = cc
 text_equal (x ∷ xs) (y ∷ ys) h =
-    let e = nat_equal x y (then_first _ _ h) in
-    let f = text_equal xs ys (then_second _ _ h) in
+    let e : x ≡ y = nat_equal x y (then_first (nat_cmp x y) (slice_cmp nat_cmp xs ys) h) in
+    let f : xs ≡ ys = text_equal xs ys (then_second (nat_cmp x y) (slice_cmp nat_cmp xs ys) h) in
     cc
 
 pub end_equal : (a b : End) → compare_ends a b ≡ Equal → a ≡ b
@@ -43,10 +43,10 @@ end_equal Return Return h = refl
 end_equal (Exit j) (Exit k) h = ap Exit (int_equal j k h)
 end_equal (Uncaught a) (Uncaught b) h = ap Uncaught (text_equal a b h)
 end_equal (Unsupported v a p) (Unsupported w b q) h =
-    let e = nat_equal v w (then_first _ _ h) in
-    let rest = then_second _ _ h in
-    let f = text_equal a b (then_first _ _ rest) in
-    let g = text_equal p q (then_second _ _ rest) in
+    let rest : ordering_then (slice_cmp nat_cmp a b) (slice_cmp nat_cmp p q) ≡ Equal = then_second (nat_cmp v w) (ordering_then (slice_cmp nat_cmp a b) (slice_cmp nat_cmp p q)) h in
+    let e : v ≡ w = nat_equal v w (then_first (nat_cmp v w) (ordering_then (slice_cmp nat_cmp a b) (slice_cmp nat_cmp p q)) h) in
+    let f : a ≡ b = text_equal a b (then_first (slice_cmp nat_cmp a b) (slice_cmp nat_cmp p q) rest) in
+    let g : p ≡ q = text_equal p q (then_second (slice_cmp nat_cmp a b) (slice_cmp nat_cmp p q) rest) in
     cc
 end_equal (Illegal p) (Illegal q) h = ap Illegal (text_equal p q h)
 end_equal Unfinished Unfinished h = refl

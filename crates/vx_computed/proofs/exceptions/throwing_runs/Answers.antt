@@ -23,3 +23,11 @@ returns-clause-printed_exception c = refl
 pub returns-clause-cause_as_message : goal.returns-clause-cause_as_message
 unfolding utf16_chars encode_utf8 digits is_class_name element_at type_at types_at result_at method_of field_of u2 u4 s1 s2 s4 table_at lookup_at wide_at shaped_at instruction_at
 returns-clause-cause_as_message c = refl
+
+pub returns-clause-deep_exception : goal.returns-clause-deep_exception
+unfolding utf16_chars encode_utf8 digits is_class_name element_at type_at types_at result_at method_of field_of u2 u4 s1 s2 s4 table_at lookup_at wide_at shaped_at instruction_at
+returns-clause-deep_exception c = refl
+
+pub returns-clause-its_trace : goal.returns-clause-its_trace
+unfolding utf16_chars encode_utf8 digits is_class_name element_at type_at types_at result_at method_of field_of u2 u4 s1 s2 s4 table_at lookup_at wide_at shaped_at instruction_at
+returns-clause-its_trace c = refl
