@@ -1,5 +1,5 @@
 -- How the computed examples are written: classes, options, and what is expected of them.
-use Rattle.std.specs.Prelude.{Err, List, None, Ok, Option, Result, Some, [], codes, false, flat_map, map, position, suc, true, zero, ℕ, ◌++◌, ◌∷◌}
+use Rattle.std.specs.Prelude.{Err, List, None, Ok, Option, Result, Some, [], codes, false, flat_map, map, suc, true, zero, ℕ, ◌++◌, ◌∷◌}
 use Prim.Native.String.{String}
 use Rattle.vx_java.specs.Initialisation.{max_locals}
 use Rattle.vx_java.specs.Lockstep.{Piece, Shared}
@@ -7,7 +7,7 @@ use Rattle.vx_java.specs.Report.{LockReport, lock_report}
 use Rattle.vx_java.specs.Returns.{max_stack}
 use Rattle.vx_java.specs.Step.{Config, run, start, steps, trace}
 use Rattle.vx_link.specs.Faults.{OptionPlace}
-use Rattle.vx_link.specs.Linked.{linked}
+use Rattle.vx_link.specs.Linked.{linked_program}
 use Rattle.vx_link.specs.Written.{Item, WrittenCatch, WrittenClass, WrittenMethod, body, class_file}
 use Rattle.vx_link.specs.declared.fault.LinkFault.{LinkFault}
 use Rattle.vx_link.specs.declared.program.Program.{Program}
@@ -26,7 +26,7 @@ abbrev pub option : String → OptionPlace
 option name = record { name = codes name; place = Some (codes "Main", codes name) }
 
 abbrev pub linked_example : List WrittenClass → List OptionPlace → Result Program LinkFault
-linked_example classes options = linked (map class_file classes) options (codes "Main")
+linked_example classes options = linked_program (map class_file classes) options (codes "Main")
 
 -- ---- configurations
 

@@ -4,9 +4,9 @@ use Rattle.vx_java.specs.FirstObjects.{units_of}
 use Rattle.vx_java.specs.Library.{signed_value}
 use Rattle.vx_java.specs.Machine.{Int, Long, Null, Value}
 use Rattle.vx_java.specs.Operation.{operation_of}
-use Rattle.vx_java.specs.StackForms.{lower, shuffled, upper, words}
+use Rattle.vx_java.specs.StackForms.{lower, values_reordered, upper, words}
 use Rattle.vx_java.specs.Step.{utf8_of}
-use Rattle.vx_java.specs.Texts.{compared, hash_of, place_of, reversed_onto}
+use Rattle.vx_java.specs.Texts.{text_difference, hash_of, place_of, reversed_onto}
 use Rattle.vx_java.specs.declared.operation.Operation.{Operation}
 use Rattle.vx_java.specs.declared.operation.Operation.TheVariants.{Goto, Increase, Load, NewPrimitives, Refuse, SwitchTable}
 use Rattle.vx_java.specs.declared.operation.Shuffle.{Shuffle}
@@ -42,7 +42,7 @@ PlainOperations =
 -- a stack form on operands, the one on top first; none where it cannot be
 abbrev pub both_taken : Shuffle → List Value → Option (List Value × List Value) → Option (List Value)
 both_taken form upper_values None = None
-both_taken form upper_values (Some (lower_values, rest)) = Some (shuffled form upper_values lower_values rest)
+both_taken form upper_values (Some (lower_values, rest)) = Some (values_reordered form upper_values lower_values rest)
 
 abbrev pub one_taken : Shuffle → Option (List Value × List Value) → Option (List Value)
 one_taken form None = None
@@ -90,8 +90,8 @@ TextValues =
     (hash_of (codes "ab") ≡ pos 3105)
     × (units_of (0xc0 ∷ 0x80 ∷ 0x41 ∷ 0xe2 ∷ 0x82 ∷ 0xac ∷ []) ≡ 0 ∷ 0x41 ∷ 0x20ac ∷ [])
     × (reversed_onto [] (0x61 ∷ 0xd83d ∷ 0xde00 ∷ 0x62 ∷ []) ≡ 0x62 ∷ 0xd83d ∷ 0xde00 ∷ 0x61 ∷ [])
-    × (compared (codes "abc") (codes "abd") ≡ negsuc 0)
-    × (compared (codes "ab") (codes "abcd") ≡ negsuc 1)
+    × (text_difference (codes "abc") (codes "abd") ≡ negsuc 0)
+    × (text_difference (codes "ab") (codes "abcd") ≡ negsuc 1)
     × (place_of 0 (codes "lo") (codes "hello") ≡ pos 3)
     × (place_of 0 [] (codes "x") ≡ pos 0)
     × (signed_value (codes "-12") ≡ Some (negsuc 11))

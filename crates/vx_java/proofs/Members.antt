@@ -11,8 +11,8 @@ use Rattle.vx_value.specs.declared.key.KeyPart.{KeyPart}
 use Rattle.vx_link.specs.declared.program.Program.{Program}
 use Rattle.vx_java.specs.Machine.{Outcome, Go, Raise, Throw, Begin, Native, Write, Ended, Next, Goes, Ends}
 use Rattle.vx_java.specs.Row.{row}
-use Rattle.vx_java.specs.Step.{Config, same_config, Progress, Run, Live, Over, carried, next, text_of, advanced, utf8_of, step, steps}
-use Rattle.vx_java.specs.Lockstep.{ConfigRun, Piece, output_of, piece_of, appended, all_appended, key_at, stepped, stepped_run, if_live, if_key}
+use Rattle.vx_java.specs.Step.{Config, same_config, Progress, Run, Live, Over, outcome_carried_out, next, text_of, run_after, utf8_of, step, steps}
+use Rattle.vx_java.specs.Lockstep.{ConfigRun, Piece, output_of, piece_of, pieces_appended, all_pieces_appended, key_at, member_after_round, run_after_round, if_live, if_key}
 use Rattle.vx_java.specs.Report.{bytes_of}
 use Rattle.vx_value.specs.Key.{key_cmp}
 use Rattle.vx_java.proofs.Grouping.{values_at}
@@ -46,12 +46,12 @@ text_is_on (Begin class s) = record { stream = Out; bytes = []; is = refl }
 text_is_on (Native m s) = record { stream = Out; bytes = []; is = refl }
 text_is_on (Ended e) = record { stream = Out; bytes = []; is = refl }
 
-advanced_by : (g : Progress) (text : List (Stream × ℕ)) (n : Next) → IsOn text → Advances (Live g) (advanced g text n)
+advanced_by : (g : Progress) (text : List (Stream × ℕ)) (n : Next) → IsOn text → Advances (Live g) (run_after g text n)
 advanced_by g text (Goes s) t = record { stream = t.stream; bytes = t.bytes; output = ap (λ x. g.output ++ x) t.is; attempts = refl }
 advanced_by g text (Ends e) t = record { stream = t.stream; bytes = t.bytes; output = ap (λ x. g.output ++ x) t.is; attempts = refl }
 
 pub step_advances : (p : Program) (g : Progress) → Advances (Live g) (step p g)
-step_advances p g = let o = carried p (row p g.state) in advanced_by g (text_of o) (next p o) (text_is_on o)
+step_advances p g = let o = outcome_carried_out p (row p g.state) in advanced_by g (text_of o) (next p o) (text_is_on o)
 
 -- ---- the runs of a configuration
 
@@ -59,12 +59,12 @@ abbrev pub runs_at : Config → List ConfigRun → List Run
 runs_at c [] = []
 runs_at c (m ∷ ms) = cond (same_config c m.config) (m.run ∷ runs_at c ms) (runs_at c ms)
 
-pub runs_at-stepped : (p : Program) (n : ℕ) (key : List KeyPart) (c : Config) (ms : List ConfigRun) → runs_at c (map (stepped p n key) ms) ≡ map (stepped_run p n key) (runs_at c ms)
+pub runs_at-stepped : (p : Program) (n : ℕ) (key : List KeyPart) (c : Config) (ms : List ConfigRun) → runs_at c (map (member_after_round p n key) ms) ≡ map (run_after_round p n key) (runs_at c ms)
 runs_at-stepped p n key c [] = refl
 runs_at-stepped p n key c (m ∷ ms) = by (same_config c m.config) (runs_at-stepped p n key c ms)
   where
-    by : (b : Bool) → runs_at c (map (stepped p n key) ms) ≡ map (stepped_run p n key) (runs_at c ms) → cond b (stepped_run p n key m.run ∷ runs_at c (map (stepped p n key) ms)) (runs_at c (map (stepped p n key) ms)) ≡ map (stepped_run p n key) (cond b (m.run ∷ runs_at c ms) (runs_at c ms))
-    by true e = ap (λ rs. stepped_run p n key m.run ∷ rs) e
+    by : (b : Bool) → runs_at c (map (member_after_round p n key) ms) ≡ map (run_after_round p n key) (runs_at c ms) → cond b (run_after_round p n key m.run ∷ runs_at c (map (member_after_round p n key) ms)) (runs_at c (map (member_after_round p n key) ms)) ≡ map (run_after_round p n key) (cond b (m.run ∷ runs_at c ms) (runs_at c ms))
+    by true e = ap (λ rs. run_after_round p n key m.run ∷ rs) e
     by false e = e
 
 -- ---- what a configuration appends in a round
@@ -92,15 +92,15 @@ values_at-append c ((a, d) ∷ xs) ys = by (same_config c d) (values_at-append c
     by true e = ap (λ zs. a ∷ zs) e
     by false e = e
 
-pub appended_at : (p : Program) (n : ℕ) (key : List KeyPart) (c : Config) (ms : List ConfigRun) → values_at c (all_appended ms (map (stepped p n key) ms)) ≡ flat_map (λ r. added r (stepped_run p n key r)) (runs_at c ms)
+pub appended_at : (p : Program) (n : ℕ) (key : List KeyPart) (c : Config) (ms : List ConfigRun) → values_at c (all_pieces_appended ms (map (member_after_round p n key) ms)) ≡ flat_map (λ r. added r (run_after_round p n key r)) (runs_at c ms)
 appended_at p n key c [] = refl
 appended_at p n key c (m ∷ ms) =
-    values_at-append c (appended m (stepped p n key m)) (all_appended ms (map (stepped p n key) ms))
-    ∙ ap (λ xs. xs ++ values_at c (all_appended ms (map (stepped p n key) ms))) (values_of c m.config (added m.run (stepped_run p n key m.run)))
+    values_at-append c (pieces_appended m (member_after_round p n key m)) (all_pieces_appended ms (map (member_after_round p n key) ms))
+    ∙ ap (λ xs. xs ++ values_at c (all_pieces_appended ms (map (member_after_round p n key) ms))) (values_of c m.config (added m.run (run_after_round p n key m.run)))
     ∙ by (same_config c m.config) (appended_at p n key c ms)
   where
-    by : (b : Bool) → values_at c (all_appended ms (map (stepped p n key) ms)) ≡ flat_map (λ r. added r (stepped_run p n key r)) (runs_at c ms) → cond b (added m.run (stepped_run p n key m.run)) [] ++ values_at c (all_appended ms (map (stepped p n key) ms)) ≡ flat_map (λ r. added r (stepped_run p n key r)) (cond b (m.run ∷ runs_at c ms) (runs_at c ms))
-    by true e = ap (λ ys. added m.run (stepped_run p n key m.run) ++ ys) e
+    by : (b : Bool) → values_at c (all_pieces_appended ms (map (member_after_round p n key) ms)) ≡ flat_map (λ r. added r (run_after_round p n key r)) (runs_at c ms) → cond b (added m.run (run_after_round p n key m.run)) [] ++ values_at c (all_pieces_appended ms (map (member_after_round p n key) ms)) ≡ flat_map (λ r. added r (run_after_round p n key r)) (cond b (m.run ∷ runs_at c ms) (runs_at c ms))
+    by true e = ap (λ ys. added m.run (run_after_round p n key m.run) ++ ys) e
     by false e = e
 
 -- ---- the text of one stream is one piece
@@ -124,7 +124,7 @@ pub data Moves (p : Program) (n : ℕ) : Run → Run → Type 0 where
   stays : {r : Run} → Moves p n r r
   steps_on : {g : Progress} → g.attempts < n → Moves p n (Live g) (step p g)
 
-pub stepped_moves : (p : Program) (n : ℕ) (key : List KeyPart) (r : Run) → Moves p n r (stepped_run p n key r)
+pub stepped_moves : (p : Program) (n : ℕ) (key : List KeyPart) (r : Run) → Moves p n r (run_after_round p n key r)
 stepped_moves p n key (Over e g) = stays
 stepped_moves p n key (Live g) = by_limit (nat_lt g.attempts n) refl
   where

@@ -13,8 +13,8 @@ use Rattle.vx_java.specs.Step.{Config, same_config, Progress, Run, Live, Over, r
 use Rattle.vx_java.specs.Machine.{State, depth, frame_bound, current_class}
 use Rattle.vx_java.specs.Initialisation.{quiet_chain, init_chain, chain_blocked}
 use Rattle.vx_value.specs.Ends.{compare_ends}
-use Rattle.vx_java.specs.Lockstep.{Shared, ConfigRun, Piece, Lockstep, grouped, live, key_at, stepped, stepped_run, first_key, lesser_key, output_of, piece_of, all_appended, compare_pieces, round, rounds_from, if_first, started, begun, lockstep}
-use Rattle.vx_java.specs.Report.{held, bytes_of, first_of, attempts_in, attempts_said, said, report_of, lock_report, projected}
+use Rattle.vx_java.specs.Lockstep.{Shared, ConfigRun, Piece, Lockstep, groups_of, live_progress, key_at, member_after_round, run_after_round, first_key, lesser_key, output_of, piece_of, all_pieces_appended, compare_pieces, round, rounds_from, if_first, member_at_start, begun, lockstep}
+use Rattle.vx_java.specs.Report.{values_held, bytes_of, first_of, attempts_in, attempts_shown, projection_of, report_of, lock_report, projection_at}
 use Rattle.vx_java.proofs.Grouping.{values_at, grouped_other, grouped_own}
 use Rattle.vx_java.proofs.Orders.{nat_equal, end_equal, piece_equal}
 use Rattle.vx_java.proofs.Members.{attempts_of, step_advances, runs_at, runs_at-stepped, added, appended_at, added_bytes, Moves, stays, steps_on, stepped_moves, rest_stays, left, total}
@@ -22,15 +22,15 @@ use Rattle.vx_java.proofs.Rounds.{total_falls}
 
 -- ---- one round
 
-held-append : {A : Type 0} (c : Config) (gs hs : List (Shared A)) → held c (gs ++ hs) ≡ held c gs ++ held c hs
+held-append : {A : Type 0} (c : Config) (gs hs : List (Shared A)) → values_held c (gs ++ hs) ≡ values_held c gs ++ values_held c hs
 held-append c [] hs = refl
 held-append c (g ∷ gs) hs = by (list_any (same_config c) g.configs) (held-append c gs hs)
   where
-    by : (b : Bool) → held c (gs ++ hs) ≡ held c gs ++ held c hs → cond b (g.value ∷ held c (gs ++ hs)) (held c (gs ++ hs)) ≡ cond b (g.value ∷ held c gs) (held c gs) ++ held c hs
+    by : (b : Bool) → values_held c (gs ++ hs) ≡ values_held c gs ++ values_held c hs → cond b (g.value ∷ values_held c (gs ++ hs)) (values_held c (gs ++ hs)) ≡ cond b (g.value ∷ values_held c gs) (values_held c gs) ++ values_held c hs
     by true e = ap (λ v. g.value ∷ v) e
     by false e = e
 
-piece_held : (c : Config) (xs : List (Piece × Config)) (text : List (Stream × ℕ)) → values_at c xs ≡ piece_of text → held c (grouped compare_pieces xs []) ≡ piece_of text
+piece_held : (c : Config) (xs : List (Piece × Config)) (text : List (Stream × ℕ)) → values_at c xs ≡ piece_of text → values_held c (groups_of compare_pieces xs []) ≡ piece_of text
 piece_held c xs [] e = grouped_other compare_pieces piece_equal c xs [] e
 piece_held c xs ((stream, b) ∷ text) e = grouped_own compare_pieces piece_equal c xs [] _ e refl
 
@@ -41,22 +41,22 @@ moved_output p n (steps_on {g = g} h) = let a = step_advances p g in added_bytes
 -- a configuration with its run among the members
 record At (p : Program) (n : ℕ) (c : Config) (l : Lockstep) (r : Run) : Type 0 where
   member : runs_at c l.members ≡ r ∷ []
-  output : flat_map bytes_of (held c l.pieces) ≡ output_of r
+  output : flat_map bytes_of (values_held c l.pieces) ≡ output_of r
   rest : steps p (n - attempts_of r) r ≡ steps p n (start p c)
 
-round_keeps : (p : Program) (n : ℕ) (c : Config) (key : List KeyPart) (l : Lockstep) (r : Run) → At p n c l r → At p n c (round p n key l) (stepped_run p n key r)
+round_keeps : (p : Program) (n : ℕ) (c : Config) (key : List KeyPart) (l : Lockstep) (r : Run) → At p n c l r → At p n c (round p n key l) (run_after_round p n key r)
 round_keeps p n c key l r at =
     let moves = stepped_moves p n key r in
-    let pieces = all_appended l.members (map (stepped p n key) l.members) in
-    let mine : values_at c pieces ≡ added r (stepped_run p n key r) =
-    appended_at p n key c l.members ∙ ap (flat_map (λ s. added s (stepped_run p n key s))) at.member ∙ append-nil _ in
-    let new : held c (grouped compare_pieces pieces []) ≡ added r (stepped_run p n key r) = piece_held c pieces _ mine in
+    let pieces = all_pieces_appended l.members (map (member_after_round p n key) l.members) in
+    let mine : values_at c pieces ≡ added r (run_after_round p n key r) =
+    appended_at p n key c l.members ∙ ap (flat_map (λ s. added s (run_after_round p n key s))) at.member ∙ append-nil _ in
+    let new : values_held c (groups_of compare_pieces pieces []) ≡ added r (run_after_round p n key r) = piece_held c pieces _ mine in
     record {
-      member = runs_at-stepped p n key c l.members ∙ ap (map (stepped_run p n key)) at.member;
+      member = runs_at-stepped p n key c l.members ∙ ap (map (run_after_round p n key)) at.member;
       output =
-          ap (flat_map bytes_of) (held-append c l.pieces (grouped compare_pieces pieces []))
-          ∙ flat_map-append bytes_of (held c l.pieces) (held c (grouped compare_pieces pieces []))
-          ∙ ap (λ x. x ++ flat_map bytes_of (held c (grouped compare_pieces pieces []))) at.output
+          ap (flat_map bytes_of) (held-append c l.pieces (groups_of compare_pieces pieces []))
+          ∙ flat_map-append bytes_of (values_held c l.pieces) (values_held c (groups_of compare_pieces pieces []))
+          ∙ ap (λ x. x ++ flat_map bytes_of (values_held c (groups_of compare_pieces pieces []))) at.output
           ∙ ap (λ x. output_of r ++ flat_map bytes_of x) new
           ∙ moved_output p n moves;
       rest = sym (rest_stays p n moves) ∙ at.rest;
@@ -85,14 +85,14 @@ of_member P c m ms r e here ih = by (same_config c m.config) refl
         subst P same here
     by false s = ih (rw s at e)
 
-none_first : (n : ℕ) (c : Config) (ms : List ConfigRun) (r : Run) → first_key n ms ≡ None → runs_at c ms ≡ r ∷ [] → live n r ≡ None
+none_first : (n : ℕ) (c : Config) (ms : List ConfigRun) (r : Run) → first_key n ms ≡ None → runs_at c ms ≡ r ∷ [] → live_progress n r ≡ None
 none_first n c [] r h e = cc
 none_first n c (m ∷ ms) r h e =
-    let none = both_none (option_map key_at (live n m.run)) (first_key n ms) h in
-    of_member (λ s. live n s ≡ None) c m ms r e (key_none _ none.0) (none_first n c ms r none.1)
+    let none = both_none (option_map key_at (live_progress n m.run)) (first_key n ms) h in
+    of_member (λ s. live_progress n s ≡ None) c m ms r e (key_none _ none.0) (none_first n c ms r none.1)
 
 -- nothing left is not live
-nothing_left : (n : ℕ) (r : Run) → left n r ≤ 0 → live n r ≡ None
+nothing_left : (n : ℕ) (r : Run) → left n r ≤ 0 → live_progress n r ≡ None
 nothing_left n (Over e g) h = refl
 nothing_left n (Live g) h = by (nat_lt g.attempts n) refl
   where
@@ -100,26 +100,26 @@ nothing_left n (Live g) h = by (nat_lt g.attempts n) refl
     by true e = let below : g.attempts < n = ltb-true _ _ e in absurd (omega arith)
     by false e = refl
 
-none_left : (n : ℕ) (c : Config) (ms : List ConfigRun) (r : Run) → total n ms ≤ 0 → runs_at c ms ≡ r ∷ [] → live n r ≡ None
+none_left : (n : ℕ) (c : Config) (ms : List ConfigRun) (r : Run) → total n ms ≤ 0 → runs_at c ms ≡ r ∷ [] → live_progress n r ≡ None
 none_left n c [] r h e = cc
 none_left n c (m ∷ ms) r h e =
-    of_member (λ s. live n s ≡ None) c m ms r e (nothing_left n m.run (omega arith)) (none_left n c ms r (omega arith))
+    of_member (λ s. live_progress n s ≡ None) c m ms r e (nothing_left n m.run (omega arith)) (none_left n c ms r (omega arith))
 
 record Finished (p : Program) (n : ℕ) (c : Config) (l : Lockstep) : Type 0 where
   run : Run
   at : At p n c l run
-  over : live n run ≡ None
+  over : live_progress n run ≡ None
 
 finished : (p : Program) (n : ℕ) (c : Config) (k : ℕ) (l : Lockstep) (r : Run) → At p n c l r → total n l.members ≤ k → Finished p n c (rounds_from p n k l)
 finished p n c zero l r at h = record { run = r; at = at; over = none_left n c l.members r h at.member }
-finished p n c (suc k) l r at h = by (first_key n l.members) refl (λ key. finished p n c k (round p n key l) (stepped_run p n key r) (round_keeps p n c key l r at))
+finished p n c (suc k) l r at h = by (first_key n l.members) refl (λ key. finished p n c k (round p n key l) (run_after_round p n key r) (round_keeps p n c key l r at))
   where
     by : (o : Option (List KeyPart)) → first_key n l.members ≡ o → ((key : List KeyPart) → total n (round p n key l).members ≤ k → Finished p n c (rounds_from p n k (round p n key l))) → Finished p n c (if_first o l (λ key. rounds_from p n k (round p n key l)))
     by None e ih = record { run = r; at = at; over = none_first n c l.members r e at.member }
     by (Some key) e ih = let falls = total_falls p n key l.members e in ih key (omega arith)
 
 -- a run that is not live has come to what the whole run comes to
-over_is_run : (p : Program) (n : ℕ) (r : Run) → live n r ≡ None → steps p (n - attempts_of r) r ≡ r
+over_is_run : (p : Program) (n : ℕ) (r : Run) → live_progress n r ≡ None → steps p (n - attempts_of r) r ≡ r
 over_is_run p n (Over e g) h = by (n - g.attempts)
   where
     by : (k : ℕ) → steps p k (Over e g) ≡ Over e g
@@ -163,15 +163,15 @@ left_le : (n : ℕ) (r : Run) → left n r ≤ n
 left_le n (Live g) = omega arith
 left_le n (Over e g) = omega arith
 
-start_total : (p : Program) (n : ℕ) (allowed : List Config) → total n (map (started p) allowed) ≤ length allowed * n
+start_total : (p : Program) (n : ℕ) (allowed : List Config) → total n (map (member_at_start p) allowed) ≤ length allowed * n
 start_total p n [] = omega arith
 start_total p n (c ∷ cs) = omega (arith, left_le n (start p c), start_total p n cs)
 
-runs_of : (p : Program) (c : Config) (cs : List Config) → runs_at c (map (started p) cs) ≡ map (start p) (filter (same_config c) cs)
+runs_of : (p : Program) (c : Config) (cs : List Config) → runs_at c (map (member_at_start p) cs) ≡ map (start p) (filter (same_config c) cs)
 runs_of p c [] = refl
 runs_of p c (d ∷ ds) = by (same_config c d) (runs_of p c ds)
   where
-    by : (b : Bool) → runs_at c (map (started p) ds) ≡ map (start p) (filter (same_config c) ds) → cond b (start p d ∷ runs_at c (map (started p) ds)) (runs_at c (map (started p) ds)) ≡ map (start p) (cond b (d ∷ filter (same_config c) ds) (filter (same_config c) ds))
+    by : (b : Bool) → runs_at c (map (member_at_start p) ds) ≡ map (start p) (filter (same_config c) ds) → cond b (start p d ∷ runs_at c (map (member_at_start p) ds)) (runs_at c (map (member_at_start p) ds)) ≡ map (start p) (cond b (d ∷ filter (same_config c) ds) (filter (same_config c) ds))
     by true e = ap (λ rs. start p d ∷ rs) e
     by false e = e
 
@@ -203,23 +203,23 @@ result_output (Live g) = refl
 result_output (Over e g) = refl
 
 -- the numbers of attempts that a report says of a configuration whose run is known
-counts_at : (c : Config) (ms : List ConfigRun) (r : Run) (b : Bool) → runs_at c ms ≡ r ∷ [] → first_of (held c (attempts_in b ms)) ≡ attempts_said b (result r).attempts
+counts_at : (c : Config) (ms : List ConfigRun) (r : Run) (b : Bool) → runs_at c ms ≡ r ∷ [] → first_of (values_held c (attempts_in b ms)) ≡ attempts_shown b (result r).attempts
 counts_at c ms r false e = refl
 counts_at c ms r true e =
     ap first_of (grouped_own nat_cmp nat_equal c _ [] _ (values_of_members c (λ s. (result s).attempts) ms ∙ ap (map (λ s. (result s).attempts)) e) refl)
 
 -- the projection of the report of runs that are over is the run
-report_at : (p : Program) (n v : ℕ) (c : Config) (l : Lockstep) → Finished p n c l → projected (report_of n v l) c ≡ Some (said v (run p c n))
+report_at : (p : Program) (n v : ℕ) (c : Config) (l : Lockstep) → Finished p n c l → projection_at (report_of n v l) c ≡ Some (projection_of v (run p c n))
 report_at p n v c l f =
     let r = f.run in
-    let ends : held c (report_of n v l).ends ≡ (result r).end ∷ [] =
+    let ends : values_held c (report_of n v l).ends ≡ (result r).end ∷ [] =
     grouped_own compare_ends end_equal c _ [] _ (values_of_members c (λ s. (result s).end) l.members ∙ ap (map (λ s. (result s).end)) f.at.member) refl in
     let counts = counts_at c l.members r (v == 2) f.at.member in
     let same : r ≡ steps p n (start p c) = sym (over_is_run p n r f.over) ∙ f.at.rest in
-    rw (f.at.output, ends, counts) (rw (result_output r) (ap (λ x. Some (said v (result x))) same))
+    rw (f.at.output, ends, counts) (rw (result_output r) (ap (λ x. Some (projection_of v (result x))) same))
 
 -- the report of lockstep, projected at an allowed configuration, is the run of that configuration
-pub lock_report_projects : (p : Program) (n v : ℕ) (c : Config) (allowed : List Config) → filter (same_config c) allowed ≡ c ∷ [] → projected (lock_report p allowed n v) c ≡ Some (said v (run p c n))
+pub lock_report_projects : (p : Program) (n v : ℕ) (c : Config) (allowed : List Config) → filter (same_config c) allowed ≡ c ∷ [] → projection_at (lock_report p allowed n v) c ≡ Some (projection_of v (run p c n))
 lock_report_projects p n v c allowed h =
     report_at p n v c (lockstep p allowed n)
     (finished p n c (length allowed * n) (begun p allowed) (start p c) (start_at p n c allowed h) (start_total p n allowed))

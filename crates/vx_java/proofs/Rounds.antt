@@ -8,7 +8,7 @@ use Rattle.std.specs.Ordering.{ordering_reverse}
 use Rattle.vx_value.specs.declared.key.KeyPart.{KeyPart}
 use Rattle.vx_link.specs.declared.program.Program.{Program}
 use Rattle.vx_java.specs.Step.{Progress, Run, Live, Over, step}
-use Rattle.vx_java.specs.Lockstep.{ConfigRun, live, key_at, stepped, stepped_run, if_live, if_key, first_key, lesser_key, of_keys}
+use Rattle.vx_java.specs.Lockstep.{ConfigRun, live_progress, key_at, member_after_round, run_after_round, if_live, if_key, first_key, lesser_key, of_keys}
 use Rattle.vx_value.specs.Key.{key_cmp}
 use Rattle.vx_value.specs.KeyLaws.{key_cmp_total}
 use Rattle.vx_java.proofs.Members.{step_advances, stepped_moves, left, left_falls, left_after, total}
@@ -26,7 +26,7 @@ record IsLive (n : ℕ) (r : Run) (g : Progress) : Type 0 where
   run : r ≡ Live g
   below : g.attempts < n
 
-live_is : (n : ℕ) (r : Run) (g : Progress) → live n r ≡ Some g → IsLive n r g
+live_is : (n : ℕ) (r : Run) (g : Progress) → live_progress n r ≡ Some g → IsLive n r g
 live_is n (Over e f) g h = cc
 live_is n (Live f) g h = by (nat_lt f.attempts n) refl
   where
@@ -38,36 +38,36 @@ live_is n (Live f) g h = by (nat_lt f.attempts n) refl
     by false e = let bad = rw e at h in cc
 
 -- a run at the key makes a step
-head_falls : (p : Program) (n : ℕ) (key : List KeyPart) (r : Run) (g : Progress) → live n r ≡ Some g → key_at g ≡ key → left n (stepped_run p n key r) < left n r
+head_falls : (p : Program) (n : ℕ) (key : List KeyPart) (r : Run) (g : Progress) → live_progress n r ≡ Some g → key_at g ≡ key → left n (run_after_round p n key r) < left n r
 head_falls p n key r g e k =
     let is : IsLive n r g = live_is n r g e in
     let fewer : left n (step p g) < left n (Live g) = left_after n g (step p g) (step_advances p g).attempts is.below in
-    let moved : stepped_run p n key r ≡ step p g = ap (if_live p key r) e ∙ ap (λ o. if_key p r g o) (ap (key_cmp (key_at g)) (sym k) ∙ key_self (key_at g)) in
+    let moved : run_after_round p n key r ≡ step p g = ap (if_live p key r) e ∙ ap (λ o. if_key p r g o) (ap (key_cmp (key_at g)) (sym k) ∙ key_self (key_at g)) in
     rw moved (rw is.run fewer)
 
-pub total_stays : (p : Program) (n : ℕ) (key : List KeyPart) (ms : List ConfigRun) → total n (map (stepped p n key) ms) ≤ total n ms
+pub total_stays : (p : Program) (n : ℕ) (key : List KeyPart) (ms : List ConfigRun) → total n (map (member_after_round p n key) ms) ≤ total n ms
 total_stays p n key [] = omega arith
 total_stays p n key (m ∷ ms) = omega (arith, total_stays p n key ms, left_falls p n (stepped_moves p n key m.run))
 
-pub total_falls : (p : Program) (n : ℕ) (key : List KeyPart) (ms : List ConfigRun) → first_key n ms ≡ Some key → total n (map (stepped p n key) ms) < total n ms
+pub total_falls : (p : Program) (n : ℕ) (key : List KeyPart) (ms : List ConfigRun) → first_key n ms ≡ Some key → total n (map (member_after_round p n key) ms) < total n ms
 total_falls p n key [] h = cc
-total_falls p n key (m ∷ ms) h = by_head (live n m.run) refl (total_falls p n key ms)
+total_falls p n key (m ∷ ms) h = by_head (live_progress n m.run) refl (total_falls p n key ms)
   where
-    head_left : left n (stepped_run p n key m.run) ≤ left n m.run
+    head_left : left n (run_after_round p n key m.run) ≤ left n m.run
     head_left = left_falls p n (stepped_moves p n key m.run)
 
-    tail_left : total n (map (stepped p n key) ms) ≤ total n ms
+    tail_left : total n (map (member_after_round p n key) ms) ≤ total n ms
     tail_left = total_stays p n key ms
 
-    by_order : (g : Progress) (b : List KeyPart) (o : Ordering) → live n m.run ≡ Some g → first_key n ms ≡ Some b → of_keys (key_at g) b o ≡ key → (first_key n ms ≡ Some key → total n (map (stepped p n key) ms) < total n ms) → total n (map (stepped p n key) (m ∷ ms)) < total n (m ∷ ms)
+    by_order : (g : Progress) (b : List KeyPart) (o : Ordering) → live_progress n m.run ≡ Some g → first_key n ms ≡ Some b → of_keys (key_at g) b o ≡ key → (first_key n ms ≡ Some key → total n (map (member_after_round p n key) ms) < total n ms) → total n (map (member_after_round p n key) (m ∷ ms)) < total n (m ∷ ms)
     by_order g b Less e t k ih = let fewer = ih (t ∙ ap Some k) in omega (arith, head_left, fewer)
     by_order g b Equal e t k ih = omega (arith, tail_left, head_falls p n key m.run g e k)
     by_order g b Greater e t k ih = omega (arith, tail_left, head_falls p n key m.run g e k)
 
-    by_tail : (g : Progress) → live n m.run ≡ Some g → (o : Option (List KeyPart)) → first_key n ms ≡ o → lesser_key (Some (key_at g)) o ≡ Some key → (first_key n ms ≡ Some key → total n (map (stepped p n key) ms) < total n ms) → total n (map (stepped p n key) (m ∷ ms)) < total n (m ∷ ms)
+    by_tail : (g : Progress) → live_progress n m.run ≡ Some g → (o : Option (List KeyPart)) → first_key n ms ≡ o → lesser_key (Some (key_at g)) o ≡ Some key → (first_key n ms ≡ Some key → total n (map (member_after_round p n key) ms) < total n ms) → total n (map (member_after_round p n key) (m ∷ ms)) < total n (m ∷ ms)
     by_tail g e None t k ih = let same : key_at g ≡ key = cc in omega (arith, tail_left, head_falls p n key m.run g e same)
     by_tail g e (Some b) t k ih = let same : of_keys (key_at g) b (key_cmp b (key_at g)) ≡ key = cc in by_order g b (key_cmp b (key_at g)) e t same ih
 
-    by_head : (o : Option Progress) → live n m.run ≡ o → (first_key n ms ≡ Some key → total n (map (stepped p n key) ms) < total n ms) → total n (map (stepped p n key) (m ∷ ms)) < total n (m ∷ ms)
+    by_head : (o : Option Progress) → live_progress n m.run ≡ o → (first_key n ms ≡ Some key → total n (map (member_after_round p n key) ms) < total n ms) → total n (map (member_after_round p n key) (m ∷ ms)) < total n (m ∷ ms)
     by_head None e ih = let fewer = ih (ap (λ l. lesser_key (option_map key_at l) (first_key n ms)) (sym e) ∙ h) in omega (arith, head_left, fewer)
     by_head (Some g) e ih = by_tail g e (first_key n ms) refl (ap (λ l. lesser_key (option_map key_at l) (first_key n ms)) (sym e) ∙ h) ih

@@ -141,11 +141,11 @@ load_element h e (Int i ∷ a ∷ rest) =
 load_element h e _ = illegal h
 
 -- what a store keeps of an int
-abbrev pub truncated : Element → Value → Value
-truncated Bytes (Int n) = Int (narrow_of Byte n)
-truncated Chars (Int n) = Int (narrow_of Char n)
-truncated Shorts (Int n) = Int (narrow_of Short n)
-truncated _ v = v
+abbrev pub value_kept : Element → Value → Value
+value_kept Bytes (Int n) = Int (narrow_of Byte n)
+value_kept Chars (Int n) = Int (narrow_of Char n)
+value_kept Shorts (Int n) = Int (narrow_of Short n)
+value_kept _ v = v
 
 -- a reference may be stored in an array of references
 abbrev pub may_hold : Here → ℕ → Value → Bool
@@ -162,7 +162,7 @@ store_element h e (v ∷ Int i ∷ a ∷ rest) =
     when (is_of (element_sort e) v && is_object h (is_array_of h.program e) a)
     (non_null h a (λ r. at_index h r i
     (when (may_store h e r v)
-    (Go (past h (with_cell h.state r (natural i) (truncated e v)) rest))
+    (Go (past h (with_cell h.state r (natural i) (value_kept e v)) rest))
     (raise h "java/lang/ArrayStoreException"))))
     (illegal h)
 store_element h e _ = illegal h

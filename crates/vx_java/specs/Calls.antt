@@ -5,10 +5,10 @@ use Rattle.vx_class.specs.declared.class_file.Code.{Code}
 use Rattle.vx_desc.specs.Names.{is_init}
 use Rattle.vx_desc.specs.declared.java_type.JavaType.{JavaType}
 use Rattle.vx_java.specs.Checks.{fits_type, is_instance_of, is_object, is_of, non_null, same_bool, with_class}
-use Rattle.vx_java.specs.Initialisation.{initialised, new_frame}
+use Rattle.vx_java.specs.Initialisation.{when_initialised, new_frame}
 use Rattle.vx_java.specs.Machine.{Go, Here, Long, Native, Outcome, Ref, State, Top, Value, current_class, depth, frame_bound, illegal, method_text, object_at, push_new, raise, unsupported, when}
 use Rattle.vx_java.specs.Operation.{method_word, native_word}
-use Rattle.vx_java.specs.Selection.{chosen, select, select_special}
+use Rattle.vx_java.specs.Selection.{selected_if_concrete, select, select_special}
 use Rattle.vx_java.specs.declared.operation.Mode.{Mode}
 use Rattle.vx_java.specs.declared.operation.Mode.TheVariants.{Interface, Special, Static}
 use Rattle.vx_java.specs.declared.operation.Sort.TheVariants.{Reference}
@@ -26,10 +26,10 @@ use Rattle.vx_value.specs.declared.key.Kind.TheVariants.{Call}
 -- ---- arguments
 
 -- the arguments off the operand stack, the last one on top; none where a value lacks or is not of its type's sort
-abbrev pub matched : List JavaType → List Value → Option (List Value)
-matched [] values = Some []
-matched (t ∷ ts) [] = None
-matched (t ∷ ts) (v ∷ vs) = if fits_type t v then option_map (λ rest. v ∷ rest) (matched ts vs) else None
+abbrev pub values_matching : List JavaType → List Value → Option (List Value)
+values_matching [] values = Some []
+values_matching (t ∷ ts) [] = None
+values_matching (t ∷ ts) (v ∷ vs) = if fits_type t v then option_map (λ rest. v ∷ rest) (values_matching ts vs) else None
 
 -- so many values off the top, the deepest first, and the values under them
 abbrev pub top_values : ℕ → List Value → List Value → List Value × List Value
@@ -39,7 +39,7 @@ top_values (suc n) taken (v ∷ rest) = top_values n (v ∷ taken) rest
 
 abbrev pub arguments_off : List JavaType → List Value → Option (List Value × List Value)
 arguments_off types operands =
-    let parts = top_values (length types) [] operands in option_map (λ values. (values, parts.1)) (matched types parts.0)
+    let parts = top_values (length types) [] operands in option_map (λ values. (values, parts.1)) (values_matching types parts.0)
 
 -- the locals that values take: two for a long
 abbrev pub in_locals : List Value → List Value
@@ -50,8 +50,8 @@ in_locals (v ∷ vs) = v ∷ in_locals vs
 -- ---- the carrying out of a selected method
 
 -- a new frame above the caller, whose operands lose the arguments and whose position stays
-abbrev pub called : Here → ℕ → List Value → List Value → State
-called h m values rest =
+abbrev pub state_in_callee : Here → ℕ → List Value → List Value → State
+state_in_callee h m values rest =
     record (h.state) {
       top = new_frame h.program Call m (in_locals values);
       callers = record (h.state.top) { operands = rest } ∷ h.state.callers;
@@ -61,7 +61,7 @@ abbrev pub enter : Here → ℕ → Option Code → List Value → List Value �
 enter h m None values rest =
     when ((method_at h.program m).native == 0) (unsupported h native_word (method_text h.program (method_at h.program m))) (Native m h.state)
 enter h m (Some code) values rest =
-    when (nat_lt (depth h.state) frame_bound) (Go (called h m values rest)) (raise h "java/lang/StackOverflowError")
+    when (nat_lt (depth h.state) frame_bound) (Go (state_in_callee h m values rest)) (raise h "java/lang/StackOverflowError")
 
 -- a native method, or a frame unless there are too many
 abbrev pub carry_out : Here → List Value → List Value → Selected → Outcome
@@ -101,18 +101,18 @@ abbrev pub selected_special : Here → Member → (named resolved : ℕ) → Sel
 selected_special h m named resolved =
     if m.by_interface then select_special h.program named resolved
     else if begins_above h m named then select_special h.program (unwrap_or (superclass_of h.program (current_class h.program h.state)) 0) resolved
-    else chosen h.program resolved
+    else selected_if_concrete h.program resolved
 
-abbrev pub selected : Here → Mode → Member → (named resolved receiver : ℕ) → Selected
-selected h Special m named resolved receiver = selected_special h m named resolved
-selected h _ m named resolved receiver = select h.program receiver resolved
+abbrev pub selection : Here → Mode → Member → (named resolved receiver : ℕ) → Selected
+selection h Special m named resolved receiver = selected_special h m named resolved
+selection h _ m named resolved receiver = select h.program receiver resolved
 
 -- the receiver of an interface method implements the interface
 abbrev pub dispatch : Here → Mode → Member → (named resolved : ℕ) → List Value → ℕ → List Value → Outcome
 dispatch h mode m named resolved values r rest =
     let receiver = (object_at h.state r).class in
     when (m.by_interface && not (assignable h.program receiver named)) (wrong_kind h)
-    (carry_out h (Ref r ∷ values) rest (selected h mode m named resolved receiver))
+    (carry_out h (Ref r ∷ values) rest (selection h mode m named resolved receiver))
 
 abbrev pub call_instance : Here → Mode → Member → (named resolved : ℕ) → Outcome
 call_instance h mode m named resolved =
@@ -121,7 +121,7 @@ call_instance h mode m named resolved =
 abbrev pub call_static : Here → Member → (resolved : ℕ) → Outcome
 call_static h m resolved =
     with_arguments h m (λ values rest.
-    initialised h (method_at h.program resolved).class.0 (λ g. carry_out g values rest (chosen g.program resolved)))
+    when_initialised h (method_at h.program resolved).class.0 (λ g. carry_out g values rest (selected_if_concrete g.program resolved)))
 
 -- static against instance, or a private method by invokeinterface
 abbrev pub call_resolved : Here → Mode → Member → (named resolved : ℕ) → Outcome

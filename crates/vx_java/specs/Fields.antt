@@ -4,8 +4,8 @@ use Rattle.vx_desc.specs.Descriptors.{field_type}
 use Rattle.vx_desc.specs.Names.{is_clinit}
 use Rattle.vx_desc.specs.declared.java_type.JavaType.{JavaType}
 use Rattle.vx_java.specs.Checks.{fits_type, is_instance_of, non_null, same_bool, sort_of, width_of_type, with_class}
-use Rattle.vx_java.specs.FirstObjects.{narrowed}
-use Rattle.vx_java.specs.Initialisation.{initialised}
+use Rattle.vx_java.specs.FirstObjects.{narrowed_value}
+use Rattle.vx_java.specs.Initialisation.{when_initialised}
 use Rattle.vx_java.specs.Machine.{Go, Here, Outcome, State, Top, Value, cell_at, current_class, go, has_room, illegal, past, raise, unsupported, when, with_cell, with_static}
 use Rattle.vx_java.specs.Operation.{field_word, float_word}
 use Rattle.vx_java.specs.declared.operation.Sort.{Sort}
@@ -60,7 +60,7 @@ abbrev pub get_static : Here → ℕ → Outcome
 get_static h i =
     with_field h i true (λ found.
     when (has_room h (width_of_type found.type) h.state.top.operands)
-    (initialised h (declaring h found) (λ g. go g (static_value g.state found ∷ g.state.top.operands)))
+    (when_initialised h (declaring h found) (λ g. go g (static_value g.state found ∷ g.state.top.operands)))
     (illegal h))
 
 -- a frame of the <clinit> of a class stands on top
@@ -71,13 +71,13 @@ in_own_initialiser h c = is_clinit (method_at h.program h.state.top.method).name
 abbrev pub with_written : Here → Found → Value → State
 with_written h found v =
     elim (is_some (field_at h.program found.field).option && in_own_initialiser h (declaring h found))
-    [ true ↦ h.state | false ↦ with_static h.state found.field (narrowed found.type v) ]
+    [ true ↦ h.state | false ↦ with_static h.state found.field (narrowed_value found.type v) ]
 
 abbrev pub put_value : Here → Found → List Value → Outcome
 put_value h found [] = illegal h
 put_value h found (v ∷ rest) =
     when (fits_type found.type v)
-    (initialised h (declaring h found) (λ g. Go (past g (with_written g found v) rest)))
+    (when_initialised h (declaring h found) (λ g. Go (past g (with_written g found v) rest)))
     (illegal h)
 
 -- putstatic
@@ -103,7 +103,7 @@ get_field h i = with_field h i false (λ found. get_from h found h.state.top.ope
 abbrev pub put_into : Here → Found → List Value → Outcome
 put_into h found (v ∷ o ∷ rest) =
     when (fits_type found.type v && is_instance_of h found.named o)
-    (non_null h o (λ r. Go (past h (with_cell h.state r (cell_of h found) (narrowed found.type v)) rest)))
+    (non_null h o (λ r. Go (past h (with_cell h.state r (cell_of h found) (narrowed_value found.type v)) rest)))
     (illegal h)
 put_into h found _ = illegal h
 

@@ -79,13 +79,13 @@ narrow_of_base _ = None
 abbrev pub narrow_of_type : JavaType → Option Narrow
 narrow_of_type t = elim (t.dimensions == 0) [ true ↦ narrow_of_base t.base | false ↦ None ]
 
-abbrev pub narrowed_to : Option Narrow → Value → Value
-narrowed_to (Some narrow) (Int n) = Int (narrow_of narrow n)
-narrowed_to _ v = v
+abbrev pub narrowed_value_to : Option Narrow → Value → Value
+narrowed_value_to (Some narrow) (Int n) = Int (narrow_of narrow n)
+narrowed_value_to _ v = v
 
 -- the value of a store to a field of a type
-abbrev pub narrowed : JavaType → Value → Value
-narrowed t v = narrowed_to (narrow_of_type t) v
+abbrev pub narrowed_value : JavaType → Value → Value
+narrowed_value t v = narrowed_value_to (narrow_of_type t) v
 
 -- ---- objects
 

@@ -76,8 +76,8 @@ by_state h c Running rest = rest h
 by_state h c Failed rest = raise h "java/lang/NoClassDefFoundError"
 by_state h c Not rest = when_not h c (quiet_chain h.program h.state.inits c) rest
 
-abbrev pub initialised : Here → ℕ → (Here → Outcome) → Outcome
-initialised h c rest = by_state h c (init_at h.state.inits c) rest
+abbrev pub when_initialised : Here → ℕ → (Here → Outcome) → Outcome
+when_initialised h c rest = by_state h c (init_at h.state.inits c) rest
 
 -- ---- beginning
 

@@ -13,22 +13,22 @@ use Rattle.vx_value.specs.declared.end.End.TheVariants.{Exit}
 -- ---- System
 
 -- the cells with others from a place on
-abbrev pub overwritten : List Value → ℕ → List Value → List Value
-overwritten cells at values = take at cells ++ (values ++ drop (at + length values) cells)
+abbrev pub cells_with : List Value → ℕ → List Value → List Value
+cells_with cells at values = take at cells ++ (values ++ drop (at + length values) cells)
 
 -- an element fits in an array of references to a class
 abbrev pub fits_component : Here → ℕ → Value → Bool
 fits_component h c (Ref v) = assignable h.program (object_at h.state v).class c
 fits_component h c _ = true
 
-abbrev pub fitting : Here → (from to : Object) → List Value → List Value
-fitting h from to values =
+abbrev pub fitting_values : Here → (from to : Object) → List Value → List Value
+fitting_values h from to values =
     if has_reference_components h.program to.class then take_while (fits_component h (component_of h.program to.class)) values else values
 
 -- the elements up to the first that does not fit are copied, as through a copy
-abbrev pub copied : Here → List Value → (to at : ℕ) → (values fit : List Value) → Outcome
-copied h rest to at values fit =
-    let g = in_state h (with_cells h.state to (overwritten (object_at h.state to).cells at fit)) in
+abbrev pub copy_outcome : Here → List Value → (to at : ℕ) → (values fit : List Value) → Outcome
+copy_outcome h rest to at values fit =
+    let g = in_state h (with_cells h.state to (cells_with (object_at h.state to).cells at fit)) in
     when (length fit == length values) (go g rest) (raise g "java/lang/ArrayStoreException")
 
 abbrev pub within_array : (at count : ℤ) → ℕ → Bool
@@ -44,7 +44,7 @@ like_kinds h from to =
 abbrev pub copy_within : Here → List Value → (from : ℕ) → (i : ℤ) → (to : ℕ) → (j count : ℤ) → Outcome
 copy_within h rest from i to j count =
     let values = take (natural count) (drop (natural i) (object_at h.state from).cells) in
-    copied h rest to (natural j) values (fitting h (object_at h.state from) (object_at h.state to) values)
+    copy_outcome h rest to (natural j) values (fitting_values h (object_at h.state from) (object_at h.state to) values)
 
 abbrev pub array_copy : NativeMethod
 array_copy h (Ref from ∷ Int i ∷ Ref to ∷ Int j ∷ Int count ∷ []) rest =
@@ -113,11 +113,11 @@ integer_to_string_of h (Int n ∷ []) rest = answer_text h rest (signed_decimal 
 integer_to_string_of h _ rest = illegal h
 
 -- -1, 0 or 1
-abbrev pub compared_ints : ℤ → ℤ → ℤ
-compared_ints a b = if int_lt a b then negsuc 0 else if int_lt b a then pos 1 else pos 0
+abbrev pub int_order : ℤ → ℤ → ℤ
+int_order a b = if int_lt a b then negsuc 0 else if int_lt b a then pos 1 else pos 0
 
 abbrev pub integer_compare : NativeMethod
-integer_compare h (Int a ∷ Int b ∷ []) rest = answer_int h rest (compared_ints a b)
+integer_compare h (Int a ∷ Int b ∷ []) rest = answer_int h rest (int_order a b)
 integer_compare h _ rest = illegal h
 
 abbrev pub integer_int_value : NativeMethod
@@ -142,7 +142,7 @@ same_number h _ rest = illegal h
 
 -- compareTo of Integer, and of Boolean, as FALSE is 0 and TRUE 1
 abbrev pub compare_numbers : NativeMethod
-compare_numbers h (Ref r ∷ Ref s ∷ []) rest = answer_int h rest (compared_ints (number_of_object h r) (number_of_object h s))
+compare_numbers h (Ref r ∷ Ref s ∷ []) rest = answer_int h rest (int_order (number_of_object h r) (number_of_object h s))
 compare_numbers h (Ref r ∷ Null ∷ []) rest = null_pointer h
 compare_numbers h _ rest = illegal h
 

@@ -22,9 +22,9 @@ without_half locals zero = locals
 without_half locals (suc n) = slice_set locals n (unless_long (item_or locals n Top))
 
 -- the value at n; a long takes n + 1 too, which cannot be read
-abbrev pub stored : List Value → ℕ → Value → List Value
-stored locals n (Long a) = slice_set (slice_set (without_half locals n) n (Long a)) (n + 1) Top
-stored locals n v = slice_set (without_half locals n) n v
+abbrev pub locals_with : List Value → ℕ → Value → List Value
+locals_with locals n (Long a) = slice_set (slice_set (without_half locals n) n (Long a)) (n + 1) Top
+locals_with locals n v = slice_set (without_half locals n) n v
 
 abbrev pub with_locals : State → List Value → State
 with_locals s locals = record s { top = record (s.top) { locals = locals } }
@@ -33,7 +33,7 @@ with_locals s locals = record s { top = record (s.top) { locals = locals } }
 abbrev pub store : Here → Sort → ℕ → List Value → Outcome
 store h sort n [] = illegal h
 store h sort n (v ∷ operands) =
-    when (is_of sort v) (Go (past h (with_locals h.state (stored h.state.top.locals n v)) operands)) (illegal h)
+    when (is_of sort v) (Go (past h (with_locals h.state (locals_with h.state.top.locals n v)) operands)) (illegal h)
 
 -- iinc
 abbrev pub increase : Here → ℕ → ℤ → Value → Outcome

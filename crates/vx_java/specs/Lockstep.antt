@@ -29,19 +29,19 @@ pub record Shared (A : Type 0) : Type 0 where
   pub configs : List Config
 
 -- one more configuration, in an ascending list of distinct values
-abbrev pub placed : {A : Type 0} → (A → A → Ordering) → A → Config → List (Shared A) → List (Shared A)
-placed order a c [] = record { value = a; configs = c ∷ [] } ∷ []
-placed order a c (g ∷ gs) =
+abbrev pub groups_with : {A : Type 0} → (A → A → Ordering) → A → Config → List (Shared A) → List (Shared A)
+groups_with order a c [] = record { value = a; configs = c ∷ [] } ∷ []
+groups_with order a c (g ∷ gs) =
     elim (order a g.value) [
       | Less ↦ record { value = a; configs = c ∷ [] } ∷ g ∷ gs
       | Equal ↦ record { value = g.value; configs = g.configs ++ c ∷ [] } ∷ gs
-      | Greater ↦ g ∷ placed order a c gs
+      | Greater ↦ g ∷ groups_with order a c gs
     ]
 
 -- the distinct values of some configurations, ascending
-abbrev pub grouped : {A : Type 0} → (A → A → Ordering) → List (A × Config) → List (Shared A) → List (Shared A)
-grouped order [] gs = gs
-grouped order ((a, c) ∷ rest) gs = grouped order rest (placed order a c gs)
+abbrev pub groups_of : {A : Type 0} → (A → A → Ordering) → List (A × Config) → List (Shared A) → List (Shared A)
+groups_of order [] gs = gs
+groups_of order ((a, c) ∷ rest) gs = groups_of order rest (groups_with order a c gs)
 
 -- ---- rounds
 
@@ -51,9 +51,9 @@ pub record ConfigRun : Type 0 where
   pub run : Run
 
 -- a run that may make one more attempt
-abbrev pub live : ℕ → Run → Option Progress
-live n (Over e g) = None
-live n (Live g) = cond (nat_lt g.attempts n) (Some g) None
+abbrev pub live_progress : ℕ → Run → Option Progress
+live_progress n (Over e g) = None
+live_progress n (Live g) = cond (nat_lt g.attempts n) (Some g) None
 
 -- the first of a key and another, if there is one
 abbrev pub of_keys : (a b : List KeyPart) → Ordering → List KeyPart
@@ -71,7 +71,7 @@ key_at g = key_of g.state
 
 abbrev pub first_key : ℕ → List ConfigRun → Option (List KeyPart)
 first_key n [] = None
-first_key n (m ∷ ms) = lesser_key (option_map key_at (live n m.run)) (first_key n ms)
+first_key n (m ∷ ms) = lesser_key (option_map key_at (live_progress n m.run)) (first_key n ms)
 
 -- a live run whose state has this key makes a step
 abbrev pub if_key : Program → Run → Progress → Ordering → Run
@@ -83,11 +83,11 @@ abbrev pub if_live : Program → List KeyPart → Run → Option Progress → Ru
 if_live p key r None = r
 if_live p key r (Some g) = if_key p r g (key_cmp (key_at g) key)
 
-abbrev pub stepped_run : Program → ℕ → List KeyPart → Run → Run
-stepped_run p n key r = if_live p key r (live n r)
+abbrev pub run_after_round : Program → ℕ → List KeyPart → Run → Run
+run_after_round p n key r = if_live p key r (live_progress n r)
 
-abbrev pub stepped : Program → ℕ → List KeyPart → ConfigRun → ConfigRun
-stepped p n key m = record { config = m.config; run = stepped_run p n key m.run }
+abbrev pub member_after_round : Program → ℕ → List KeyPart → ConfigRun → ConfigRun
+member_after_round p n key m = record { config = m.config; run = run_after_round p n key m.run }
 
 abbrev pub output_of : Run → List (Stream × ℕ)
 output_of (Live g) = g.output
@@ -102,8 +102,8 @@ abbrev pub piece_of : List (Stream × ℕ) → List Piece
 piece_of [] = []
 piece_of ((stream, b) ∷ rest) = (stream, b ∷ map (λ t. t.1) rest) ∷ []
 
-abbrev pub appended : ConfigRun → ConfigRun → List (Piece × Config)
-appended before after = map (λ piece. (piece, after.config)) (piece_of (drop (length (output_of before.run)) (output_of after.run)))
+abbrev pub pieces_appended : ConfigRun → ConfigRun → List (Piece × Config)
+pieces_appended before after = map (λ piece. (piece, after.config)) (piece_of (drop (length (output_of before.run)) (output_of after.run)))
 
 abbrev pub stream_rank : Stream → ℕ
 stream_rank Out = 0
@@ -113,9 +113,9 @@ stream_rank Err = 1
 abbrev pub compare_pieces : Piece → Piece → Ordering
 compare_pieces a b = ordering_then (nat_cmp (stream_rank a.0) (stream_rank b.0)) (slice_cmp nat_cmp a.1 b.1)
 
-abbrev pub all_appended : List ConfigRun → List ConfigRun → List (Piece × Config)
-all_appended (m ∷ ms) (n ∷ ns) = appended m n ++ all_appended ms ns
-all_appended _ _ = []
+abbrev pub all_pieces_appended : List ConfigRun → List ConfigRun → List (Piece × Config)
+all_pieces_appended (m ∷ ms) (n ∷ ns) = pieces_appended m n ++ all_pieces_appended ms ns
+all_pieces_appended _ _ = []
 
 -- the rounds so far, the pieces in their order, and the runs
 pub record Lockstep : Type 0 where
@@ -126,8 +126,8 @@ pub record Lockstep : Type 0 where
 -- one round with a key: a piece per distinct text
 abbrev pub round : Program → ℕ → List KeyPart → Lockstep → Lockstep
 round p n key l =
-    let after = map (stepped p n key) l.members in
-    record { rounds = suc l.rounds; pieces = l.pieces ++ grouped compare_pieces (all_appended l.members after) []; members = after }
+    let after = map (member_after_round p n key) l.members in
+    record { rounds = suc l.rounds; pieces = l.pieces ++ groups_of compare_pieces (all_pieces_appended l.members after) []; members = after }
 
 -- a round with the first key, if there is one
 abbrev pub if_first : Option (List KeyPart) → Lockstep → (List KeyPart → Lockstep) → Lockstep
@@ -140,11 +140,11 @@ rounds_from p n zero l = l
 rounds_from p n (suc k) l = if_first (first_key n l.members) l (λ key. rounds_from p n k (round p n key l))
 
 -- before the first round
-abbrev pub started : Program → Config → ConfigRun
-started p c = record { config = c; run = start p c }
+abbrev pub member_at_start : Program → Config → ConfigRun
+member_at_start p c = record { config = c; run = start p c }
 
 abbrev pub begun : Program → List Config → Lockstep
-begun p allowed = record { rounds = 0; pieces = []; members = map (started p) allowed }
+begun p allowed = record { rounds = 0; pieces = []; members = map (member_at_start p) allowed }
 
 -- from the start of each allowed configuration, with a limit of n attempts each
 abbrev pub lockstep : Program → List Config → ℕ → Lockstep

@@ -109,12 +109,12 @@ abbrev pub with_static : State → ℕ → Value → State
 with_static s f v = record s { statics = slice_set s.statics f v }
 
 -- the initialisation states with that of some classes replaced
-abbrev pub marked : List InitState → InitState → List ℕ → List InitState
-marked inits i [] = inits
-marked inits i (c ∷ cs) = marked (slice_set inits c i) i cs
+abbrev pub inits_with : List InitState → InitState → List ℕ → List InitState
+inits_with inits i [] = inits
+inits_with inits i (c ∷ cs) = inits_with (slice_set inits c i) i cs
 
 abbrev pub with_inits : State → InitState → List ℕ → State
-with_inits s i classes = record s { inits = marked s.inits i classes }
+with_inits s i classes = record s { inits = inits_with s.inits i classes }
 
 -- the class whose method stands on top
 abbrev pub current_class : Program → State → ℕ

@@ -6,7 +6,7 @@ use Rattle.vx_class.specs.declared.class_file.Code.{Code}
 use Rattle.vx_desc.specs.declared.java_type.JavaType.{JavaType}
 use Rattle.vx_java.specs.Calls.{arguments_off, if_arguments}
 use Rattle.vx_java.specs.Checks.{is_instance_of, width_of_type}
-use Rattle.vx_java.specs.FirstObjects.{narrowed}
+use Rattle.vx_java.specs.FirstObjects.{narrowed_value}
 use Rattle.vx_java.specs.Library.{absolute_int, absolute_long, add_suppressed, array_copy, boolean_to_string, boolean_value_of, compare_numbers, enum_compare, enum_init, exit, first_cell, integer_compare, integer_int_value, integer_long_value, integer_parse, integer_to_string, integer_to_string_of, integer_value_of, line_separator, of_ints, of_longs, same_number, second_cell, throwable_class_name, throwable_init}
 use Rattle.vx_java.specs.Machine.{Here, Outcome, State, Value, current_class, has_room, illegal, when}
 use Rattle.vx_java.specs.Returns.{instruction_size}
@@ -69,7 +69,7 @@ are_wanted h descriptor (t ∷ ts) (v ∷ vs) =
 abbrev pub as_read : List JavaType → List Value → List Value
 as_read [] values = values
 as_read (t ∷ ts) [] = []
-as_read (t ∷ ts) (v ∷ vs) = narrowed t v ∷ as_read ts vs
+as_read (t ∷ ts) (v ∷ vs) = narrowed_value t v ∷ as_read ts vs
 
 -- room for the result
 abbrev pub room_for : Here → Option JavaType → List Value → Bool

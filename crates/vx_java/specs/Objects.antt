@@ -3,7 +3,7 @@ use Rattle.std.specs.Prelude.{Bool, List, [], false, pos, true, ℕ, ◌||◌, �
 use Rattle.vx_class.specs.Members.{ABSTRACT}
 use Rattle.vx_java.specs.Checks.{is_instance_of, is_of, non_null, with_class}
 use Rattle.vx_java.specs.FirstObjects.{new_object}
-use Rattle.vx_java.specs.Initialisation.{initialised}
+use Rattle.vx_java.specs.Initialisation.{when_initialised}
 use Rattle.vx_java.specs.Machine.{Here, Int, Null, Outcome, Ref, Throw, Value, go, has_room, illegal, object_at, push, push_new, raise, when}
 use Rattle.vx_java.specs.declared.operation.Sort.TheVariants.{Reference}
 use Rattle.vx_link.specs.Assignability.{assignable}
@@ -17,7 +17,7 @@ new_of_class h c =
     when (has ABSTRACT (class_at h.program c).flags || is_interface h.program c)
     (raise h "java/lang/InstantiationError")
     (when (has_room h 1 h.state.top.operands)
-    (initialised h c (λ g. push_new g (new_object g.program c) g.state.top.operands))
+    (when_initialised h c (λ g. push_new g (new_object g.program c) g.state.top.operands))
     (illegal h))
 
 abbrev pub new_instance : Here → ℕ → Outcome

@@ -29,10 +29,10 @@ agrees (Some sort) (Some type) = same_sort sort (sort_of type)
 agrees _ _ = false
 
 -- the value that is handed back, as a list of at most one; none where it is not of the kind
-abbrev pub returned : Option Sort → List Value → Option (List Value)
-returned None operands = Some []
-returned (Some sort) [] = None
-returned (Some sort) (v ∷ rest) = if is_of sort v then Some (v ∷ []) else None
+abbrev pub values_returned : Option Sort → List Value → Option (List Value)
+values_returned None operands = Some []
+values_returned (Some sort) [] = None
+values_returned (Some sort) (v ∷ rest) = if is_of sort v then Some (v ∷ []) else None
 
 abbrev pub instruction_size : Option Instruction → ℕ
 instruction_size None = 0
@@ -47,8 +47,8 @@ max_stack None = 0
 max_stack (Some code) = code.max_stack
 
 -- the caller moves past its call and gets the value
-abbrev pub resumed : Program → Frame → List Value → Frame
-resumed p f value =
+abbrev pub frame_resumed : Program → Frame → List Value → Frame
+frame_resumed p f value =
     record f {
       position = f.position + instruction_size (instruction_at (bytes_of (method_at p f.method).code) f.position);
       operands = value ++ f.operands;
@@ -69,7 +69,7 @@ abbrev pub return_to : Here → Kind → List Value → List Frame → Outcome
 return_to h kind value [] = Ended ReturnEnd
 return_to h Call value (f ∷ below) =
     when (fits_caller h.program f value)
-    (Go (record (h.state) { top = resumed h.program f value; callers = below }))
+    (Go (record (h.state) { top = frame_resumed h.program f value; callers = below }))
     (illegal h)
 return_to h _ value (f ∷ below) =
     Go (record (with_inits h.state Done (current_class h.program h.state ∷ [])) { top = record f { kind = awake f.kind }; callers = below })
@@ -82,5 +82,5 @@ return_value h (Some value) = return_to h h.state.top.kind value h.state.callers
 abbrev pub return_from : Here → Option Sort → Outcome
 return_from h sort =
     when (agrees sort (signature (method_at h.program h.state.top.method).descriptor).result)
-    (return_value h (returned sort h.state.top.operands))
+    (return_value h (values_returned sort h.state.top.operands))
     (illegal h)

@@ -20,8 +20,8 @@ abbrev pub selected_method : ℕ → Selected
 selected_method m = Method (record { 0 = m })
 
 -- one method unless it is abstract
-abbrev pub chosen : Program → ℕ → Selected
-chosen p m = if is_abstract (method_at p m) then Abstract else selected_method m
+abbrev pub selected_if_concrete : Program → ℕ → Selected
+selected_if_concrete p m = if is_abstract (method_at p m) then Abstract else selected_method m
 
 -- of the maximally-specific methods: the only one, or a conflict
 abbrev pub of_specific : List ℕ → Selected
@@ -31,7 +31,7 @@ of_specific (m ∷ n ∷ ms) = Conflict
 
 -- a method found from the class up, else those of the superinterfaces
 abbrev pub found_or : Program → Option ℕ → List ℕ → Selected
-found_or p (Some m) specific = chosen p m
+found_or p (Some m) specific = selected_if_concrete p m
 found_or p None specific = of_specific specific
 
 -- the first inherited method of a name and descriptor from a class up, else the one maximally-specific superinterface method that is not abstract
@@ -46,7 +46,7 @@ class_of_receiver p c = if is_array p c then object_class p else c
 -- invokevirtual and invokeinterface: a private resolved method is itself selected, and is an abstract selection where it is abstract
 abbrev pub select : Program → (receiver resolved : ℕ) → Selected
 select p receiver resolved =
-    if has PRIVATE (method_at p resolved).flags then chosen p resolved
+    if has PRIVATE (method_at p resolved).flags then selected_if_concrete p resolved
     else select_from p (class_of_receiver p receiver) (method_at p resolved)
 
 -- invokespecial where a search begins: at a class as above; at an interface its own instance method, then that of Object

@@ -29,15 +29,15 @@ lower Dup2X2 = 2
 lower _ = 0
 
 -- the values in their new order: the upper ones are dropped, change places with the lower ones, or are also put under the lower ones
-abbrev pub shuffled : Shuffle → List Value → List Value → List Value → List Value
-shuffled Pop a b rest = rest
-shuffled Pop2 a b rest = rest
-shuffled Swap a b rest = b ++ (a ++ rest)
-shuffled _ a b rest = a ++ (b ++ (a ++ rest))
+abbrev pub values_reordered : Shuffle → List Value → List Value → List Value → List Value
+values_reordered Pop a b rest = rest
+values_reordered Pop2 a b rest = rest
+values_reordered Swap a b rest = b ++ (a ++ rest)
+values_reordered _ a b rest = a ++ (b ++ (a ++ rest))
 
 abbrev pub lower_taken : Here → Shuffle → List Value → Option (List Value × List Value) → Outcome
 lower_taken h form a None = illegal h
-lower_taken h form a (Some (b, rest)) = settle h (shuffled form a b rest)
+lower_taken h form a (Some (b, rest)) = settle h (values_reordered form a b rest)
 
 abbrev pub upper_taken : Here → Shuffle → Option (List Value × List Value) → Outcome
 upper_taken h form None = illegal h

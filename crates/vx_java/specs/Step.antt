@@ -12,7 +12,7 @@ use Rattle.vx_java.specs.Natives.{native}
 use Rattle.vx_java.specs.Objects.{int_of_bool}
 use Rattle.vx_java.specs.Operation.{class_word}
 use Rattle.vx_java.specs.Row.{row}
-use Rattle.vx_java.specs.Throwing.{raised, thrown}
+use Rattle.vx_java.specs.Throwing.{next_after_raise, next_after_throw}
 use Rattle.vx_link.specs.ClassNames.{class_text}
 use Rattle.vx_link.specs.CoreFiles.{core_count}
 use Rattle.vx_link.specs.Parts.{class_at, has}
@@ -41,16 +41,16 @@ pub data Run : Type 0 where
   Over : (end : End) → (progress : Progress) → Run
 
 -- a beginning and a native method are carried out; they come to neither a beginning nor a native method
-abbrev pub carried : Program → Outcome → Outcome
-carried p (Begin class s) = begin p s class
-carried p (Native m s) = native p s m
-carried p o = o
+abbrev pub outcome_carried_out : Program → Outcome → Outcome
+outcome_carried_out p (Begin class s) = begin p s class
+outcome_carried_out p (Native m s) = native p s m
+outcome_carried_out p o = o
 
 -- where an outcome leads that has been carried out
 abbrev pub next : Program → Outcome → Next
 next p (Go s) = Goes s
-next p (Raise class message s) = raised p s class message
-next p (Throw r s) = thrown p s r
+next p (Raise class message s) = next_after_raise p s class message
+next p (Throw r s) = next_after_throw p s r
 next p (Begin class s) = Goes s
 next p (Native m s) = Goes s
 next p (Write stream units s) = Goes s
@@ -65,13 +65,13 @@ abbrev pub text_of : Outcome → List (Stream × ℕ)
 text_of (Write stream units s) = map (λ b. (stream, b)) (utf8_of units)
 text_of _ = []
 
-abbrev pub advanced : Progress → List (Stream × ℕ) → Next → Run
-advanced g text (Goes s) = Live (record { state = s; output = g.output ++ text; attempts = suc g.attempts })
-advanced g text (Ends e) = Over e (record { state = g.state; output = g.output ++ text; attempts = suc g.attempts })
+abbrev pub run_after : Progress → List (Stream × ℕ) → Next → Run
+run_after g text (Goes s) = Live (record { state = s; output = g.output ++ text; attempts = suc g.attempts })
+run_after g text (Ends e) = Over e (record { state = g.state; output = g.output ++ text; attempts = suc g.attempts })
 
 -- one attempt
 abbrev pub step : Program → Progress → Run
-step p g = let o = carried p (row p g.state) in advanced g (text_of o) (next p o)
+step p g = let o = outcome_carried_out p (row p g.state) in run_after g (text_of o) (next p o)
 
 -- ---- the start
 
@@ -122,20 +122,20 @@ before_main p c =
     }
 
 -- a run that has made no attempt
-abbrev pub unused : State → Progress
-unused s = record { state = s; output = []; attempts = 0 }
+abbrev pub fresh_progress : State → Progress
+fresh_progress s = record { state = s; output = []; attempts = 0 }
 
 -- the chain of the main class is marked, or has its frames above that of main; a blocking interface or one frame too many ends the run
 abbrev pub with_room : Program → State → List ℕ → Bool → Run
-with_room p s chain true = Over (Uncaught (codes "java/lang/StackOverflowError")) (unused s)
-with_room p s chain false = Live (unused (pushed_chain p s chain))
+with_room p s chain true = Over (Uncaught (codes "java/lang/StackOverflowError")) (fresh_progress s)
+with_room p s chain false = Live (fresh_progress (pushed_chain p s chain))
 
 abbrev pub if_quiet : Program → State → List ℕ → Bool → Run
-if_quiet p s chain true = Live (unused (with_inits s Done chain))
+if_quiet p s chain true = Live (fresh_progress (with_inits s Done chain))
 if_quiet p s chain false = with_room p s chain (nat_lt frame_bound (depth s + length chain))
 
 abbrev pub begun : Program → State → ℕ → List ℕ → Option ℕ → Run
-begun p s c chain (Some i) = Over (Unsupported class_word (class_text p i) (place p s)) (unused s)
+begun p s c chain (Some i) = Over (Unsupported class_word (class_text p i) (place p s)) (fresh_progress s)
 begun p s c chain None = if_quiet p s chain (quiet_chain p s.inits c)
 
 abbrev pub start : Program → Config → Run
@@ -166,10 +166,12 @@ steps p (suc n) (Live g) = steps p n (step p g)
 abbrev pub run : Program → Config → ℕ → RunResult
 run p c n = result (steps p n (start p c))
 
--- the frames, the one on top first, of the state in which the last attempt was made where the run is over, and of the state reached where it is not; none where the run ended at its start
+-- ---- the trace of a run
+
 abbrev pub frames_of : State → List Frame
 frames_of s = s.top ∷ s.callers
 
+-- the frames, the one on top first, of the state in which the last attempt was made where the run is over, and of the state reached where it is not; none where the run ended at its start
 abbrev pub trace : Run → List Frame
 trace (Live g) = frames_of g.state
 trace (Over e g) = if g.attempts == 0 then [] else frames_of g.state

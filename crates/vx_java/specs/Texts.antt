@@ -134,13 +134,13 @@ string_equals h (Ref r ∷ Null ∷ []) rest = answer_bool h rest false
 string_equals h _ rest = illegal h
 
 -- the difference of the first units that differ, else of the lengths
-abbrev pub compared : List ℕ → List ℕ → ℤ
-compared [] bs = pos 0 -ℤ pos (length bs)
-compared (a ∷ as') [] = pos (suc (length as'))
-compared (a ∷ as') (b ∷ bs) = elim (a == b) [ true ↦ compared as' bs | false ↦ pos a -ℤ pos b ]
+abbrev pub text_difference : List ℕ → List ℕ → ℤ
+text_difference [] bs = pos 0 -ℤ pos (length bs)
+text_difference (a ∷ as') [] = pos (suc (length as'))
+text_difference (a ∷ as') (b ∷ bs) = elim (a == b) [ true ↦ text_difference as' bs | false ↦ pos a -ℤ pos b ]
 
 abbrev pub string_compare : NativeMethod
-string_compare h (Ref r ∷ Ref s ∷ []) rest = answer_int h rest (compared (text_of_object h r) (text_of_object h s))
+string_compare h (Ref r ∷ Ref s ∷ []) rest = answer_int h rest (text_difference (text_of_object h r) (text_of_object h s))
 string_compare h (Ref r ∷ Null ∷ []) rest = null_pointer h
 string_compare h _ rest = illegal h
 
@@ -254,12 +254,12 @@ value_of spell h _ rest = illegal h
 -- ---- StringBuilder
 
 -- a builder with another text, which is not too long
-abbrev pub rewritten : Here → List Value → ℕ → List ℕ → Outcome
-rewritten h operands r units = if_short h units (go (with_text h r units) operands)
+abbrev pub rewrite : Here → List Value → ℕ → List ℕ → Outcome
+rewrite h operands r units = if_short h units (go (with_text h r units) operands)
 
 abbrev pub builder_append : Spelling → NativeMethod
 builder_append spell h (Ref r ∷ v ∷ []) rest =
-    if_spelled h (spell h v) (λ units. rewritten h (Ref r ∷ rest) r (text_of_object h r ++ units))
+    if_spelled h (spell h v) (λ units. rewrite h (Ref r ∷ rest) r (text_of_object h r ++ units))
 builder_append spell h _ rest = illegal h
 
 -- the text is empty whatever the capacity, which is not negative
@@ -309,18 +309,18 @@ abbrev pub stream_of_cell : Value → Stream
 stream_of_cell (Int (pos zero)) = Out
 stream_of_cell _ = Err
 
-abbrev pub written : Here → List Value → ℕ → List ℕ → Outcome
-written h rest r units = Write (stream_of_cell (cell_at h.state r 0)) units (past h h.state rest)
+abbrev pub write_units : Here → List Value → ℕ → List ℕ → Outcome
+write_units h rest r units = Write (stream_of_cell (cell_at h.state r 0)) units (past h h.state rest)
 
 -- print and println of a value
 abbrev pub print_of : Spelling → (line_end : List ℕ) → NativeMethod
 print_of spell line_end h (Ref r ∷ v ∷ []) rest =
-    if_spelled h (spell h v) (λ units. written h rest r (units ++ line_end))
+    if_spelled h (spell h v) (λ units. write_units h rest r (units ++ line_end))
 print_of spell line_end h _ rest = illegal h
 
 -- println of nothing
 abbrev pub print_line_end : NativeMethod
-print_line_end h (Ref r ∷ []) rest = written h rest r (10 ∷ [])
+print_line_end h (Ref r ∷ []) rest = write_units h rest r (10 ∷ [])
 print_line_end h _ rest = illegal h
 
 abbrev pub stream_flush : NativeMethod

@@ -22,15 +22,15 @@ exception_objects p s class None = throwable p class Null Null ∷ []
 exception_objects p s class (Some message) = string_object p message ∷ throwable p class (Ref (next_object s)) Null ∷ []
 
 -- the state in the frame that handles an exception, with the object alone on its operands
-abbrev pub handled : State → ℕ → ℕ → Next
-handled s r handler = Goes (record s { top = record (s.top) { position = handler; operands = Ref r ∷ [] } })
+abbrev pub next_in_handler : State → ℕ → ℕ → Next
+next_in_handler s r handler = Goes (record s { top = record (s.top) { position = handler; operands = Ref r ∷ [] } })
 
 -- an object that leaves an initialisation: an Error stays, another is wrapped
 abbrev pub is_error : Program → State → ℕ → Bool
 is_error p s r = assignable p (object_at s r).class (core_class p "java/lang/Error")
 
-abbrev pub wrapped : Program → State → ℕ → State
-wrapped p s r = with_objects s (throwable p (core_class p "java/lang/ExceptionInInitializerError") Null (Ref r) ∷ [])
+abbrev pub with_wrapper : Program → State → ℕ → State
+with_wrapper p s r = with_objects s (throwable p (core_class p "java/lang/ExceptionInInitializerError") Null (Ref r) ∷ [])
 
 -- a frame that is passed: an initialisation marks its class Failed, and the object is wrapped
 abbrev pub passed_object : Program → State → Kind → ℕ → ℕ
@@ -39,7 +39,7 @@ passed_object p s _ r = if is_error p s r then r else next_object s
 
 abbrev pub passed_state : Program → State → Kind → ℕ → State
 passed_state p s Call r = s
-passed_state p s _ r = with_inits (if is_error p s r then s else wrapped p s r) Failed (current_class p s ∷ [])
+passed_state p s _ r = with_inits (if is_error p s r then s else with_wrapper p s r) Failed (current_class p s ∷ [])
 
 -- the handler of a frame; one that waits handles nothing
 abbrev pub handler_of : Program → State → Kind → ℕ → Option ℕ
@@ -54,21 +54,21 @@ uncaught p s r = Ends (Uncaught (class_text p (object_at s r).class))
 abbrev pub unwind : Program → State → ℕ → List Frame → Next
 unwind p s r [] =
     elim (handler_of p s s.top.kind r) [
-      | Some handler ↦ handled s r handler
+      | Some handler ↦ next_in_handler s r handler
       | None ↦ uncaught p (passed_state p s s.top.kind r) (passed_object p s s.top.kind r)
     ]
 unwind p s r (f ∷ below) =
     elim (handler_of p s s.top.kind r) [
-      | Some handler ↦ handled s r handler
+      | Some handler ↦ next_in_handler s r handler
       | None ↦ unwind p (record (passed_state p s s.top.kind r) { top = f; callers = below }) (passed_object p s s.top.kind r) below
     ]
 
 -- an object is thrown in a state
-abbrev pub thrown : Program → State → ℕ → Next
-thrown p s r = unwind p s r s.callers
+abbrev pub next_after_throw : Program → State → ℕ → Next
+next_after_throw p s r = unwind p s r s.callers
 
 -- a class is raised: its exception is made and thrown
-abbrev pub raised : Program → State → ℕ → Option (List ℕ) → Next
-raised p s class message =
+abbrev pub next_after_raise : Program → State → ℕ → Option (List ℕ) → Next
+next_after_raise p s class message =
     let objects = exception_objects p s class message in
-    thrown p (with_objects s objects) (next_object s + length objects - 1)
+    next_after_throw p (with_objects s objects) (next_object s + length objects - 1)

@@ -163,12 +163,12 @@ layout p f =
       | false ↦ cell_count p (drop 1 (superclasses p class)) + length (filter (λ g. nat_lt g f) (instance_fields p class))
     ]
 
-abbrev pub laid_out : Program → ℕ → List LinkedField → List LinkedField
-laid_out p f [] = []
-laid_out p f (field ∷ fields) = record field { cell = layout p f } ∷ laid_out p (suc f) fields
+abbrev pub fields_with_layout : Program → ℕ → List LinkedField → List LinkedField
+fields_with_layout p f [] = []
+fields_with_layout p f (field ∷ fields) = record field { cell = layout p f } ∷ fields_with_layout p (suc f) fields
 
 abbrev pub with_layout : Program → Program
-with_layout p = record p { fields = laid_out p 0 p.fields }
+with_layout p = record p { fields = fields_with_layout p 0 p.fields }
 
 -- ---- the whole
 
@@ -198,15 +198,15 @@ main_method classes methods main = unwrap_or (find (λ m. is_main_method (slice_
 abbrev pub program_of : (classes core : List ClassFile) → (numbers : List (List ℕ)) → List OptionPlace → (main : List ℕ) → Program
 program_of classes core numbers options main =
     let all = classes ++ core in
-    let linked = linked_classes all all 0 0 in
+    let numbered = linked_classes all all 0 0 in
     let methods = methods_from 0 classes [] ++ methods_from (length classes) core numbers in
     let fields = fields_from options 0 all in
     with_layout
     (record {
-      classes = linked;
+      classes = numbered;
       methods = methods;
       fields = fields;
-      main = record { 0 = main_method linked methods main };
+      main = record { 0 = main_method numbered methods main };
       options = option_fields fields options;
     })
 
@@ -215,6 +215,6 @@ unless_fault (Some fault) p = Err fault
 unless_fault None p = Ok p
 
 -- the program of a folder's classes with the options of a model and the class whose main is run, or the first fault
-abbrev pub linked : List ClassFile → List OptionPlace → (main : List ℕ) → Result Program LinkFault
-linked classes options main =
+abbrev pub linked_program : List ClassFile → List OptionPlace → (main : List ℕ) → Result Program LinkFault
+linked_program classes options main =
     unless_fault (link_fault classes core_files options main) (program_of classes core_files native_numbers options main)
