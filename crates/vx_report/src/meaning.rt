@@ -10,7 +10,7 @@ use vx_space::Config;
 use vx_value::End;
 
 /// The node with a number.
-fn node_with(nodes: &[Node], id: u64) -> Option<&Node>
+pub fn node_with(nodes: &[Node], id: u64) -> Option<&Node>
     ensures { option_copied result ≡ node_of nodes.now id }
 {
     let place = id.checked_sub(2)?;
