@@ -1,1 +1,5 @@
+mod Fits
+mod Lines
+mod Pieces
+mod Rules
 mod Sets

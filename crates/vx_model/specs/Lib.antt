@@ -1,6 +1,12 @@
+pub mod Answers
+pub mod Drafts
 pub mod Formula
 pub mod FormulaCode
+pub mod Grammar
 pub mod Models
+pub mod Parser
+pub mod Text
+pub mod Tokens
 pub mod Truth
 pub mod View
 pub mod ViewFalls

@@ -5,8 +5,13 @@ mod configurations;
 mod expr;
 mod fault;
 mod model;
+mod rule;
+mod statement;
+mod text;
+mod token;
 
 pub use configurations::allowed;
 pub use expr::{Expr, Form};
 pub use fault::ModelFault;
 pub use model::{FieldPlace, Model, OptionField};
+pub use text::read_model;

@@ -1,11 +1,11 @@
 -- How the first part of a list stands in it.
-use Rattle.std.proofs.Common.{◌≡◌, ◌≢◌, ℕ, suc, ◌+◌, ◌<◌, ◌≤◌, List, [], ◌∷◌, length, take, drop, map, filter, Bool, true, false, refl, sym, ap, ◌∙◌, arith, nat_eq, eqb-true, length-drop, drop-drop}
+use Rattle.std.proofs.Common.{◌≡◌, ◌≢◌, ℕ, suc, ◌+◌, ◌<◌, ◌≤◌, List, [], ◌∷◌, length, take, drop, map, filter, Bool, true, false, not, refl, sym, ap, ◌∙◌, arith, nat_eq, eqb-true, length-drop, drop-drop}
 use Rattle.std.specs.List.{prefix_len, position_or_len, before_first, after_first}
 use Rattle.std.proofs.lemmas.List.Folds.{length-prefix_len}
 use Rattle.std.proofs.lemmas.List.Sums.{prefix_len-le-length}
 use Rattle.std.specs.Prelude.{if◌then◌else◌}
 use Rattle.std.proofs.Math.Numerals.{unary_clauses}
-use Rattle.vx_words.specs.Lines.{parts, with_first, lines, words, is_blank, is_filled, is_line_feed, without_return, skip}
+use Rattle.vx_words.specs.Lines.{parts, with_first, lines, words, is_blank, is_filled, is_line_feed, without_return, skip, behind_word}
 
 one_more : (n : ℕ) → 1 + n ≡ suc n
 one_more n = omega arith
@@ -138,20 +138,24 @@ line_answer text first rest line after n filled place at_front behind is_line is
     let two : after_first is_line_feed text ≡ after = ap (λ m. drop (m + 1) text) (sym place) ∙ sym (drop-drop 1 n text) ∙ ap (drop 1) (sym behind) ∙ sym is_after in
     split ∙ ap (λ l. l ∷ lines (after_first is_line_feed text)) one ∙ ap (λ t. line ∷ lines t) two
 
-pub word_answer : (line text word after : List ℕ) (n m : ℕ) → nat_eq (length text) 0 ≡ false → n ≡ prefix_len is_blank line → text ≡ drop n line
+pub word_answer : (line text word after : List ℕ) (m : ℕ) → nat_eq (length text) 0 ≡ false → text ≡ skip is_blank line
     → m ≡ position_or_len is_blank text → word ≡ take m text → after ≡ drop m text → words line ≡ word ∷ words after
-word_answer line text word after n m filled blanks is_text place is_word is_after =
-    let skipped : text ≡ skip is_blank line = is_text ∙ ap (λ k. drop k line) blanks ∙ run_behind is_blank line in
+word_answer line text word after m filled skipped place is_word is_after =
     next_word line text skipped (is_filled_list text filled)
-    ∙ ap (λ k. take k text ∷ words (drop k text)) (sym place) ∙ ap (λ w. w ∷ words (drop m text)) (sym is_word) ∙ ap (λ t. word ∷ words t) (sym is_after)
+    ∙ ap (λ k. take k text ∷ words (drop k text)) (sym place)
+    ∙ ap (λ w. w ∷ words (drop m text)) (sym is_word)
+    ∙ ap (λ t. word ∷ words t) (sym is_after)
 
-pub none_answer : (line text : List ℕ) (n : ℕ) → nat_eq (length text) 0 ≡ true → n ≡ prefix_len is_blank line → text ≡ drop n line → words line ≡ []
-none_answer line text n empty blanks is_text =
-    no_word line text (is_text ∙ ap (λ k. drop k line) blanks ∙ run_behind is_blank line) (is_empty text empty)
+pub behind_answer : (line text after : List ℕ) (m : ℕ) → text ≡ skip is_blank line → m ≡ position_or_len is_blank text → after ≡ drop m text
+    → after ≡ behind_word line
+behind_answer line text after m skipped place is_after =
+    is_after ∙ ap (λ k. drop k text) place ∙ run_behind (λ b. not (is_blank b)) text ∙ ap (skip (λ b. not (is_blank b))) skipped
 
-pub shorter_answer : (line text after : List ℕ) (n m : ℕ) → nat_eq (length text) 0 ≡ false → n ≡ prefix_len is_blank line → text ≡ drop n line
-    → m ≡ position_or_len is_blank text → m ≤ length text → after ≡ drop m text → length after < length line
-shorter_answer line text after n m filled blanks is_text place within is_after =
-    let skipped : text ≡ skip is_blank line = is_text ∙ ap (λ k. drop k line) blanks ∙ run_behind is_blank line in
+pub none_answer : (line text : List ℕ) → nat_eq (length text) 0 ≡ true → text ≡ skip is_blank line → words line ≡ []
+none_answer line text empty skipped = no_word line text skipped (is_empty text empty)
+
+pub shorter_answer : (line text after : List ℕ) (m : ℕ) → nat_eq (length text) 0 ≡ false → text ≡ skip is_blank line
+    → m ≡ position_or_len is_blank text → m ≤ length text → after ≡ drop m text → length text ≤ length line → length after < length line
+shorter_answer line text after m filled skipped place within is_after no_longer =
     let some : 0 < position_or_len is_blank text = word_some line text skipped (is_filled_list text filled) in
-    omega (arith, ap length is_after, ap length is_text, length-drop m text, length-drop n line)
+    omega (arith, ap length is_after, length-drop m text)

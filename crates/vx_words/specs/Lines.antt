@@ -1,5 +1,5 @@
 -- How a text is cut into lines, and a line into words.
-use Rattle.std.specs.Prelude.{ℕ, ◌-◌, List, [], ◌∷◌, length, take, map, filter, slice_index, Bool, true, false, ◌||◌, ◌==◌, if◌then◌else◌}
+use Rattle.std.specs.Prelude.{ℕ, ◌-◌, List, [], ◌∷◌, length, take, map, filter, slice_index, Bool, true, false, not, ◌||◌, ◌==◌, if◌then◌else◌}
 
 -- an item in front of the first part
 abbrev pub with_first : {A : Type 0} → A → List (List A) → List (List A)
@@ -39,3 +39,7 @@ is_filled (b ∷ bs) = true
 -- the words of a line: what stands between blanks
 abbrev pub words : List ℕ → List (List ℕ)
 words line = filter is_filled (parts is_blank line)
+
+-- what stands behind the first word of a line
+abbrev pub behind_word : List ℕ → List ℕ
+behind_word line = skip (λ b. not (is_blank b)) (skip is_blank line)

@@ -5,7 +5,7 @@ mod decimal;
 mod lines;
 
 pub use decimal::decimal_up_to;
-pub use lines::{is_blank, next_line, next_word};
+pub use lines::{is_blank, next_line, next_word, skip_blanks};
 
 #[cfg(test)]
 mod tests {

@@ -2,7 +2,7 @@
 
 ghost use Rattle.std.specs.Prelude.{◌≡◌, ◌∷◌, [], ◌<◌, ◌≤◌, ◌+◌, length, IfSome, IsNone, ◌↔◌, drop, not, take_while};
 ghost use Rattle.std.specs.List.{prefix_len, position_or_len};
-ghost use Rattle.vx_words.specs.Lines.{lines, words, is_blank, is_line_feed, without_return, skip};
+ghost use Rattle.vx_words.specs.Lines.{lines, words, is_blank, is_line_feed, without_return, skip, behind_word};
 
 /// Whether a byte is a blank: a space or a tab.
 pub fn is_blank(byte: u8) -> bool
@@ -72,13 +72,24 @@ pub fn next_line(text: &[u8]) -> Option<(&[u8], &[u8])>
     Some((without_return(line), behind_first(rest)))
 }
 
+/// What stands behind the blanks in front of a text.
+#[tactic(auto, using(crate::proofs::Parts::run_behind))]
+pub fn skip_blanks(text: &[u8]) -> &[u8]
+    ensures value { result.now ≡ skip is_blank text.now }
+    ensures within { length result.now ≤ length text.now }
+{
+    let (_, rest) = text.split_at(blanks_in_front(text));
+    rest
+}
+
 /// The first word of a line and what stands behind it, or `None` where there is no word.
 pub fn next_word(line: &[u8]) -> Option<(&[u8], &[u8])>
     ensures none { IsNone result ↔ (words line.now ≡ []) }
     ensures some { IfSome result (λ r. words line.now ≡ r.0.now ∷ words r.1.now) }
+    ensures behind { IfSome result (λ r. r.1.now ≡ behind_word line.now) }
     ensures shorter { IfSome result (λ r. length r.1.now < length line.now) }
 {
-    let (_, text) = line.split_at(blanks_in_front(line));
+    let text = skip_blanks(line);
     if text.is_empty() {
         return None;
     }
