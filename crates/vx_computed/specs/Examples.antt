@@ -8,7 +8,7 @@ use Rattle.vx_java.specs.Returns.{max_stack}
 use Rattle.vx_java.specs.Step.{Config, run, start, steps, trace}
 use Rattle.vx_link.specs.Faults.{OptionPlace}
 use Rattle.vx_link.specs.Linked.{linked_program}
-use Rattle.vx_link.specs.Written.{Item, WrittenCatch, WrittenClass, WrittenMethod, body, class_file}
+use Rattle.vx_link.specs.Written.{Item, WrittenCatch, WrittenClass, WrittenMethod, body, class_file, nothing}
 use Rattle.vx_link.specs.declared.fault.LinkFault.{LinkFault}
 use Rattle.vx_link.specs.declared.program.Program.{Program}
 use Rattle.vx_value.specs.declared.end.End.{End}
@@ -20,6 +20,10 @@ use Rattle.vx_value.specs.declared.end.Stream.TheVariants.{Out}
 abbrev pub coded : ℕ → (name descriptor : String) → (max_stack max_locals : ℕ) → List Item → List WrittenCatch → WrittenMethod
 coded flags name descriptor max_stack max_locals items catches =
     record { name = name; descriptor = descriptor; flags = flags; how = body max_stack max_locals items catches }
+
+-- a method without code, by its flags
+abbrev pub uncoded : ℕ → (name descriptor : String) → WrittenMethod
+uncoded flags name descriptor = record { name = name; descriptor = descriptor; flags = flags; how = nothing }
 
 -- an option with its field in Main
 abbrev pub option : String → OptionPlace

@@ -4,9 +4,9 @@ use Rattle.vx_java.specs.FirstObjects.{units_of}
 use Rattle.vx_java.specs.Library.{signed_value}
 use Rattle.vx_java.specs.Machine.{Int, Long, Null, Value}
 use Rattle.vx_java.specs.Operation.{operation_of}
-use Rattle.vx_java.specs.StackForms.{lower, values_reordered, upper, words}
+use Rattle.vx_java.specs.StackForms.{lower, upper, values_reordered, words}
 use Rattle.vx_java.specs.Step.{utf8_of}
-use Rattle.vx_java.specs.Texts.{text_difference, hash_of, place_of, reversed_onto}
+use Rattle.vx_java.specs.Texts.{hash_of, place_of, reversed_onto, text_difference}
 use Rattle.vx_java.specs.declared.operation.Operation.{Operation}
 use Rattle.vx_java.specs.declared.operation.Operation.TheVariants.{Goto, Increase, Load, NewPrimitives, Refuse, SwitchTable}
 use Rattle.vx_java.specs.declared.operation.Shuffle.{Shuffle}

@@ -3,6 +3,7 @@
 #![tactic(auto)]
 
 mod branches;
+mod edges;
 mod exceptions;
 mod initialisers;
 mod links;
@@ -14,6 +15,7 @@ mod straight;
 mod values;
 
 pub use branches::branching_runs;
+pub use edges::edge_runs;
 pub use exceptions::throwing_runs;
 pub use initialisers::initialising_runs;
 pub use links::link_faults;
