@@ -1,0 +1,5 @@
+pub mod Cuts
+pub mod Known
+pub mod Numbers
+pub mod Orders
+pub mod Texts

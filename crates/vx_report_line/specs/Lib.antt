@@ -1,0 +1,5 @@
+pub mod Falls
+pub mod Forms
+pub mod LineEnds
+pub mod Parsing
+pub mod Tables
