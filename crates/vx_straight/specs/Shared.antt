@@ -2,7 +2,7 @@
 use Rattle.std.specs.Prelude.{ℕ, ℤ, Bool, List, map, reverse}
 use Rattle.std.specs.List.{flat_map}
 use Rattle.std.proofs.Common.{Bor}
-use Rattle.vx_straight.specs.declared.first_model.OptionLine.{OptionLine}
+use Rattle.vx_straight.specs.declared.model.OptionLine.{OptionLine}
 use Rattle.vx_straight.specs.FirstModel.{OptionField}
 use Rattle.vx_value.specs.declared.end.Stream.{Stream}
 use Rattle.vx_straight.specs.declared.runs.Findings.{Findings}

@@ -4,7 +4,7 @@
 
 pub mod attempt;
 pub mod first_class;
-pub mod first_model;
+pub mod model;
 pub mod names;
 pub mod operand;
 pub mod program;
@@ -14,7 +14,7 @@ pub mod step;
 pub mod walk;
 
 pub use first_class::program_of;
-pub use first_model::OptionLine;
+pub use model::{OptionLine, first_model, slash};
 pub use operand::{Line, Operand};
 pub use program::{Located, Program};
 pub use reporting::report_runs;

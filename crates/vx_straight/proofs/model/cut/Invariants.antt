@@ -1,7 +1,7 @@
 use Rattle.std.proofs.Common.{◌≡◌, take, drop}
 use Rattle.vx_straight.specs.FirstModel.{cut}
 use Rattle.vx_straight.proofs.Cuts.{behind}
-use Rattle.vx_straight.proofs.first_model.cut.Given as goal
+use Rattle.vx_straight.proofs.model.cut.Given as goal
 
 -- no such byte stands among those so far
 abbrev pub invariant-loop-i : goal.invariant-loop-i

@@ -57,7 +57,8 @@ fn is_name(name: &[u8]) -> bool
         && name != b"false".as_slice()
 }
 
-fn slash(byte: u8) -> u8
+/// A byte of a name of a class, with `/` for `.`.
+pub fn slash(byte: u8) -> u8
     ensures { result ≡ (if byte == 46 then 47 else byte) }
 {
     if byte == b'.' { b'/' } else { byte }

@@ -1,6 +1,6 @@
 use Rattle.std.proofs.Common.{sym}
 use Rattle.vx_straight.proofs.Cuts.{found, passed, not_found}
-use Rattle.vx_straight.proofs.first_model.cut.Goals as goal
+use Rattle.vx_straight.proofs.model.cut.Goals as goal
 
 pub returns-then-text-i : goal.returns-then-text-i
 returns-then-text-i c = sym (found c.args.mark c.args.text.now _ c.loop-i.i c.loop-i-test.true c.if-text-i.true c.loop-i.invariant)

@@ -1,7 +1,7 @@
 use Rattle.std.proofs.Common.{◌≡◌, length}
 use Rattle.std.specs.Str.{bytes_eq}
 use Rattle.vx_straight.specs.FirstModel.{slashed}
-use Rattle.vx_straight.proofs.first_model.are_same_class.Given as goal
+use Rattle.vx_straight.proofs.model.are_same_class.Given as goal
 
 -- it hangs on what is left
 abbrev pub invariant-loop-left : goal.invariant-loop-left

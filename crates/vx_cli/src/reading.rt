@@ -1,0 +1,154 @@
+//! What `run` reads: the model, the folder, its class files. Each stage is proved against its part of the plan.
+
+ghost use Rattle.std.specs.Prelude.{◌≡◌, ◌<◌, ◌^◌, ℕ, List, map, string_bytes, IfOk, IfErr, MatchResult, Ok, [], ◌⊎◌};
+ghost use Rattle.vx_class.specs.declared.class_file.ClassFile.{ClassFile};
+ghost use Rattle.vx_cli.specs.Plan.{Plan, Leads, MayStop};
+ghost use Rattle.vx_cli.specs.Run.{read_sized, read_checked, read_classes, list_classes, class_in, place_of, class_paths};
+ghost use Rattle.vx_cli.specs.KeepsFiles.{KeepsFiles};
+
+use crate::job::is_class_file;
+use crate::status::Status;
+use std::alloc::{AllocError, Global};
+use vx_class::{ClassFault, ClassFile, read_class};
+use vx_io::{FileFault, Files};
+use vx_value::Name;
+
+/// The most bytes of a model or a class file.
+pub const MOST_BYTES: u64 = 1_048_576;
+
+/// The most class files of a folder.
+const MOST_CLASSES: usize = 1_024;
+
+/// Reads a file for which there is so much room, and which statuses show by the path `shown`.
+pub fn read_file<F: Files>(
+    alloc: Global,
+    files: &mut F,
+    room: u64,
+    place: &str,
+    shown: &str,
+) -> Result<Vec<u8>, Status>
+    requires { room < 2 ^ 63 }
+    ensures ok { IfOk result (λ bytes. (next : List ℕ → Plan) →
+        Leads (F.seen files.old).held (read_sized room place.now shown.now next) (next bytes.items)) }
+    ensures err { IfErr result (λ status. (next : List ℕ → Plan) →
+        MayStop (F.seen files.old) (F.seen files.new) (read_sized room place.now shown.now next) status) }
+    ensures keeps { KeepsFiles (F.seen files.old) (F.seen files.new) }
+{
+    match files.read(place, room + 1) {
+        Ok(bytes) => {
+            if bytes.len() as u64 > room {
+                let path = Name::of(alloc, shown.as_bytes())?;
+                return Err(Status::TooLarge { path, room });
+            }
+            Ok(bytes)
+        }
+        Err(FileFault::NoMemory) => Err(Status::NoMemory),
+        Err(FileFault::Failed) => {
+            let path = Name::of(alloc, shown.as_bytes())?;
+            Err(Status::ReadFault { path })
+        }
+    }
+}
+
+/// Keeps the paths of class files.
+fn keep_class_files(paths: &mut Vec<String>)
+    ensures { map string_bytes paths.new.items ≡ class_paths (map string_bytes paths.old.items) }
+{
+    paths.retain(|path| is_class_file(path.as_str()));
+}
+
+/// The class files below a folder, relative to it and ascending.
+pub fn list_class_files<F: Files>(
+    alloc: Global,
+    files: &mut F,
+    folder: &str,
+) -> Result<Vec<String>, Status>
+    ensures ok { IfOk result (λ paths. (next : List (List ℕ) → Plan) →
+        Leads (F.seen files.old).held (list_classes folder.now next) (next (map string_bytes paths.items))) }
+    ensures err { IfErr result (λ status. (next : List (List ℕ) → Plan) →
+        MayStop (F.seen files.old) (F.seen files.new) (list_classes folder.now next) status) }
+    ensures keeps { KeepsFiles (F.seen files.old) (F.seen files.new) }
+{
+    match files.list(folder) {
+        Ok(mut paths) => {
+            keep_class_files(&mut paths);
+            if paths.len() > MOST_CLASSES {
+                let path = Name::of(alloc, folder.as_bytes())?;
+                return Err(Status::TooLarge {
+                    path,
+                    room: MOST_CLASSES as u64,
+                });
+            }
+            Ok(paths)
+        }
+        Err(FileFault::NoMemory) => Err(Status::NoMemory),
+        Err(FileFault::Failed) => {
+            let path = Name::of(alloc, folder.as_bytes())?;
+            Err(Status::ReadFault { path })
+        }
+    }
+}
+
+/// The path of a file below a folder.
+fn place_below(alloc: Global, folder: &str, path: &str) -> Result<String, AllocError>
+    ensures { IfOk result (λ place. string_bytes place ≡ place_of folder.now path.now) }
+{
+    let mut place = String::from_str(alloc, folder)?;
+    place.push('/')?;
+    place.push_str(path)?;
+    Ok(place)
+}
+
+/// The class that a file spells, or the refusal by its path.
+fn class_in(alloc: Global, path: &str, bytes: &[u8]) -> Result<ClassFile, Status>
+    ensures { MatchResult result (λ class. class_in path.now bytes.now ≡ Ok class)
+        (λ status. (status ≡ Status.NoMemory) ⊎ (class_in path.now bytes.now ≡ Err status)) }
+{
+    match read_class(alloc, bytes) {
+        Ok(class) => Ok(class),
+        Err(ClassFault::NoMemory) => Err(Status::NoMemory),
+        Err(ClassFault::Bad { at, reason }) => {
+            let path = Name::of(alloc, path.as_bytes())?;
+            Err(Status::BadClass { path, at, reason })
+        }
+    }
+}
+
+/// Reads a class file.
+fn read_class_file<F: Files>(
+    alloc: Global,
+    files: &mut F,
+    folder: &str,
+    path: &str,
+) -> Result<ClassFile, Status>
+    ensures ok { IfOk result (λ class. (next : ClassFile → Plan) →
+        Leads (F.seen files.old).held (read_checked folder.now path.now next) (next class)) }
+    ensures err { IfErr result (λ status. (next : ClassFile → Plan) →
+        MayStop (F.seen files.old) (F.seen files.new) (read_checked folder.now path.now next) status) }
+    ensures keeps { KeepsFiles (F.seen files.old) (F.seen files.new) }
+{
+    let place = place_below(alloc, folder, path)?;
+    let bytes = read_file(alloc, files, MOST_BYTES, place.as_str(), path)?;
+    class_in(alloc, path, bytes.as_slice())
+}
+
+/// Reads the class files at these paths below a folder.
+pub fn read_class_files<F: Files>(
+    alloc: Global,
+    files: &mut F,
+    folder: &str,
+    paths: &[String],
+) -> Result<Vec<ClassFile>, Status>
+    ensures ok { IfOk result (λ classes. (next : List ClassFile → Plan) →
+        Leads (F.seen files.old).held (read_classes folder.now next [] (map string_bytes paths.now)) (next classes.items)) }
+    ensures err { IfErr result (λ status. (next : List ClassFile → Plan) →
+        MayStop (F.seen files.old) (F.seen files.new) (read_classes folder.now next [] (map string_bytes paths.now)) status) }
+    ensures keeps { KeepsFiles (F.seen files.old) (F.seen files.new) }
+{
+    let mut classes = Vec::new(alloc);
+    for path in paths {
+        let class = read_class_file(alloc, files, folder, path.as_str())?;
+        classes.push(class)?;
+    }
+    Ok(classes)
+}
