@@ -1,3 +1,5 @@
 pub mod Took
+pub mod Among
 pub mod ClassTook
-pub mod Holding
+pub mod CodeReads
+pub mod ClassReads

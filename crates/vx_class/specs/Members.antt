@@ -54,13 +54,13 @@ abbrev pub is_literal : Option Entry → Bool
 is_literal (Some (entry.Text i)) = true
 is_literal _ = false
 
--- the kind of entry that a constant of a type has
+abbrev pub fits_type : List ℕ → Option Entry → Option JavaType → Bool
+fits_type descriptor e None = false
+fits_type descriptor e (Some t) = (t.dimensions == 0 && is_number_for t.base e) || (is_literal e && bytes_eq descriptor (codes "Ljava/lang/String;"))
+
+-- the kind of entry that a constant of a descriptor's type has
 abbrev pub is_constant_for : List ℕ → Option Entry → Bool
-is_constant_for descriptor e = fits (field_type descriptor)
-  where
-    fits : Option JavaType → Bool
-    fits None = false
-    fits (Some t) = (t.dimensions == 0 && is_number_for t.base e) || (is_literal e && bytes_eq descriptor (codes "Ljava/lang/String;"))
+is_constant_for descriptor e = fits_type descriptor e (field_type descriptor)
 
 -- the constant of a field, where none was found before
 unfoldable pub constant_at : Pool → List ℕ → Option ℕ → ℕ → Place → Read (Option ℕ)

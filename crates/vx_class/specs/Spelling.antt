@@ -1,5 +1,5 @@
 -- The bytes of a class file: its parts one after the other, with any skipped attributes between.
-use Rattle.std.specs.Prelude.{◌≡◌, ℕ, List, [], ◌∷◌, ◌++◌, length, filter, is_some, Bool, true, Option, Some, None, unwrap_or, ◌&&◌, ◌||◌, codes}
+use Rattle.std.specs.Prelude.{◌≡◌, ℕ, zero, suc, ◌^◌, ◌<◌, List, [], ◌∷◌, ◌++◌, length, filter, is_some, Bool, true, Option, Some, None, unwrap_or, ◌&&◌, ◌||◌, codes}
 use Rattle.std.specs.List.{flat_map, AllByRecursion}
 use Rattle.byteorder.specs.Endian.{big_bytes}
 use Rattle.vx_pool.specs.declared.pool.Pool.{Pool}
@@ -30,12 +30,13 @@ attribute_bytes a = u2 a.name ++ (u4 (length a.content) ++ a.content)
 abbrev pub attributes_bytes : List Attribute → List ℕ
 attributes_bytes attributes = u2 (length attributes) ++ flat_map attribute_bytes attributes
 
--- the names of attributes are texts
-abbrev pub IsNamed : Pool → Attribute → Type 0
-IsNamed pool a = is_some (text pool a.name) ≡ true
+-- an attribute of a file: its name is a text, and its length has four bytes
+abbrev pub IsAttribute : Pool → Attribute → Type 0
+IsAttribute pool a = (is_some (text pool a.name) ≡ true) × (length a.content < 256 ^ 4)
 
-abbrev pub AreNamed : Pool → List Attribute → Type 0
-AreNamed pool attributes = AllByRecursion (IsNamed pool) attributes
+pub record AreAttributes (pool : Pool) (attributes : List Attribute) : Type 0 where
+  pub few : length attributes < 256 ^ 2
+  pub each : AllByRecursion (IsAttribute pool) attributes
 
 -- what the one attribute of a kind says; Holds says what its content means
 abbrev pub One : {B : Type 0} → (B → List ℕ → Type 0) → List Attribute → Option B → Type 0
@@ -74,22 +75,25 @@ abbrev pub is_code : Pool → Attribute → Bool
 is_code pool a = is_text_of pool a.name (codes "Code")
 
 abbrev pub IsCode : Pool → Code → List ℕ → Type 0
-IsCode pool code content = (skipped : List Attribute) × AreNamed pool skipped × (content ≡ code_bytes code skipped)
+IsCode pool code content = (skipped : List Attribute) × AreAttributes pool skipped × (content ≡ code_bytes code skipped)
+
+-- 0 stands for no constant
+abbrev pub constant_of : ℕ → Option ℕ
+constant_of zero = None
+constant_of (suc n) = Some (suc n)
 
 abbrev pub FieldSpells : Pool → Bool → Field → List ℕ → Type 0
 FieldSpells pool interface f bytes =
     (attributes : List Attribute)
     × (bytes ≡ member_bytes f.flags f.name f.descriptor attributes)
-    × AreNamed pool attributes
-    × (constant : Option ℕ)
-    × IsOneAmong (is_constant pool (interface || has f.flags STATIC)) IsConstant attributes constant
-    × (f.constant ≡ unwrap_or constant 0)
+    × AreAttributes pool attributes
+    × IsOneAmong (is_constant pool (interface || has f.flags STATIC)) IsConstant attributes (constant_of f.constant)
 
 abbrev pub MethodSpells : Pool → Method → List ℕ → Type 0
 MethodSpells pool m bytes =
     (attributes : List Attribute)
     × (bytes ≡ member_bytes m.flags m.name m.descriptor attributes)
-    × AreNamed pool attributes
+    × AreAttributes pool attributes
     × IsOneAmong (is_code pool) (IsCode pool) attributes m.code
 
 -- items one after the other
@@ -107,7 +111,7 @@ pub record Spells (bytes : List ℕ) (c : ClassFile) : Type 0 where
   pub fields : List ℕ
   pub methods : List ℕ
   pub skipped : List Attribute
-  pub named : AreNamed c.pool skipped
+  pub are_skipped : AreAttributes c.pool skipped
   pub are_fields : AllSpell (FieldSpells c.pool (has c.flags INTERFACE)) c.fields fields
   pub are_methods : AllSpell (MethodSpells c.pool) c.methods methods
   pub parts : bytes ≡

@@ -1,8 +1,9 @@
-//! What a class file says.
+//! What a class file says (JVMS 4.1): its parts, without the attributes that are passed over.
 
 use vx_list::Items;
 use vx_pool::Pool;
 
+/// A class or interface. Names and classes are indices of the pool.
 #[derive(Debug, Drop)]
 pub struct ClassFile {
     pub minor: u16,
@@ -16,7 +17,7 @@ pub struct ClassFile {
     pub methods: Items<Method>,
 }
 
-/// A field. `constant` is the index of its constant, or 0.
+/// A field (JVMS 4.5). `constant` is the index of the constant of a static field, or 0 for none.
 #[derive(Clone, Copy, Debug, PartialEq, Eq)]
 pub struct Field {
     pub flags: u16,
@@ -25,6 +26,7 @@ pub struct Field {
     pub constant: u16,
 }
 
+/// A method (JVMS 4.6). It has code unless it is abstract or native; `<clinit>` always has.
 #[derive(Debug, Drop)]
 pub struct Method {
     pub flags: u16,
@@ -33,6 +35,7 @@ pub struct Method {
     pub code: Option<Code>,
 }
 
+/// The code of a method (JVMS 4.7.3), from 1 to 65,535 bytes.
 #[derive(Debug, Drop)]
 pub struct Code {
     pub max_stack: u16,
@@ -41,7 +44,8 @@ pub struct Code {
     pub catches: Items<Catch>,
 }
 
-/// A row of the catch table. `class` is 0 where it takes every object.
+/// A row of the exception table, for the places of the code from `start` up to `end`. `class` is 0 where it takes every
+/// object.
 #[derive(Clone, Copy, Debug, PartialEq, Eq)]
 pub struct Catch {
     pub start: u16,

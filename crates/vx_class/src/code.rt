@@ -1,4 +1,4 @@
-//! The code of a method.
+//! The code of a method (JVMS 4.7.3): its parts, then its instructions, its jumps and its catch rows.
 
 ghost use Rattle.std.specs.Prelude.{◌≡◌, ◌+◌, ◌*◌, ◌^◌, ◌<◌, ◌≤◌, List, length, IfOk, OnOk, Ok};
 ghost use Rattle.vx_reading.specs.Reading.{Gives, GivesBy, Answers, steps, items};

@@ -1,4 +1,4 @@
-//! Fields and methods.
+//! Fields (JVMS 4.5), the constants of static ones, and what fields and methods share.
 
 ghost use Rattle.std.specs.Prelude.{◌≡◌, ◌+◌, ◌^◌, ◌<◌, ◌≤◌, List, length, None, false, [], IfOk};
 ghost use Rattle.std.specs.List.{list_any};
@@ -8,24 +8,18 @@ ghost use Rattle.vx_desc.specs.Descriptors.{is_field_descriptor, is_method_descr
 ghost use Rattle.vx_code.specs.Lookups.{entry_of};
 ghost use Rattle.vx_class.specs.Members.{has, is_number_for, is_constant_for, constant_at, field_attribute_at, constant_among, code_among, lawful_at, is_text_of, is_same, field_at, fields_at, method_attribute_at, is_static, takes_code, slots_of, is_lawful_initialiser, method_at, methods_at};
 
-use crate::class_file::{Code, Field, Method};
-use crate::code::{content, read_code, utf8};
-use std::alloc::{AllocError, Global};
+use crate::class_file::Field;
+use crate::code::{content, utf8};
+use std::alloc::Global;
 use vx_code::{entry_of, is_usable, text};
-use vx_desc::{
-    Base, JavaType, field_type, is_clinit, is_field_descriptor, is_field_name, is_init,
-    is_method_name, method_slots, returns_nothing,
-};
+use vx_desc::{Base, field_type, is_field_descriptor, is_field_name};
 use vx_list::Items;
 use vx_pool::{ClassFault, Cursor, Entry, Pool};
 use vx_reading::refusal;
 
 const STATIC: u16 = 0x0008;
 
-const NATIVE: u16 = 0x0100;
-
-const ABSTRACT: u16 = 0x0400;
-
+/// Whether an access flag is set.
 pub fn has(flags: u16, flag: u16) -> bool
     ensures { result ≡ has flags flag }
 {

@@ -1,4 +1,4 @@
-//! Methods.
+//! Methods (JVMS 4.6).
 
 ghost use Rattle.std.specs.Prelude.{◌≡◌, ◌+◌, ◌^◌, ◌<◌, ◌≤◌, List, length, is_some, option_map, unwrap_or, None, [], IfOk};
 ghost use Rattle.std.specs.List.{list_any};
@@ -11,7 +11,9 @@ use crate::class_file::{Code, Method};
 use crate::code::{content, read_code, utf8};
 use crate::members::{has, is_same};
 use std::alloc::{AllocError, Global};
-use vx_desc::{is_clinit, is_init, is_method_name, method_slots, returns_nothing};
+use vx_desc::{
+    is_clinit, is_init, is_method_descriptor, is_method_name, method_slots, returns_nothing,
+};
 use vx_list::Items;
 use vx_pool::{ClassFault, Cursor, Pool};
 use vx_reading::refusal;
@@ -32,13 +34,6 @@ fn method_name<'p>(pool: &'p Pool, cursor: &mut Cursor) -> Result<(u16, &'p [u8]
         return refusal(at, 7);
     }
     Ok((index, name))
-}
-
-fn is_method_descriptor(alloc: Global, bytes: &[u8]) -> Result<bool, AllocError>
-    requires { length bytes.now < 2 ^ 16 }
-    ensures { IfOk result (λ b. b ≡ is_method_descriptor bytes.now) }
-{
-    Ok(method_slots(alloc, bytes)?.is_some())
 }
 
 #[tactic(auto, unfolding(crate::specs::Members::lawful_at))]

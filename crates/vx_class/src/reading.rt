@@ -1,9 +1,10 @@
-//! Reading class files.
+//! Reading class files (JVMS 4.1), from the front to the back.
 
 ghost use Rattle.std.specs.Prelude.{◌≡◌, ◌+◌, ◌^◌, ◌<◌, ◌≤◌, List, length, sum_by, [], IfOk, OnOk};
-ghost use Rattle.vx_reading.specs.Reading.{Gives, GivesBy, Answers, items};
+ghost use Rattle.vx_reading.specs.Reading.{Gives, GivesBy, Answers, IsReadAs, items};
 ghost use Rattle.vx_pool.specs.Pool.{size};
-ghost use Rattle.vx_class.specs.Spelling.{Spells};
+ghost use Rattle.vx_class.specs.File.{File};
+ghost use Rattle.vx_class.specs.declared.class_file.ClassFile.{ClassFile};
 ghost use Rattle.vx_class.specs.Class.{versions_at, checked_pool_at, interface_at, class_at, interfaces_at, head_at, file_at, class_of};
 
 use crate::class_file::ClassFile;
@@ -175,11 +176,16 @@ fn whole(alloc: Global, bytes: &[u8]) -> Result<ClassFile, ClassFault>
     file(alloc, &mut cursor)
 }
 
-/// The class that a file holds, or the first check that fails.
+/// The class that the bytes of a file hold (JVMS 4, major versions 45 to 52), or the place and the reason of the first
+/// check that fails, in the order of `class_of`.
 pub fn read_class(alloc: Global, bytes: &[u8]) -> Result<ClassFile, ClassFault>
     ensures exact { Answers result (class_of bytes.now) }
-    // What is read is spelled so, each byte of it.
-    ensures found { IfOk result (λ c. Spells bytes.now c) }
+    // The bytes hold the class that is read.
+    ensures found { IfOk result (λ c. File bytes.now c) }
+    // A class that the bytes hold is read.
+    ensures only { (c : ClassFile) → File bytes.now c → IsReadAs c result }
+    // They hold one class at most.
+    ensures one { (c d : ClassFile) → File bytes.now c → File bytes.now d → c ≡ d }
 {
     whole(alloc, bytes)
 }

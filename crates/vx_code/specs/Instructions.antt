@@ -1,5 +1,5 @@
 -- The checks of a method's instructions.
-use Rattle.std.specs.Prelude.{ℕ, zero, suc, ◌+◌, ◌-◌, ◌*◌, ◌%◌, ℤ, pos, negsuc, ◌+ℤ◌, List, [], ◌∷◌, ◌++◌, length, take_while, Bool, true, false, Option, Some, None, Result, Ok, is_some, option_and_then, not, nat_lt, nat_le, ◌==◌, ◌&&◌, ◌||◌, slice_index, int_le, int_lt, if◌then◌else◌}
+use Rattle.std.specs.Prelude.{◌≡◌, IsTrue, ℕ, zero, suc, ◌+◌, ◌-◌, ◌*◌, ◌%◌, ℤ, pos, negsuc, ◌+ℤ◌, List, [], ◌∷◌, ◌++◌, length, take_while, Bool, true, false, Option, Some, None, Result, Ok, is_some, option_and_then, not, nat_lt, nat_le, ◌==◌, ◌&&◌, ◌||◌, slice_index, int_le, int_lt, if◌then◌else◌}
 use Rattle.std.specs.List.{list_any}
 use Rattle.vx_pool.specs.declared.pool.Entry.{Entry}
 use Rattle.vx_pool.specs.declared.pool.Entry.TheVariants as entry
@@ -13,7 +13,7 @@ use Rattle.vx_opcode.specs.declared.instruction.Operand.TheVariants as operand
 use Rattle.vx_opcode.specs.Numbers.{s4}
 use Rattle.vx_opcode.specs.Decode.{count, instruction_at}
 use Rattle.vx_code.specs.Lookups.{entry_of, class, is_field, is_method, is_interface_method, is_invoke_dynamic, class_text, member_name, member_descriptor, is_array}
-use Rattle.vx_code.specs.Checks.{first_failing, each}
+use Rattle.vx_code.specs.Checks.{first_failing, each, all_hold}
 use Rattle.vx_code.specs.Entries.{where_read, usable}
 
 abbrev pub between : ℕ → ℕ → ℕ → Bool
@@ -117,13 +117,13 @@ operand_checks pool major max_locals op o = (local_fits max_locals op o, 5) ∷ 
 
 -- ---- a walk over the code, whose first byte stands at base
 
--- where_whole: the instruction at a place
+abbrev pub given : ℕ → Option Instruction → Result Instruction Fault
+given at None = refuse at 10
+given at (Some i) = Ok i
+
+-- the instruction at a place
 abbrev pub whole_at : List ℕ → ℕ → ℕ → Result Instruction Fault
-whole_at code base at = given (instruction_at code at)
-  where
-    given : Option Instruction → Result Instruction Fault
-    given None = refuse (base + at) 10
-    given (Some i) = Ok i
+whole_at code base at = given (base + at) (instruction_at code at)
 
 -- the instruction at a place, which meets its checks but for its jumps
 unfoldable pub checked_at : Pool → ℕ → ℕ → List ℕ → ℕ → ℕ → Result Instruction Fault
@@ -175,3 +175,20 @@ jumps_at starts code base at = whole_at code base at >>= λ i. first_failing (ba
 
 abbrev pub jumps_checked : List ℕ → List ℕ → ℕ → Result (Unit {0}) Fault
 jumps_checked starts code base = each (λ at _. jumps_at starts code base at) (λ _. 0) starts 0
+
+-- ---- code whose instructions meet their checks
+
+-- instructions one after the other, from a place to the end of the code
+abbrev pub AreInstructions : List ℕ → ℕ → List ℕ → Type 0
+AreInstructions code at [] = at ≡ length code
+AreInstructions code at (start ∷ others) =
+    (start ≡ at) × (i : Instruction) × (instruction_at code at ≡ Some i) × AreInstructions code (at + i.length) others
+
+-- the instruction at a place meets its checks but for its jumps
+abbrev pub OperandHolds : Pool → ℕ → ℕ → List ℕ → ℕ → Type 0
+OperandHolds pool major max_locals code at =
+    (i : Instruction) × (instruction_at code at ≡ Some i) × IsTrue (all_hold (operand_checks pool major max_locals i.opcode i.operand))
+
+-- the jumps of the instruction at a place lead to instructions, and a switch is in order
+abbrev pub JumpsHold : List ℕ → List ℕ → ℕ → Type 0
+JumpsHold starts code at = (i : Instruction) × (instruction_at code at ≡ Some i) × IsTrue (all_hold (jump_checks starts code at i.operand))

@@ -3,3 +3,4 @@ pub mod Checks
 pub mod Entries
 pub mod Instructions
 pub mod Loops
+pub mod Holding

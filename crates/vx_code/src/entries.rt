@@ -1,4 +1,4 @@
-//! The checks of the pool's entries.
+//! The checks of the pool's entries (JVMS 4.4): what each names, in the order in which a class file is checked.
 
 ghost use Rattle.std.specs.Prelude.{◌≡◌, ◌+◌, ◌^◌, ◌<◌, ◌&&◌, Err, length, is_some, sum_by, IfOk, true, false, Bool, Option, None};
 ghost use Rattle.vx_reading.specs.Reading.{Answers};
@@ -13,17 +13,10 @@ ghost use Rattle.vx_code.specs.Checks.{first_failing};
 use crate::lookups::{
     is_class, is_class_text, is_name_and_type, is_usable, member_descriptor, member_name, text,
 };
-use std::alloc::{AllocError, Global};
-use vx_desc::{is_field_descriptor, is_field_name, is_method_name, method_slots};
+use std::alloc::Global;
+use vx_desc::{is_field_descriptor, is_field_name, is_method_descriptor, is_method_name};
 use vx_pool::{ClassFault, Entry, Pool};
 use vx_reading::refusal;
-
-fn is_method_descriptor(alloc: Global, bytes: &[u8]) -> Result<bool, AllocError>
-    requires { length bytes.now < 2 ^ 16 }
-    ensures { IfOk result (λ b. b ≡ is_method_descriptor bytes.now) }
-{
-    Ok(method_slots(alloc, bytes)?.is_some())
-}
 
 fn class_entry(pool: &Pool, index: u16, at: u64) -> Result<(), ClassFault>
     ensures { Answers result (first_failing at (checks_of pool.now (Class index))) }

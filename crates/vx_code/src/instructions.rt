@@ -1,4 +1,4 @@
-//! The checks of a method's instructions.
+//! The checks of a method's instructions (JVMS 4.9.1): whole ones, and what their operands name.
 
 ghost use Rattle.std.specs.Prelude.{◌≡◌, ◌+◌, ◌*◌, ◌^◌, ◌<◌, ◌≤◌, ◌&&◌, ◌||◌, ◌==◌, All, Err, not, length, pos, nat_le, is_some, option_and_then, IfOk, IfSome, Some, false, Bool, Option, None};
 ghost use Rattle.std.specs.Option.{option_copied};

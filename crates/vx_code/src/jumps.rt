@@ -1,4 +1,4 @@
-//! The checks of jumps and switches.
+//! The checks of jumps and switches (JVMS 4.9.1): they lead to instructions, and switches are in order.
 
 ghost use Rattle.std.specs.Prelude.{◌≡◌, ◌+◌, ◌-◌, ◌*◌, ◌^◌, ◌<◌, ◌≤◌, length, int_lt, IfOk, All};
 ghost use Rattle.vx_reading.specs.Reading.{Answers};
@@ -11,6 +11,7 @@ use crate::instructions::whole_at;
 use vx_opcode::{Operand, keys, s4};
 use vx_reading::{ClassFault, refusal};
 
+/// Whether an instruction stands at a place, where `starts` are their places.
 pub fn is_start(starts: &[u32], at: u32) -> bool
     ensures { result ≡ is_start starts.now at }
 {

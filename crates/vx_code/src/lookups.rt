@@ -1,4 +1,4 @@
-//! What an index of the pool names.
+//! What an index of the pool names (JVMS 4.4), where it names an entry of the kind that is asked for.
 
 ghost use Rattle.std.specs.Prelude.{◌≡◌, ◌^◌, ◌<◌, ◌==◌, length, slice_index, is_some, IfSome, IfOk, Some};
 ghost use Rattle.std.specs.Option.{option_copied};
@@ -7,24 +7,28 @@ ghost use Rattle.vx_code.specs.Lookups.{entry_of, is_usable, utf8, class, name_a
 use vx_desc::{is_class_name, is_field_descriptor};
 use vx_pool::{Entry, Pool};
 
+/// The entry of an index, or `None` past the last one.
 pub fn entry_of(pool: &Pool, index: u16) -> Option<&Entry>
     ensures { option_copied result ≡ entry_of pool.now index }
 {
     pool.entries.as_slice().get(index as usize)
 }
 
+/// Whether an index is in the pool and usable: neither 0 nor the second one of a `Long` or `Double`.
 pub fn is_usable(pool: &Pool, index: u16) -> bool
     ensures { result ≡ is_usable (entry_of pool.now index) }
 {
     !matches!(entry_of(pool, index), None | Some(Entry::Unusable))
 }
 
+/// Whether an index names a class entry.
 pub fn is_class(pool: &Pool, index: u16) -> bool
     ensures { result ≡ is_some (class (entry_of pool.now index)) }
 {
     matches!(entry_of(pool, index), Some(Entry::Class(_)))
 }
 
+/// Whether an index names a name and type.
 pub fn is_name_and_type(pool: &Pool, index: u16) -> bool
     ensures { result ≡ is_some (name_and_type (entry_of pool.now index)) }
 {
@@ -75,6 +79,7 @@ pub fn member_descriptor(pool: &Pool, index: u16) -> Option<&[u8]>
     }
 }
 
+/// Whether the text of a class entry is the descriptor of an array.
 pub fn is_array(name: &[u8]) -> bool
     ensures { result ≡ is_array name.now }
 {

@@ -1,4 +1,4 @@
-//! What descriptors say.
+//! What descriptors say (JVMS 4.3).
 
 ghost use Rattle.std.specs.Prelude.{◌≡◌};
 ghost use Rattle.vx_desc.specs.declared.java_type.DescFault.TheVariants.{NoMemory};
@@ -20,7 +20,8 @@ pub enum Base {
     Class,
 }
 
-/// A type. The name of a class stands in the descriptor's bytes from `from` to `end`.
+/// A type: an array of `dimensions`, from 0 to 255, over a base. The name of a class stands in the descriptor's bytes from
+/// `from` up to `end`; both are 0 for any other base.
 #[derive(Clone, Copy, Debug, PartialEq, Eq)]
 pub struct JavaType {
     pub base: Base,
@@ -29,7 +30,8 @@ pub struct JavaType {
     pub end: u32,
 }
 
-/// What a descriptor says. The type of a field stands in `result`.
+/// What a descriptor says. The type of a field stands in `result`, with no arguments; a method whose result is `V` has
+/// none.
 #[derive(Debug, Drop)]
 pub struct Descriptor {
     pub arguments: Items<JavaType>,

@@ -1,7 +1,7 @@
-//! Reading descriptors.
+//! Reading descriptors (JVMS 4.3): a field's type, or a method's arguments in `(` and `)` and its result.
 
 ghost use Rattle.std.specs.Prelude.{◌≡◌, ◌+◌, ◌<◌, ◌≤◌, ◌^◌, ◌==◌, List, IfSome, IfOk, length, take, drop, slice_index, sum_by, position, take_while};
-ghost use Rattle.vx_desc.specs.Descriptors.{base_of, element_at, type_at, types_at, result_at, slots_of, method_of, field_of, descriptor_of, HasFewSlots, is_field_descriptor, field_type, method_slots, returns_nothing, Gives};
+ghost use Rattle.vx_desc.specs.Descriptors.{base_of, element_at, type_at, types_at, result_at, slots_of, method_of, field_of, descriptor_of, HasFewSlots, is_field_descriptor, is_method_descriptor, field_type, method_slots, returns_nothing, Gives};
 
 use crate::java_type::{Base, DescFault, Descriptor, JavaType};
 use crate::names::{brackets, is_class_name, semicolon};
@@ -175,7 +175,8 @@ fn field(alloc: Global, bytes: &[u8]) -> Result<Descriptor, DescFault>
     }
 }
 
-/// What a descriptor of a field or a method says.
+/// What a descriptor of a field or a method says. It is `Bad` where the bytes are none: a type has at most 255
+/// dimensions, and a method at most 255 argument slots, the receiver not counted.
 #[tactic(auto, unfolding(crate::specs::Descriptors::descriptor_of))]
 pub fn read_descriptor(alloc: Global, bytes: &[u8]) -> Result<Descriptor, DescFault>
     requires { length bytes.now < 2 ^ 32 }
@@ -190,7 +191,7 @@ pub fn read_descriptor(alloc: Global, bytes: &[u8]) -> Result<Descriptor, DescFa
     }
 }
 
-/// The argument slots of a method, without a receiver.
+/// The argument slots of a method, without a receiver: two for a long or a double, and one for any other type.
 pub fn argument_slots(descriptor: &Descriptor) -> u16
     requires { HasFewSlots descriptor.now }
     ensures { result ≡ sum_by slots_of descriptor.now.arguments }
@@ -234,6 +235,14 @@ pub fn method_slots(alloc: Global, bytes: &[u8]) -> Result<Option<u16>, AllocErr
         Err(DescFault::Bad) => Ok(None),
         Err(DescFault::NoMemory) => Err(AllocError),
     }
+}
+
+/// Whether a text is the descriptor of a method.
+pub fn is_method_descriptor(alloc: Global, bytes: &[u8]) -> Result<bool, AllocError>
+    requires { length bytes.now < 2 ^ 32 }
+    ensures { IfOk result (λ b. b ≡ is_method_descriptor bytes.now) }
+{
+    Ok(method_slots(alloc, bytes)?.is_some())
 }
 
 /// Whether a text is the descriptor of a method without a result.

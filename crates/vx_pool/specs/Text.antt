@@ -1,4 +1,4 @@
--- Texts of the pool: modified UTF-8.
+-- Texts of the pool: modified UTF-8 (JVMS 4.4.7).
 use Rattle.std.specs.Prelude.{ℕ, List, [], ◌∷◌, Bool, true, nat_le, ◌==◌, ◌&&◌, ◌||◌, if◌then◌else◌}
 
 -- U+0001 to U+007F

@@ -1,9 +1,9 @@
-//! The constant pool.
+//! The constant pool (JVMS 4.4).
 
 use crate::utf8::Utf8;
 use vx_list::Items;
 
-/// An entry of the pool. The numbers are those of the file.
+/// An entry of the pool, by its tag. The numbers are those of the file, so they may name no entry.
 #[derive(Debug, Drop)]
 pub enum Entry {
     /// Place 0, and the second index of a `Long` or `Double`.
@@ -14,7 +14,7 @@ pub enum Entry {
     Long(i64),
     Double(u64),
     Class(u16),
-    /// A string literal.
+    /// A string literal (the tag String).
     Text(u16),
     Field(u16, u16),
     Method(u16, u16),
@@ -25,7 +25,7 @@ pub enum Entry {
     InvokeDynamic(u16, u16),
 }
 
-/// The entry of each index stands at its place.
+/// The entries in their order: the entry of an index stands at that place, and place 0 is unusable.
 #[derive(Debug, Drop)]
 pub struct Pool {
     pub entries: Items<Entry>,

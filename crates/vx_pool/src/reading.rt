@@ -1,11 +1,10 @@
-//! Reading the pool.
+//! Reading the constant pool (JVMS 4.4): a count, and behind it the entries from index 1 on, each behind its tag.
 
 ghost use Rattle.std.specs.Prelude.{◌≡◌, ◌+◌, ◌-◌, ◌<◌, ◌≤◌, ◌^◌, ℕ, List, [], ◌∷◌, ◌++◌, true, false, sum_by, IfOk, OnErr, OnOk};
-ghost use Rattle.vx_reading.specs.Reading.{Gives, GivesBy, with_front};
+ghost use Rattle.vx_reading.specs.Reading.{Gives, GivesBy, with_front, IsReadAs};
 ghost use Rattle.vx_reading.specs.Place.{IsBytes};
-ghost use Rattle.vx_pool.specs.Spelling.{pool_bytes};
+ghost use Rattle.vx_pool.specs.Spelling.{pool_bytes, IsPool};
 ghost use Rattle.vx_reading.specs.Took.{Took};
-ghost use Rattle.vx_pool.specs.Again.{IsPool, IsReadAs};
 ghost use Rattle.vx_pool.specs.declared.pool.Pool.{Pool};
 ghost use Rattle.vx_pool.specs.declared.pool.Entry.TheVariants.{Unusable};
 ghost use Rattle.vx_pool.specs.Pool.{size, text_at, one_at, two_at, wide_at, body_at, entry_at, is_wide, entries_at, pool_at};
@@ -124,11 +123,13 @@ fn are_bytes(bytes: &[u8])
     let _len = bytes.len();
 }
 
-/// The pool that stands at the cursor, which moves behind it.
+/// The pool that stands at the cursor, which moves behind it. What the entries name is not judged here. A refusal has
+/// reason 3 at the file's length, 4 at an unknown tag, 5 at a count of 0 or at a `Long` or `Double` of the last index, and
+/// 7 at the tag of a text that is no modified UTF-8.
 pub fn read_pool(alloc: Global, cursor: &mut Cursor) -> Result<Pool, ClassFault>
     ensures value { Gives result cursor.new (pool_at cursor.old) }
-    // The bytes that were read are those of the pool, each of them.
-    ensures found { IfOk result (λ p. Took cursor.old (pool_bytes p) cursor.new) }
+    // The bytes that were read are those of a pool, each of them.
+    ensures found { IfOk result (λ p. IsPool p × Took cursor.old (pool_bytes p) cursor.new) }
     // What is spelled so is read, unless memory runs out.
     ensures only { (p : Pool) (rest : List ℕ) → IsPool p → cursor.old.rest ≡ pool_bytes p ++ rest → IsReadAs p result }
     // The entries fill the bytes that were read.

@@ -6,6 +6,10 @@ pub record Place : Type 0 where
   pub at : ℕ
   pub rest : List ℕ
 
+-- the place behind so many bytes, before these
+abbrev pub place : ℕ → List ℕ → Place
+place at rest = record { at = at; rest = rest }
+
 -- the first place of a file
 abbrev pub start : List ℕ → Place
 start bytes = record { at = 0; rest = bytes }

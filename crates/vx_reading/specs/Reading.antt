@@ -81,3 +81,9 @@ AnswersBy view (Err e) answer = Fails e answer
 abbrev pub Answers : {A : Type 0} → Result A ClassFault → Result A Fault → Type 0
 Answers (Ok x) answer = answer ≡ Ok x
 Answers (Err e) answer = Fails e answer
+
+-- what a function that reads returns where a value is there to be read: the value, unless memory ran out
+abbrev pub IsReadAs : {A : Type 0} → A → Result A ClassFault → Type 0
+IsReadAs x (Ok y) = y ≡ x
+IsReadAs x (Err fault.NoMemory) = Unit {0}
+IsReadAs x (Err (fault.Bad at reason)) = ⊥

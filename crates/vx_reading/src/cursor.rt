@@ -1,6 +1,6 @@
-//! A place in a file, from which numbers and bytes are read.
+//! A place in a file, from which numbers and bytes are read. Numbers stand with their highest byte first (JVMS 4).
 
-ghost use Rattle.std.specs.Prelude.{◌≡◌, ◌+◌, ◌^◌, ◌<◌, ◌≤◌, ◌==◌, length, Err, OnOk, IfOk};
+ghost use Rattle.std.specs.Prelude.{◌≡◌, ◌+◌, ◌^◌, ◌<◌, ◌≤◌, ◌==◌, length, Err, OnOk, OnErr, IfOk};
 ghost use Rattle.vx_reading.specs.Place.{start, past, file_length};
 ghost use Rattle.vx_reading.specs.Reading.{Gives, GivesBy, Answers, number, room, bytes};
 
@@ -11,7 +11,7 @@ use std::marker::Model;
 /// A read needs more bytes than the file has.
 const SHORT: u8 = 3;
 
-/// A place in a file.
+/// A place in a file: how many bytes stand before it, and the bytes from there to the end. It only goes forward.
 #[derive(Debug, Drop)]
 pub struct Cursor<'a> {
     rest: &'a [u8],
@@ -76,11 +76,12 @@ impl<'a> Cursor<'a> {
         self.at + self.rest.len() as u64
     }
 
-    /// A number of one byte.
+    /// A number of one byte. Where they are not there the refusal has reason 3 at the file's length, and the cursor stays.
     #[tactic(auto, unfolding(crate::specs::Reading::number))]
     pub fn u1(&mut self) -> Result<u8, ClassFault>
         ensures value { Gives result self.new (number 1 self.old) }
         ensures moved { OnOk result (self.new.at ≡ self.old.at + 1) }
+        ensures stays { OnErr result (self.new ≡ self.old) }
     {
         if self.rest.is_empty() {
             return Err(ClassFault::Bad {
@@ -94,11 +95,12 @@ impl<'a> Cursor<'a> {
         Ok(value)
     }
 
-    /// A number of two bytes.
+    /// A number of two bytes. Where they are not there the refusal has reason 3 at the file's length, and the cursor stays.
     #[tactic(auto, unfolding(crate::specs::Reading::number))]
     pub fn u2(&mut self) -> Result<u16, ClassFault>
         ensures value { Gives result self.new (number 2 self.old) }
         ensures moved { OnOk result (self.new.at ≡ self.old.at + 2) }
+        ensures stays { OnErr result (self.new ≡ self.old) }
     {
         if self.rest.len() < 2 {
             return Err(ClassFault::Bad {
@@ -112,11 +114,12 @@ impl<'a> Cursor<'a> {
         Ok(value)
     }
 
-    /// A number of four bytes.
+    /// A number of four bytes. Where they are not there the refusal has reason 3 at the file's length, and the cursor stays.
     #[tactic(auto, unfolding(crate::specs::Reading::number))]
     pub fn u4(&mut self) -> Result<u32, ClassFault>
         ensures value { Gives result self.new (number 4 self.old) }
         ensures moved { OnOk result (self.new.at ≡ self.old.at + 4) }
+        ensures stays { OnErr result (self.new ≡ self.old) }
     {
         if self.rest.len() < 4 {
             return Err(ClassFault::Bad {
@@ -130,11 +133,12 @@ impl<'a> Cursor<'a> {
         Ok(value)
     }
 
-    /// A number of eight bytes.
+    /// A number of eight bytes. Where they are not there the refusal has reason 3 at the file's length, and the cursor stays.
     #[tactic(auto, unfolding(crate::specs::Reading::number))]
     pub fn u8(&mut self) -> Result<u64, ClassFault>
         ensures value { Gives result self.new (number 8 self.old) }
         ensures moved { OnOk result (self.new.at ≡ self.old.at + 8) }
+        ensures stays { OnErr result (self.new ≡ self.old) }
     {
         if self.rest.len() < 8 {
             return Err(ClassFault::Bad {
@@ -148,7 +152,7 @@ impl<'a> Cursor<'a> {
         Ok(value)
     }
 
-    /// Whether so many bytes are there.
+    /// Whether so many bytes are there; else the refusal has reason 3 at the file's length.
     #[tactic(auto, unfolding(crate::specs::Reading::room))]
     pub fn room(&self, count: usize) -> Result<(), ClassFault>
         ensures value { Answers result (room count self.now) }
@@ -163,12 +167,13 @@ impl<'a> Cursor<'a> {
         Ok(())
     }
 
-    /// Bytes.
+    /// So many bytes. Where they are not there the refusal has reason 3 at the file's length, and the cursor stays.
     #[tactic(auto, unfolding(crate::specs::Reading::bytes))]
     pub fn take(&mut self, count: usize) -> Result<&'a [u8], ClassFault>
         ensures value { GivesBy (λ x. x.now) result self.new (bytes count self.old) }
         ensures moved { OnOk result (self.new.at ≡ self.old.at + count) }
         ensures taken { IfOk result (λ x. length x.now ≡ count) }
+        ensures stays { OnErr result (self.new ≡ self.old) }
     {
         if self.rest.len() < count {
             return Err(ClassFault::Bad {

@@ -5,7 +5,10 @@ ghost use Rattle.vx_reading.specs.declared.fault.ClassFault.TheVariants.{NoMemor
 
 use std::alloc::{AllocError, AllocFailed};
 
-/// Want of memory, or the place and the reason of the first check that fails.
+/// Why a file cannot be read: want of memory, or the first check that fails, by its place (the number of bytes before it)
+/// and its reason. The reasons of a class file are 1 the magic number, 2 the version, 3 a file cut short, 4 a tag, 5 an
+/// index of the pool or a local, 6 the kind of an entry, 7 a text or a name, 8 a descriptor, 9 the length of code,
+/// 10 an instruction, 11 a jump, 12 the structure of a member or of code, 13 bytes behind the end.
 #[derive(Clone, Copy, Debug, PartialEq, Eq)]
 pub enum ClassFault {
     NoMemory,
@@ -28,7 +31,7 @@ impl<T: Drop> From<AllocFailed<T>> for ClassFault {
     }
 }
 
-/// A check that failed.
+/// The refusal of a check that failed.
 pub fn refusal<T>(at: u64, reason: u8) -> Result<T, ClassFault>
     ensures { result ≡ Err (ClassFault.Bad at reason) }
 {

@@ -1,7 +1,7 @@
 -- The one spelling of a class spells it.
-use Rattle.std.specs.Prelude.{◌≡◌, ℕ, zero, suc, ◌+◌, ◌<◌, List, [], ◌∷◌, length, filter, is_some, unwrap_or, Bool, true, false, not, ◌&&◌, ◌||◌, Option, Some, None, codes, refl}
-use Rattle.std.specs.List.{flat_map, slice_get, position_or_len}
-use Rattle.std.proofs.Common.{ap, ◌∙◌, arith, cond}
+use Rattle.std.specs.Prelude.{◌≡◌, ℕ, zero, suc, ◌+◌, ◌<◌, ◌≤◌, ◌^◌, List, [], ◌∷◌, ◌++◌, length, filter, is_some, Bool, true, false, not, ◌&&◌, ◌||◌, Option, Some, None, codes, refl}
+use Rattle.std.specs.List.{flat_map, slice_get, position_or_len, AllByRecursion}
+use Rattle.std.proofs.Common.{ap, subst, ◌∙◌, arith, cond, length-append}
 use Rattle.std.proofs.lemmas.Bool.{lt-ltb}
 use Rattle.std.proofs.lemmas.List.Concat.{flat_map-cons}
 use Rattle.vx_pool.specs.declared.pool.Entry.{Entry}
@@ -13,7 +13,8 @@ use Rattle.vx_class.specs.declared.class_file.Method.{Method}
 use Rattle.vx_class.specs.declared.class_file.Code.{Code}
 use Rattle.vx_code.specs.Lookups.{text, utf8}
 use Rattle.vx_class.specs.Members.{has, INTERFACE, STATIC, is_given, is_text_of}
-use Rattle.vx_class.specs.Spelling.{u2, Attribute, AreNamed, One, IsOneAmong, IsConstant, is_constant, IsCode, is_code, FieldSpells, MethodSpells, AllSpell, Spells}
+use Rattle.vx_class.specs.Spelling.{u2, u4, Attribute, attribute_bytes, attributes_bytes, catch_bytes, code_bytes, IsAttribute, AreAttributes, One, IsOneAmong, constant_of, IsConstant, is_constant, IsCode, is_code, FieldSpells, MethodSpells, AllSpell, Spells}
+use Rattle.vx_class.specs.File.{File}
 use Rattle.vx_writer.specs.Written.{is_text_entry, least_place, constant_attributes, field_bytes, code_attribute, code_attributes, method_bytes, head_bytes, members_bytes, spelling}
 
 -- ---- the least place of a text
@@ -67,14 +68,15 @@ and_both true b e f = f
 and_both false b e f = absurd cc
 
 -- where one attribute of a kind is found, there is one
-some_mine : {B : Type 0} (mine : Attribute → Bool) (Holds : B → List ℕ → Type 0) (attributes : List Attribute) (b : B) → IsOneAmong mine Holds attributes (Some b)
-    → (a : Attribute) × (mine a ≡ true) × Holds b a.content
-some_mine mine Holds [] b one = absurd one
-some_mine {B = B} mine Holds (a ∷ attributes) b one = by_test (λ h. some_mine mine Holds attributes b h) (mine a) refl one
+some_mine : {B : Type 0} (Named : Attribute → Type 0) (mine : Attribute → Bool) (Holds : B → List ℕ → Type 0) (attributes : List Attribute) (b : B) → AllByRecursion Named attributes
+    → IsOneAmong mine Holds attributes (Some b) → (a : Attribute) × (mine a ≡ true) × Holds b a.content × Named a
+some_mine Named mine Holds [] b all one = absurd one
+some_mine {B = B} Named mine Holds (a ∷ attributes) b all one = by_test (λ h. some_mine Named mine Holds attributes b all.1 h) (mine a) refl one
   where
-    by_test : (IsOneAmong mine Holds attributes (Some b) → (a : Attribute) × (mine a ≡ true) × Holds b a.content) → (t : Bool) → mine a ≡ t
-        → One Holds (cond t (a ∷ filter mine attributes) (filter mine attributes)) (Some b) → (a : Attribute) × (mine a ≡ true) × Holds b a.content
-    by_test others true e one = (a, e, only (filter mine attributes) one)
+    Found : Type 0
+    Found = (x : Attribute) × (mine x ≡ true) × Holds b x.content × Named x
+    by_test : (IsOneAmong mine Holds attributes (Some b) → Found) → (t : Bool) → mine a ≡ t → One Holds (cond t (a ∷ filter mine attributes) (filter mine attributes)) (Some b) → Found
+    by_test others true e one = (a, e, only (filter mine attributes) one, all.0)
       where
         only : (others : List Attribute) → One Holds (a ∷ others) (Some b) → Holds b a.content
         only [] h = h
@@ -93,27 +95,29 @@ is_named pool i expected t = given (text pool i) t
     given (Some x) t = refl
 
 abbrev ConstantSpells : Pool → Bool → ℕ → List Attribute → Type 0
-ConstantSpells pool static n attributes = AreNamed pool attributes × (constant : Option ℕ) × IsOneAmong (is_constant pool static) IsConstant attributes constant × (n ≡ unwrap_or constant 0)
+ConstantSpells pool static n attributes = AreAttributes pool attributes × IsOneAmong (is_constant pool static) IsConstant attributes (constant_of n)
 
-constant_spelled : (pool : Pool) (static : Bool) (n : ℕ) (attributes : List Attribute) (constant : Option ℕ) → IsOneAmong (is_constant pool static) IsConstant attributes constant
-    → n ≡ unwrap_or constant 0 → ConstantSpells pool static n (constant_attributes pool n)
-constant_spelled pool static zero attributes constant one e = (tt, None, tt, refl)
-constant_spelled pool static (suc n) attributes None one e = absurd (omega arith)
-constant_spelled pool static (suc n) attributes (Some k) one e =
-    let found = some_mine (is_constant pool static) IsConstant attributes k one in
+no_attributes : (pool : Pool) → AreAttributes pool []
+no_attributes pool = record { few = omega arith; each = tt }
+
+one_attribute : (pool : Pool) (a : Attribute) → IsAttribute pool a → AreAttributes pool (a ∷ [])
+one_attribute pool a is = record { few = omega arith; each = (is, tt) }
+
+constant_spelled : (pool : Pool) (static : Bool) (n : ℕ) (attributes : List Attribute) → AreAttributes pool attributes → IsOneAmong (is_constant pool static) IsConstant attributes (constant_of n)
+    → ConstantSpells pool static n (constant_attributes pool n)
+constant_spelled pool static zero attributes are one = (no_attributes pool, tt)
+constant_spelled pool static (suc n) attributes are one =
+    let found = some_mine (IsAttribute pool) (is_constant pool static) IsConstant attributes (suc n) are.each one in
     let is_static = and_first static (is_text_of pool found.0.name (codes "ConstantValue")) found.1 in
     let place = least_is pool (codes "ConstantValue") found.0.name (and_second static (is_text_of pool found.0.name (codes "ConstantValue")) found.1) in
-    let mine = and_both static (is_text_of pool (least_place pool (codes "ConstantValue")) (codes "ConstantValue")) is_static place in (
-      (is_named pool (least_place pool (codes "ConstantValue")) (codes "ConstantValue") place, tt),
-      Some (suc n),
-      alone (is_constant pool static) IsConstant (record { name = least_place pool (codes "ConstantValue"); content = u2 (suc n) }) (suc n) mine refl,
-      refl,
-    )
+    let mine = and_both static (is_text_of pool (least_place pool (codes "ConstantValue")) (codes "ConstantValue")) is_static place in
+    let made : Attribute = record { name = least_place pool (codes "ConstantValue"); content = u2 (suc n) } in
+    (one_attribute pool made (is_named pool (least_place pool (codes "ConstantValue")) (codes "ConstantValue") place, omega arith), alone (is_constant pool static) IsConstant made (suc n) mine refl)
 
 field_spelled : (pool : Pool) (interface : Bool) (f : Field) (bytes : List ℕ) → FieldSpells pool interface f bytes → FieldSpells pool interface f (field_bytes pool f)
 field_spelled pool interface f bytes h =
-    let constant = constant_spelled pool (interface || has f.flags STATIC) f.constant h.0 h.3 h.4 h.5 in
-    (constant_attributes pool f.constant, refl, constant.0, constant.1, constant.2, constant.3)
+    let constant = constant_spelled pool (interface || has f.flags STATIC) f.constant h.0 h.2 h.3 in
+    (constant_attributes pool f.constant, refl, constant.0, constant.1)
 
 fields_spelled : (pool : Pool) (interface : Bool) (fs : List Field) (bytes : List ℕ) → AllSpell (FieldSpells pool interface) fs bytes → AllSpell (FieldSpells pool interface) fs (flat_map (field_bytes pool) fs)
 fields_spelled pool interface [] bytes h = refl
@@ -126,20 +130,41 @@ fields_spelled pool interface (f ∷ fs) bytes h = (
 )
 
 abbrev CodeSpells : Pool → Option Code → List Attribute → Type 0
-CodeSpells pool code attributes = AreNamed pool attributes × IsOneAmong (is_code pool) (IsCode pool) attributes code
+CodeSpells pool code attributes = AreAttributes pool attributes × IsOneAmong (is_code pool) (IsCode pool) attributes code
 
-code_spelled : (pool : Pool) (code : Option Code) (attributes : List Attribute) → IsOneAmong (is_code pool) (IsCode pool) attributes code → CodeSpells pool code (code_attributes pool code)
+longer : (a b c : List ℕ) → length b ≤ length c → length (a ++ b) ≤ length (a ++ c)
+longer a b c le = omega (arith, le, length-append a b, length-append a c)
+
+-- code is no longer without the attributes that are passed over
+shorter : (code : Code) (skipped : List Attribute) → length (code_bytes code []) ≤ length (code_bytes code skipped)
+shorter code skipped =
+    let bare = attributes_bytes [] in
+    let full = attributes_bytes skipped in
+    let count : length bare ≤ length full = omega (arith, length-append (u2 (length skipped)) (flat_map attribute_bytes skipped)) in
+    let rows = u2 (length code.catches) ++ flat_map catch_bytes code.catches in
+    let one = longer rows bare full count in
+    let two = longer code.bytes (rows ++ bare) (rows ++ full) one in
+    let len = u4 (length code.bytes) in
+    let three = longer len (code.bytes ++ (rows ++ bare)) (code.bytes ++ (rows ++ full)) two in
+    let locals = u2 code.max_locals in
+    let four = longer locals (len ++ (code.bytes ++ (rows ++ bare))) (len ++ (code.bytes ++ (rows ++ full))) three in
+    longer (u2 code.max_stack) (locals ++ (len ++ (code.bytes ++ (rows ++ bare)))) (locals ++ (len ++ (code.bytes ++ (rows ++ full)))) four
+
+code_spelled : (pool : Pool) (code : Option Code) (attributes : List Attribute) → AreAttributes pool attributes → IsOneAmong (is_code pool) (IsCode pool) attributes code
+    → CodeSpells pool code (code_attributes pool code)
 unfolding code_attribute
-code_spelled pool None attributes one = (tt, tt)
-code_spelled pool (Some code) attributes one =
-    let found = some_mine (is_code pool) (IsCode pool) attributes code one in
-    let place = least_is pool (codes "Code") found.0.name found.1 in (
-      (is_named pool (least_place pool (codes "Code")) (codes "Code") place, tt),
-      alone (is_code pool) (IsCode pool) (code_attribute pool code) code place ([], tt, refl),
+code_spelled pool None attributes are one = (no_attributes pool, tt)
+code_spelled pool (Some code) attributes are one =
+    let found = some_mine (IsAttribute pool) (is_code pool) (IsCode pool) attributes code are.each one in
+    let place = least_is pool (codes "Code") found.0.name found.1 in
+    let long : length (code_bytes code found.2.0) < 256 ^ 4 = subst (λ (t : List ℕ). length t < 256 ^ 4) found.2.2 found.3.1 in
+    let short : length (code_bytes code []) < 256 ^ 4 = omega (arith, long, shorter code found.2.0) in (
+      one_attribute pool (code_attribute pool code) (is_named pool (least_place pool (codes "Code")) (codes "Code") place, short),
+      alone (is_code pool) (IsCode pool) (code_attribute pool code) code place ([], no_attributes pool, refl),
     )
 
 method_spelled : (pool : Pool) (m : Method) (bytes : List ℕ) → MethodSpells pool m bytes → MethodSpells pool m (method_bytes pool m)
-method_spelled pool m bytes h = let code = code_spelled pool m.code h.0 h.3 in (code_attributes pool m.code, refl, code.0, code.1)
+method_spelled pool m bytes h = let code = code_spelled pool m.code h.0 h.2 h.3 in (code_attributes pool m.code, refl, code.0, code.1)
 
 methods_spelled : (pool : Pool) (ms : List Method) (bytes : List ℕ) → AllSpell (MethodSpells pool) ms bytes → AllSpell (MethodSpells pool) ms (flat_map (method_bytes pool) ms)
 methods_spelled pool [] bytes h = refl
@@ -160,8 +185,12 @@ spelling_spells bytes c h = record {
   fields = flat_map (field_bytes c.pool) c.fields;
   methods = flat_map (method_bytes c.pool) c.methods;
   skipped = [];
-  named = tt;
+  are_skipped = no_attributes c.pool;
   are_fields = fields_spelled c.pool (has c.flags INTERFACE) c.fields h.fields h.are_fields;
   are_methods = methods_spelled c.pool c.methods h.methods h.are_methods;
   parts = refl;
 }
+
+-- where bytes hold a class, its one spelling holds it
+pub spelling_holds : (bytes : List ℕ) (c : ClassFile) → File bytes c → File (spelling c) c
+spelling_holds bytes c f = record { spelled = spelling_spells bytes c f.spelled; holds = f.holds }

@@ -11,8 +11,8 @@ use Rattle.vx_pool.proofs.reading.read_pool.Goals as goal
 pub returns-clause-found : goal.returns-clause-found
 returns-clause-found c =
     let fits : IsBytes c.args.cursor.now.rest = rw (sym c.rest.ensures) c.are_bytes.ensures in
-    subst (λ (s : Place). Took s (pool_bytes c.in_ok-pool.pool) c.pool.new.cursor) c.copy-ahead.ensures
-    (pool_took c.copy-ahead.result c.pool.new.cursor c.in_ok-pool.pool (rw c.copy-ahead.ensures fits) c.in_ok-pool.ensures.value)
+    let took = pool_took c.copy-ahead.result c.pool.new.cursor c.in_ok-pool.pool (rw c.copy-ahead.ensures fits) c.in_ok-pool.ensures.value in
+    (took.1, subst (λ (s : Place). Took s (pool_bytes c.in_ok-pool.pool) c.pool.new.cursor) c.copy-ahead.ensures took.0)
 
 pub returns-in_err-pool-clause-only : goal.returns-in_err-pool-clause-only
 returns-in_err-pool-clause-only c = λ p rest is spelled.
