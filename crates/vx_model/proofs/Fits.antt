@@ -1,5 +1,5 @@
 -- What a good line says fits what the lines before it said.
-use Rattle.std.proofs.Common.{◌≡◌, ◌≢◌, ℕ, ◌+◌, ◌<◌, ◌≤◌, List, [], ◌∷◌, ◌++◌, length, map, Bool, true, false, not, nat_le, refl, sym, ap, ◌∙◌, subst, arith, Option, Some, None, Result, Ok, Err}
+use Rattle.std.proofs.Common.{◌≡◌, ℕ, ◌<◌, List, [], ◌∷◌, length, Bool, true, false, not, nat_le, refl, subst, arith, Option, Some, None, Result, Ok, Err}
 use Rattle.std.specs.Prelude.{if◌then◌else◌, codes}
 use Rattle.std.specs.Str.{bytes_eq}
 use Rattle.std.specs.List.{list_any, list_all}
@@ -8,7 +8,7 @@ use Rattle.vx_words.specs.Lines.{words, behind_word}
 use Rattle.vx_model.specs.Formula.{Formula}
 use Rattle.vx_model.specs.Tokens.{is_name, tokens}
 use Rattle.vx_model.specs.Parser.{parsed}
-use Rattle.vx_model.specs.Text.{statement_of, line_by, option_line, declared, rule_line, demanded, begins_comment, is_plain, clashes, is_unknown, slash}
+use Rattle.vx_model.specs.Text.{statement_of, line_by, option_line, declared, rule_line, demanded, begins_comment, is_plain, clashes, is_unknown}
 use Rattle.vx_model.specs.declared.token.Token.{Token}
 use Rattle.vx_model.specs.declared.model.OptionField.{OptionField}
 use Rattle.vx_model.specs.declared.model.FieldPlace.{FieldPlace}

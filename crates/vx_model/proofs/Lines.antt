@@ -1,14 +1,12 @@
 -- How a text is read line by line.
-use Rattle.std.proofs.Common.{◌≡◌, ◌≢◌, ℕ, ◌+◌, ◌<◌, ◌≤◌, List, [], ◌∷◌, ◌++◌, length, length-append, Bool, true, false, not, nat_le, refl, sym, ap, ◌∙◌, arith, Option, Some, None, Result, Ok, Err, if◌then◌else◌}
-use Rattle.std.specs.List.{list_any, list_all}
+use Rattle.std.proofs.Common.{◌≡◌, ℕ, ◌+◌, ◌<◌, ◌≤◌, List, [], ◌∷◌, length, length-append, refl, sym, ap, ◌∙◌, arith, Ok, Err}
 use Rattle.vx_model.specs.Answers.{Refuses, Fails, fault_at}
 use Rattle.vx_model.specs.declared.statement.Refusal.{Refusal}
 use Rattle.vx_model.specs.declared.statement.Refusal.TheVariants as refusal
 use Rattle.vx_model.proofs.Fits.{Fits, statement_fits}
-use Rattle.vx_words.specs.Lines.{lines, words}
-use Rattle.vx_model.specs.Text.{statement_of, line_by, option_line, declared, rule_line, demanded, with_statement, lines_of, at_line, model_of, empty, BadLine, begins_comment, is_plain}
+use Rattle.vx_words.specs.Lines.{lines}
+use Rattle.vx_model.specs.Text.{statement_of, with_statement, lines_of, at_line, model_of, empty}
 use Rattle.vx_model.specs.declared.model.Model.{Model}
-use Rattle.vx_model.specs.declared.model.OptionField.{OptionField}
 use Rattle.vx_model.specs.declared.statement.Statement.{Statement}
 use Rattle.vx_model.specs.declared.statement.Statement.TheVariants as statement
 

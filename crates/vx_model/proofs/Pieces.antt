@@ -1,10 +1,9 @@
 -- How the first piece of a rule's text stands in it.
-use Rattle.std.proofs.Common.{◌≡◌, ◌≢◌, ℕ, suc, ◌+◌, ◌<◌, ◌≤◌, List, [], ◌∷◌, length, take, drop, Bool, true, false, not, ◌&&◌, ◌||◌, refl, sym, ap, ◌∙◌, arith, nat_eq, eqb-true, subst, if◌then◌else◌}
+use Rattle.std.proofs.Common.{◌≡◌, ℕ, suc, ◌+◌, List, [], ◌∷◌, length, take, drop, Bool, true, false, ◌&&◌, refl, sym, ap, ◌∙◌, arith, nat_eq, eqb-true, if◌then◌else◌}
 use Rattle.std.specs.List.{prefix_len}
-use Rattle.std.proofs.Math.Numerals.{unary_clauses}
 use Rattle.std.proofs.lemmas.Bool.Decides.{nat_tests}
 use Rattle.vx_words.specs.Lines.{with_first, is_blank, skip}
-use Rattle.vx_model.specs.Tokens.{pieces, joins_next, joins_arrow, joins, is_word_byte, piece_length}
+use Rattle.vx_model.specs.Tokens.{pieces, joins_arrow, joins, is_word_byte, piece_length}
 
 one_more : (n : ℕ) → 1 + n ≡ suc n
 one_more n = omega arith

@@ -1,10 +1,10 @@
 -- How a loop reads the parts of a rule, one after the other.
-use Rattle.std.proofs.Common.{◌≡◌, ◌≢◌, ℕ, zero, suc, ◌+◌, ◌-◌, ◌<◌, ◌≤◌, List, [], ◌∷◌, ◌++◌, length, refl, sym, ap, ◌∙◌, arith, append_assoc, append-nil, Option, Some, None}
+use Rattle.std.proofs.Common.{◌≡◌, ◌≢◌, ℕ, zero, suc, ◌<◌, ◌≤◌, List, [], ◌∷◌, ◌++◌, length, refl, ap, ◌∙◌, arith, append_assoc, append-nil, Option, Some, None}
 use Rattle.vx_model.specs.Formula.{Formula}
 use Rattle.vx_model.specs.Formula as tree
 use Rattle.vx_model.specs.declared.rule.RuleFault.{RuleFault}
 use Rattle.vx_model.specs.declared.rule.RuleFault.TheVariants as fault
-use Rattle.vx_model.specs.Parser.{Reads, ◌>>=◌, if_some, behind, whole, further, joined, level, lowest, over, imp_over, arrow_over, part_at, not_over, atom, closed, behind_arrow, deeper, Fails}
+use Rattle.vx_model.specs.Parser.{Reads, ◌>>=◌, behind, whole, further, joined, level, part_at, atom, closed, behind_arrow, deeper, Fails}
 use Rattle.vx_model.specs.declared.token.Token.{Token}
 use Rattle.vx_model.specs.declared.token.Token.TheVariants as token
 use Rattle.vx_model.specs.declared.rule.Operator.{Operator}

@@ -1,5 +1,4 @@
 -- A model that is being read.
-use Rattle.std.specs.Prelude.{ℕ}
 use Rattle.vx_model.specs.declared.model.Model.{Model}
 use Rattle.vx_model.specs.declared.text.Draft.{Draft}
 

@@ -8,7 +8,7 @@
 -- Each relation below is one of these lines. It says that the tokens from a first list up to a second one, which is what
 -- is left of the first, spell a rule; and that at no place more than depth of these are open: a `!`, a `(`, and the right
 -- side of a `->`.
-use Rattle.std.specs.Prelude.{◌≡◌, ℕ, suc, List, [], ◌∷◌}
+use Rattle.std.specs.Prelude.{ℕ, suc, List, [], ◌∷◌}
 use Rattle.vx_model.specs.Formula.{Formula, formulas}
 use Rattle.vx_model.specs.Formula as tree
 use Rattle.vx_model.specs.declared.token.Token.{Token}

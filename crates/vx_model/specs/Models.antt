@@ -1,5 +1,5 @@
 -- Feature models.
-use Rattle.std.specs.Prelude.{◌≤◌, List, length, Bool, AllPairs, Option, Some, None, ◌≢◌}
+use Rattle.std.specs.Prelude.{◌≤◌, List, [], ◌∷◌, length, Bool, Option, Some, None, ◌≢◌}
 use Rattle.vx_model.specs.declared.model.Model.{Model}
 use Rattle.vx_model.specs.declared.model.OptionField.{OptionField}
 use Rattle.vx_model.specs.declared.model.FieldPlace.{FieldPlace}
@@ -20,8 +20,16 @@ is_allowed model c = all_true (formulas model.rules) c
 abbrev pub AreApart : OptionField → OptionField → Type 0
 AreApart a b = (a.name ≢ b.name) × DifferentPlaces a.place b.place
 
+abbrev pub ApartFromAll : OptionField → List OptionField → Type 0
+ApartFromAll a [] = Unit {0}
+ApartFromAll a (b ∷ rest) = AreApart a b × ApartFromAll a rest
+
+abbrev pub AllApart : List OptionField → Type 0
+AllApart [] = Unit {0}
+AllApart (a ∷ rest) = ApartFromAll a rest × AllApart rest
+
 -- what each call that takes a model asks of it
 pub record IsModel (model : Model) : Type 0 where
   pub at_most_64 : length model.options ≤ 64
-  pub apart : AllPairs AreApart model.options
+  pub apart : AllApart model.options
   pub named : AllNamesBelow (length model.options) (formulas model.rules)

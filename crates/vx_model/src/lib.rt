@@ -14,4 +14,6 @@ pub use configurations::allowed;
 pub use expr::{Expr, Form};
 pub use fault::ModelFault;
 pub use model::{FieldPlace, Model, OptionField};
-pub use text::read_model;
+pub use statement::{Refusal, is_taken, slashed};
+pub use text::{fault_at, read_model};
+pub use token::is_name;

@@ -88,8 +88,8 @@ fn begins_comment(word: &[u8]) -> bool
     }
 }
 
-// The name of a class, with a `/` for each `.`.
-fn slashed(alloc: Global, class: &[u8]) -> Result<Name, AllocError>
+/// The name of a class, with a `/` for each `.`.
+pub fn slashed(alloc: Global, class: &[u8]) -> Result<Name, AllocError>
     ensures { IfOk result (λ name. name ≡ map slash class.now) }
 {
     let bytes: Vec<u8> = class
@@ -116,7 +116,8 @@ fn clashes(name: &[u8], place: &Option<FieldPlace>, option: &OptionField) -> boo
     option.name.bytes() == name || is_same_place(&option.place, place)
 }
 
-fn is_taken(options: &[OptionField], name: &[u8], place: &Option<FieldPlace>) -> bool
+/// Whether one of the options has this name or this field.
+pub fn is_taken(options: &[OptionField], name: &[u8], place: &Option<FieldPlace>) -> bool
     ensures { result ≡ list_any (clashes name.now place.now) options.now }
 {
     options.iter().any(|o| clashes(name, place, o))

@@ -2,6 +2,7 @@
 
 ghost use Rattle.std.specs.Prelude.{◌≡◌, ◌+◌, ◌<◌, ◌≤◌, length, IfOk, OnOk, List};
 ghost use Rattle.vx_model.specs.Text.{with_statement, model_of};
+ghost use Rattle.vx_model.specs.Models.{IsModel};
 ghost use Rattle.vx_model.specs.Answers.{Answers, fault_at};
 
 use crate::expr::Expr;
@@ -35,8 +36,8 @@ impl Draft {
     }
 }
 
-// A line of this number is refused.
-fn fault_at(refusal: Refusal, line: u64) -> ModelFault
+/// The fault of a line of this number that is refused.
+pub fn fault_at(refusal: Refusal, line: u64) -> ModelFault
     ensures { result ≡ fault_at refusal line }
 {
     match refusal {
@@ -50,6 +51,8 @@ fn fault_at(refusal: Refusal, line: u64) -> ModelFault
 /// options.
 pub fn read_model(alloc: Global, bytes: &[u8]) -> Result<Model, ModelFault>
     ensures exact { Answers result (model_of bytes.now) }
+    // What is read is a model that each call takes.
+    ensures lawful { IfOk result IsModel }
 {
     let mut draft = Draft {
         options: Vec::new(alloc),

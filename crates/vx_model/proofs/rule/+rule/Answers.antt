@@ -1,6 +1,6 @@
-use Rattle.std.proofs.Common.{◌≡◌, ◌≢◌, ◌∷◌, refl, sym, ap, ◌∙◌, arith}
+use Rattle.std.proofs.Common.{◌∷◌, sym, ap, ◌∙◌}
 use Rattle.std.proofs.lemmas.Result.{err_from_is_err_and}
-use Rattle.vx_model.specs.Parser.{part_at, level, deeper}
+use Rattle.vx_model.specs.Parser.{part_at}
 use Rattle.vx_model.proofs.Rules.{joins_first, joins_more, joins_fail, fails_first, joins_done, fails_by, imp_none, imp_plain, imp_too_deep, imp_fails, imp_arrow, not_empty, mark_too_deep, mark_fails, mark_read, open_too_deep, open_fails, open_read, not_atom}
 use Rattle.vx_model.proofs.rule.+rule.Goals as goal
 
