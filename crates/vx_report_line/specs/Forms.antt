@@ -1,9 +1,10 @@
 -- The rules of each line of a report by itself: the range of its numbers, and the form of its words.
-use Rattle.std.specs.Prelude.{ℕ, ℤ, pos, negsuc, ◌^◌, List, [], ◌∷◌, length, codes, Bool, true, false, nat_le, nat_lt, ◌&&◌, ◌||◌, ◌==◌, not}
+use Rattle.std.specs.Prelude.{◌≡◌, ℕ, ℤ, pos, negsuc, ◌^◌, List, [], ◌∷◌, length, codes, Bool, true, false, nat_le, nat_lt, ◌&&◌, ◌||◌, ◌==◌, not}
 use Rattle.std.specs.List.{list_all}
 use Rattle.std.specs.Str.{bytes_eq}
 use Rattle.vx_value.specs.declared.end.End.{End}
 use Rattle.vx_value.specs.declared.end.End.TheVariants.{Return, Exit, Uncaught, Unsupported, Illegal, Unfinished}
+use Rattle.vx_report.specs.Lines.{line_text}
 use Rattle.vx_report.specs.declared.line.Line.{Line}
 use Rattle.vx_report.specs.declared.line.Line.TheVariants.{Head, Count, Named, Limit, Rounds, Numbered, Printed, Ended, Spent, Done}
 
@@ -58,3 +59,8 @@ is_line (Printed piece) = is_root piece.node && is_text piece.text
 is_line (Ended line) = is_root line.node && is_end line.end
 is_line (Spent line) = is_root line.node && nat_lt line.attempts (2 ^ 64)
 is_line Done = true
+
+-- the bytes are the text of the line, and the line is lawful by itself
+pub record IsSpelled (text : List ℕ) (line : Line) : Type 0 where
+  pub spelled : text ≡ line_text line
+  pub lawful : is_line line ≡ true

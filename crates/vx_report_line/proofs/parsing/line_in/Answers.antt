@@ -1,0 +1,5 @@
+use Rattle.vx_report_line.proofs.Read.{spelled_by}
+use Rattle.vx_report_line.proofs.parsing.line_in.Goals as goal
+
+pub returns-clause-spelled : goal.returns-clause-spelled
+returns-clause-spelled c = spelled_by _ _ c.in_ok-line.ensures
