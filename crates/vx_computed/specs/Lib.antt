@@ -6,6 +6,7 @@ pub mod Objects
 pub mod Initialisers
 pub mod Exceptions
 pub mod Programs
+pub mod CoreClasses
 pub mod Edges
 pub mod Links
 pub mod Shop

@@ -3,6 +3,7 @@
 #![tactic(auto)]
 
 mod branches;
+mod core_classes;
 mod edges;
 mod exceptions;
 mod initialisers;
@@ -15,6 +16,7 @@ mod straight;
 mod values;
 
 pub use branches::branching_runs;
+pub use core_classes::core_runs;
 pub use edges::edge_runs;
 pub use exceptions::throwing_runs;
 pub use initialisers::initialising_runs;
