@@ -4,6 +4,7 @@ use Rattle.std.specs.List.{flat_map, slice_get, position_or_len, AllByRecursion}
 use Rattle.std.proofs.Common.{ap, subst, ◌∙◌, arith, cond, length-append}
 use Rattle.std.proofs.lemmas.Bool.{lt-ltb}
 use Rattle.std.proofs.lemmas.List.Concat.{flat_map-cons}
+use Rattle.vx_class.specs.File.{File}
 use Rattle.vx_pool.specs.declared.pool.Entry.{Entry}
 use Rattle.vx_pool.specs.declared.pool.Entry.TheVariants as entry
 use Rattle.vx_pool.specs.declared.pool.Pool.{Pool}
@@ -68,14 +69,13 @@ and_both true b e f = f
 and_both false b e f = absurd cc
 
 -- where one attribute of a kind is found, there is one
-some_mine : {B : Type 0} (Named : Attribute → Type 0) (mine : Attribute → Bool) (Holds : B → List ℕ → Type 0) (attributes : List Attribute) (b : B) → AllByRecursion Named attributes
-    → IsOneAmong mine Holds attributes (Some b) → (a : Attribute) × (mine a ≡ true) × Holds b a.content × Named a
-some_mine Named mine Holds [] b all one = absurd one
-some_mine {B = B} Named mine Holds (a ∷ attributes) b all one = by_test (λ h. some_mine Named mine Holds attributes b all.1 h) (mine a) refl one
+some_mine : {B : Type 0} (P : Attribute → Type 0) (mine : Attribute → Bool) (Holds : B → List ℕ → Type 0) (attributes : List Attribute) (b : B) → AllByRecursion P attributes
+    → IsOneAmong mine Holds attributes (Some b) → (a : Attribute) × (mine a ≡ true) × Holds b a.content × P a
+some_mine P mine Holds [] b all one = absurd one
+some_mine {B = B} P mine Holds (a ∷ attributes) b all one = by_test (λ h. some_mine P mine Holds attributes b all.1 h) (mine a) refl one
   where
-    Found : Type 0
-    Found = (x : Attribute) × (mine x ≡ true) × Holds b x.content × Named x
-    by_test : (IsOneAmong mine Holds attributes (Some b) → Found) → (t : Bool) → mine a ≡ t → One Holds (cond t (a ∷ filter mine attributes) (filter mine attributes)) (Some b) → Found
+    by_test : (IsOneAmong mine Holds attributes (Some b) → (a : Attribute) × (mine a ≡ true) × Holds b a.content × P a) → (t : Bool) → mine a ≡ t
+        → One Holds (cond t (a ∷ filter mine attributes) (filter mine attributes)) (Some b) → (a : Attribute) × (mine a ≡ true) × Holds b a.content × P a
     by_test others true e one = (a, e, only (filter mine attributes) one, all.0)
       where
         only : (others : List Attribute) → One Holds (a ∷ others) (Some b) → Holds b a.content
@@ -94,25 +94,26 @@ is_named pool i expected t = given (text pool i) t
     given None t = absurd cc
     given (Some x) t = refl
 
+none_there : (pool : Pool) → AreAttributes pool []
+none_there pool = record { few = omega arith; each = tt }
+
+one_there : (pool : Pool) (a : Attribute) → IsAttribute pool a → AreAttributes pool (a ∷ [])
+one_there pool a h = record { few = omega arith; each = (h, tt) }
+
 abbrev ConstantSpells : Pool → Bool → ℕ → List Attribute → Type 0
 ConstantSpells pool static n attributes = AreAttributes pool attributes × IsOneAmong (is_constant pool static) IsConstant attributes (constant_of n)
 
-no_attributes : (pool : Pool) → AreAttributes pool []
-no_attributes pool = record { few = omega arith; each = tt }
-
-one_attribute : (pool : Pool) (a : Attribute) → IsAttribute pool a → AreAttributes pool (a ∷ [])
-one_attribute pool a is = record { few = omega arith; each = (is, tt) }
-
 constant_spelled : (pool : Pool) (static : Bool) (n : ℕ) (attributes : List Attribute) → AreAttributes pool attributes → IsOneAmong (is_constant pool static) IsConstant attributes (constant_of n)
     → ConstantSpells pool static n (constant_attributes pool n)
-constant_spelled pool static zero attributes are one = (no_attributes pool, tt)
+constant_spelled pool static zero attributes are one = (none_there pool, tt)
 constant_spelled pool static (suc n) attributes are one =
     let found = some_mine (IsAttribute pool) (is_constant pool static) IsConstant attributes (suc n) are.each one in
     let is_static = and_first static (is_text_of pool found.0.name (codes "ConstantValue")) found.1 in
     let place = least_is pool (codes "ConstantValue") found.0.name (and_second static (is_text_of pool found.0.name (codes "ConstantValue")) found.1) in
-    let mine = and_both static (is_text_of pool (least_place pool (codes "ConstantValue")) (codes "ConstantValue")) is_static place in
-    let made : Attribute = record { name = least_place pool (codes "ConstantValue"); content = u2 (suc n) } in
-    (one_attribute pool made (is_named pool (least_place pool (codes "ConstantValue")) (codes "ConstantValue") place, omega arith), alone (is_constant pool static) IsConstant made (suc n) mine refl)
+    let mine = and_both static (is_text_of pool (least_place pool (codes "ConstantValue")) (codes "ConstantValue")) is_static place in (
+      one_there pool (record { name = least_place pool (codes "ConstantValue"); content = u2 (suc n) }) (is_named pool (least_place pool (codes "ConstantValue")) (codes "ConstantValue") place, omega arith),
+      alone (is_constant pool static) IsConstant (record { name = least_place pool (codes "ConstantValue"); content = u2 (suc n) }) (suc n) mine refl,
+    )
 
 field_spelled : (pool : Pool) (interface : Bool) (f : Field) (bytes : List ℕ) → FieldSpells pool interface f bytes → FieldSpells pool interface f (field_bytes pool f)
 field_spelled pool interface f bytes h =
@@ -129,38 +130,26 @@ fields_spelled pool interface (f ∷ fs) bytes h = (
   fields_spelled pool interface fs h.1 h.4,
 )
 
+-- code with no attributes of its own takes no more bytes than with some
+bare_is_short : (code : Code) (skipped : List Attribute) (content : List ℕ) (n : ℕ) → content ≡ code_bytes code skipped → length content < n → length (code_bytes code []) < n
+bare_is_short code skipped content n e lt =
+    let whole : length (code_bytes code skipped) < n = subst (λ (c : List ℕ). length c < n) e lt in
+    let long = simp (length-append {A = ℕ}) at whole in
+    simp (length-append {A = ℕ}) (omega (arith, long))
+
 abbrev CodeSpells : Pool → Option Code → List Attribute → Type 0
 CodeSpells pool code attributes = AreAttributes pool attributes × IsOneAmong (is_code pool) (IsCode pool) attributes code
-
-longer : (a b c : List ℕ) → length b ≤ length c → length (a ++ b) ≤ length (a ++ c)
-longer a b c le = omega (arith, le, length-append a b, length-append a c)
-
--- code is no longer without the attributes that are passed over
-shorter : (code : Code) (skipped : List Attribute) → length (code_bytes code []) ≤ length (code_bytes code skipped)
-shorter code skipped =
-    let bare = attributes_bytes [] in
-    let full = attributes_bytes skipped in
-    let count : length bare ≤ length full = omega (arith, length-append (u2 (length skipped)) (flat_map attribute_bytes skipped)) in
-    let rows = u2 (length code.catches) ++ flat_map catch_bytes code.catches in
-    let one = longer rows bare full count in
-    let two = longer code.bytes (rows ++ bare) (rows ++ full) one in
-    let len = u4 (length code.bytes) in
-    let three = longer len (code.bytes ++ (rows ++ bare)) (code.bytes ++ (rows ++ full)) two in
-    let locals = u2 code.max_locals in
-    let four = longer locals (len ++ (code.bytes ++ (rows ++ bare))) (len ++ (code.bytes ++ (rows ++ full))) three in
-    longer (u2 code.max_stack) (locals ++ (len ++ (code.bytes ++ (rows ++ bare)))) (locals ++ (len ++ (code.bytes ++ (rows ++ full)))) four
 
 code_spelled : (pool : Pool) (code : Option Code) (attributes : List Attribute) → AreAttributes pool attributes → IsOneAmong (is_code pool) (IsCode pool) attributes code
     → CodeSpells pool code (code_attributes pool code)
 unfolding code_attribute
-code_spelled pool None attributes are one = (no_attributes pool, tt)
+code_spelled pool None attributes are one = (none_there pool, tt)
 code_spelled pool (Some code) attributes are one =
     let found = some_mine (IsAttribute pool) (is_code pool) (IsCode pool) attributes code are.each one in
     let place = least_is pool (codes "Code") found.0.name found.1 in
-    let long : length (code_bytes code found.2.0) < 256 ^ 4 = subst (λ (t : List ℕ). length t < 256 ^ 4) found.2.2 found.3.1 in
-    let short : length (code_bytes code []) < 256 ^ 4 = omega (arith, long, shorter code found.2.0) in (
-      one_attribute pool (code_attribute pool code) (is_named pool (least_place pool (codes "Code")) (codes "Code") place, short),
-      alone (is_code pool) (IsCode pool) (code_attribute pool code) code place ([], no_attributes pool, refl),
+    let short = bare_is_short code found.2.0 found.0.content (256 ^ 4) found.2.2 found.3.1 in (
+      one_there pool (code_attribute pool code) (is_named pool (least_place pool (codes "Code")) (codes "Code") place, short),
+      alone (is_code pool) (IsCode pool) (code_attribute pool code) code place ([], none_there pool, refl),
     )
 
 method_spelled : (pool : Pool) (m : Method) (bytes : List ℕ) → MethodSpells pool m bytes → MethodSpells pool m (method_bytes pool m)
@@ -179,18 +168,18 @@ methods_spelled pool (m ∷ ms) bytes h = (
 -- ---- the class
 
 -- where bytes spell a class, its one spelling spells it
-pub spelling_spells : (bytes : List ℕ) (c : ClassFile) → Spells bytes c → Spells (spelling c) c
+spelling_spells : (bytes : List ℕ) (c : ClassFile) → Spells bytes c → Spells (spelling c) c
 unfolding head_bytes members_bytes
 spelling_spells bytes c h = record {
   fields = flat_map (field_bytes c.pool) c.fields;
   methods = flat_map (method_bytes c.pool) c.methods;
   skipped = [];
-  are_skipped = no_attributes c.pool;
+  are_skipped = none_there c.pool;
   are_fields = fields_spelled c.pool (has c.flags INTERFACE) c.fields h.fields h.are_fields;
   are_methods = methods_spelled c.pool c.methods h.methods h.are_methods;
   parts = refl;
 }
 
--- where bytes hold a class, its one spelling holds it
-pub spelling_holds : (bytes : List ℕ) (c : ClassFile) → File bytes c → File (spelling c) c
-spelling_holds bytes c f = record { spelled = spelling_spells bytes c f.spelled; holds = f.holds }
+-- where a file holds a class, its one spelling holds it
+pub spelling_holds : (file : List ℕ) (c : ClassFile) → File file c → File (spelling c) c
+spelling_holds file c h = record { spelled = spelling_spells file c h.spelled; holds = h.holds }

@@ -4,6 +4,7 @@ ghost use Rattle.std.specs.Prelude.{◌≡◌, ◌++◌, ℕ, List, OnOk, IfOk};
 ghost use Rattle.std.specs.List.{flat_map};
 ghost use Rattle.vx_class.specs.Spelling.{u2};
 ghost use Rattle.vx_class.specs.File.{File};
+ghost use Rattle.vx_class.specs.File.{File};
 ghost use Rattle.vx_writer.specs.Written.{head_bytes, members_bytes, spelling};
 
 use crate::members::{put_fields, put_methods};
@@ -57,8 +58,8 @@ fn put_members(alloc: Global, out: &mut Vec<u8>, class: &ClassFile) -> Result<()
 #[tactic(auto, using(crate::proofs::Spelled::spelling_holds))]
 pub fn write_class(alloc: Global, class: &ClassFile) -> Result<Vec<u8>, AllocError>
     ensures exact { IfOk result (λ bytes. bytes.items ≡ spelling class.now) }
-    // Where any bytes hold the class, those that are written hold it too.
-    ensures held { (file : List ℕ) → File file class.now → IfOk result (λ bytes. File bytes.items class.now) }
+    // Where a file holds the class, the bytes that are written hold it too.
+    ensures again { (file : List ℕ) → File file class.now → IfOk result (λ bytes. File bytes.items class.now) }
 {
     let mut out = Vec::new(alloc);
     put_head(&mut out, class)?;
