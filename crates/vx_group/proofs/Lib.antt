@@ -1,0 +1,4 @@
+pub mod CallerLaws
+pub mod JoinLaws
+pub mod GroupLaws
+pub mod GroupJoins

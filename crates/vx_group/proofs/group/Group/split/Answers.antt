@@ -1,0 +1,21 @@
+use Rattle.vx_space.proofs.Spaces.{Extends-trans}
+use Rattle.vx_group.proofs.GroupLaws.{IsGroup-extends, IsGroup-path_known, split_inside, split_outside}
+use Rattle.vx_group.proofs.group.Group.split.Goals as goal
+
+pub minus-requires-clause-first : goal.minus-requires-clause-first
+minus-requires-clause-first g c = rw c.path.ensures (IsGroup-path_known _ c.args.self c.requires.group)
+
+pub inside-requires-clause-group : goal.inside-requires-clause-group
+inside-requires-clause-group g c = IsGroup-extends c.in_ok-rest.ensures.extends _ c.requires.group
+
+pub inside-requires-2-clause-group : goal.inside-requires-2-clause-group
+inside-requires-2-clause-group g c = IsGroup-extends (Extends-trans c.in_ok-rest.ensures.extends c.in_ok-inner.ensures.extends) _ c.requires.group
+
+pub returns-clause-extends : goal.returns-clause-extends
+returns-clause-extends g c = Extends-trans (Extends-trans c.in_ok-rest.ensures.extends c.in_ok-inner.ensures.extends) c.in_ok-outer.ensures.extends
+
+pub returns-clause-inside : goal.returns-clause-inside
+returns-clause-inside g c = split_inside c.in_ok-rest.ensures.extends c.in_ok-outer.ensures.extends c.args.self _ c.args.within c.requires.group c.requires.known c.in_ok-inner.ensures.ok
+
+pub returns-clause-outside : goal.returns-clause-outside
+returns-clause-outside g c = split_outside c.in_ok-rest.ensures.extends c.in_ok-inner.ensures.extends c.in_ok-outer.ensures.extends c.args.self _ c.args.within _ c.requires.group (rw c.path.ensures at c.in_ok-rest.ensures.ok) c.in_ok-outer.ensures.ok

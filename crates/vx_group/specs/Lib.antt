@@ -1,0 +1,3 @@
+pub mod Callers
+pub mod Group
+pub mod Keeping
