@@ -1,3 +1,4 @@
+pub mod Again
 pub mod Cuts
 pub mod Known
 pub mod Numbers

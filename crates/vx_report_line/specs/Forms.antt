@@ -1,5 +1,5 @@
 -- The rules of each line of a report by itself: the range of its numbers, and the form of its words.
-use Rattle.std.specs.Prelude.{◌≡◌, ℕ, ℤ, pos, negsuc, ◌^◌, List, [], ◌∷◌, length, codes, Bool, true, false, nat_le, nat_lt, ◌&&◌, ◌||◌, ◌==◌, not}
+use Rattle.std.specs.Prelude.{◌≡◌, Option, Some, ℕ, ℤ, pos, negsuc, ◌^◌, List, [], ◌∷◌, length, codes, Bool, true, false, nat_le, nat_lt, ◌&&◌, ◌||◌, ◌==◌, not}
 use Rattle.std.specs.List.{list_all}
 use Rattle.std.specs.Str.{bytes_eq}
 use Rattle.vx_value.specs.declared.end.End.{End}
@@ -64,3 +64,7 @@ is_line Done = true
 pub record IsSpelled (text : List ℕ) (line : Line) : Type 0 where
   pub spelled : text ≡ line_text line
   pub lawful : is_line line ≡ true
+
+-- what is read is the line that the bytes spell, if they spell one
+pub record IsOnly (text : List ℕ) (found : Option Line) : Type 0 where
+  pub same : (line : Line) → IsSpelled text line → found ≡ Some line

@@ -2,7 +2,7 @@
 
 ghost use Rattle.std.specs.Prelude.{◌≡◌, ◌≤◌, ◌-◌, ◌^◌, negsuc, IfOk, IfSome};
 ghost use Rattle.vx_value.specs.declared.end.Stream.{Stream};
-ghost use Rattle.vx_report_line.specs.Forms.{is_name, is_name_byte, is_digit, begins_with_digit, is_named, IsSpelled};
+ghost use Rattle.vx_report_line.specs.Forms.{is_name, is_name_byte, is_digit, begins_with_digit, is_named, IsSpelled, IsOnly};
 ghost use Rattle.vx_report_line.specs.Parsing.{negative_in, positive_in, code_in, kind_in, unsupported_in, named_end_in, end_in, node_line_in, piece_in, end_line_in, attempts_in, head_in, count_in, name_in, limit_in, rounds_in, setting_in, front_in, last_in, printed_in, line_in};
 ghost use Rattle.std.specs.List.{list_all};
 ghost use Rattle.std.specs.Str.{bytes_eq};
@@ -363,6 +363,8 @@ pub fn line_in(alloc: Global, text: &[u8]) -> Result<Option<Line>, AllocError>
     ensures value { IfOk result (λ line. line ≡ line_in text.now) }
     // What is read is spelled so, and lawful by itself.
     ensures spelled { IfOk result (λ line. IfSome line (IsSpelled text.now)) }
+    // What is spelled so is read, unless memory runs out.
+    ensures only { IfOk result (IsOnly text.now) }
 {
     let line = any_line(alloc, text)?;
     Ok(line)
