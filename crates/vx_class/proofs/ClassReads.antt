@@ -1,12 +1,12 @@
 -- Bytes that hold a class are read as that class.
-use Rattle.std.proofs.Common.{◌≡◌, ℕ, zero, suc, ◌+◌, ◌<◌, ◌≤◌, ◌^◌, List, [], ◌∷◌, ◌++◌, length, filter, Bool, true, false, cond, Option, Some, None, Result, Ok, refl, sym, ap, subst, ◌∙◌, append_assoc, arith, ◌&&◌, ◌||◌}
-use Rattle.std.specs.Prelude.{is_none, is_some, unwrap_or, codes, not, ◌==◌, nat_le, nat_eq, slice_get, IsTrue, if◌then◌else◌}
+use Rattle.std.proofs.Common.{◌≡◌, ℕ, zero, suc, ◌+◌, ◌<◌, ◌≤◌, ◌^◌, List, [], ◌∷◌, ◌++◌, length, filter, Bool, true, false, cond, Option, Some, None, Ok, refl, sym, ap, subst, ◌∙◌, append_assoc, arith, ◌&&◌, ◌||◌}
+use Rattle.std.specs.Prelude.{is_none, is_some, unwrap_or, codes, not, ◌==◌, nat_le, IsTrue, if◌then◌else◌}
 use Rattle.std.proofs.lemmas.List.{append-nil}
-use Rattle.std.proofs.lemmas.Bool.{le-leb, eq-eqb, ne_eqb}
+use Rattle.std.proofs.lemmas.Bool.{le-leb, ne_eqb}
 use Rattle.std.specs.List.{flat_map, list_any, AllByRecursion}
 use Rattle.std.specs.Str.{bytes_eq}
 use Rattle.vx_reading.specs.Place.{Place, place, start}
-use Rattle.vx_reading.specs.Reading.{Fault, Read, ◌>>=◌, check, number, steps, behind}
+use Rattle.vx_reading.specs.Reading.{Read, ◌>>=◌, check, number, steps, behind}
 use Rattle.vx_reading.specs.Again.{Reads, number_reads, reads_then, reads_last, check_passes}
 use Rattle.vx_pool.specs.declared.pool.Entry.{Entry}
 use Rattle.vx_pool.specs.declared.pool.Entry.TheVariants as entry
@@ -29,12 +29,12 @@ use Rattle.vx_class.specs.declared.class_file.Method.{Method}
 use Rattle.vx_class.specs.declared.class_file.Code.{Code}
 use Rattle.vx_class.specs.declared.reading.Head.{Head}
 use Rattle.vx_class.specs.Code.{content_at, code_at, all_skipped_at, utf8_at}
-use Rattle.vx_class.specs.Members.{has, STATIC, INTERFACE, is_number_for, is_literal, fits_type, is_constant_for, constant_at, field_attribute_at, constant_among, lawful_at, is_given, is_text_of, is_same, field_at, fields_at, method_attribute_at, code_among, takes_code, slots_of, is_lawful_initialiser, method_at, methods_at}
+use Rattle.vx_class.specs.Members.{has, STATIC, INTERFACE, is_number_for, is_literal, fits_type, is_constant_for, constant_at, field_attribute_at, constant_among, lawful_at, is_given, is_same, field_at, fields_at, method_attribute_at, code_among, takes_code, slots_of, is_lawful_initialiser, method_at, methods_at}
 use Rattle.vx_class.specs.Class.{versions_at, checked_pool_at, interface_at, class_at, interfaces_at, head_at, file_at, class_of}
-use Rattle.vx_class.specs.Spelling.{u2, u4, MAGIC, Attribute, attribute_bytes, attributes_bytes, member_bytes, IsAttribute, AreAttributes, One, IsOneAmong, is_constant, IsConstant, is_code, IsCode, constant_of, FieldSpells, MethodSpells, AllSpell, Spells}
+use Rattle.vx_class.specs.Spelling.{u2, u4, MAGIC, Attribute, attribute_bytes, attributes_bytes, IsAttribute, AreAttributes, One, IsOneAmong, is_constant, IsConstant, is_code, IsCode, constant_of, FieldSpells, MethodSpells, AllSpell}
 use Rattle.vx_class.specs.File.{CodeHolds, CodeIs, EachBehind, FieldHolds, MethodHolds, IsInterfaceAt, IsClassAt, Holds, File}
 use Rattle.vx_class.proofs.Among.{From}
-use Rattle.vx_class.proofs.CodeReads.{index_fits, text_usable, class_usable, utf8_reads, content_reads, some_there, at_cons, at_nil, all_skipped_reads, counted_reads, code_reads}
+use Rattle.vx_class.proofs.CodeReads.{index_fits, class_usable, utf8_reads, content_reads, some_there, at_cons, at_nil, all_skipped_reads, counted_reads, code_reads}
 
 -- ---- the one attribute of a kind
 

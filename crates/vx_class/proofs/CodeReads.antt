@@ -1,14 +1,13 @@
 -- Attributes and code that are spelled so, and meet their checks, are read.
-use Rattle.std.proofs.Common.{◌≡◌, ℕ, zero, suc, ◌+◌, ◌*◌, ◌<◌, ◌≤◌, ◌^◌, List, [], ◌∷◌, ◌++◌, length, Bool, true, false, cond, Option, Some, None, Result, Ok, refl, sym, ap, subst, ◌∙◌, ◌⊎◌, inl, inr, append_assoc, arith, ◌&&◌, ◌||◌}
-use Rattle.std.specs.Prelude.{is_some, nat_eq, nat_lt, nat_le, ◌==◌, IsTrue, slice_get}
+use Rattle.std.proofs.Common.{◌≡◌, ℕ, ◌+◌, ◌<◌, ◌≤◌, ◌^◌, List, [], ◌∷◌, ◌++◌, length, Bool, true, false, Option, Some, None, Ok, refl, sym, ap, subst, ◌∙◌, inl, inr, append_assoc, arith, ◌&&◌, ◌||◌}
+use Rattle.std.specs.Prelude.{is_some, nat_lt, nat_le, ◌==◌, IsTrue, slice_get}
 use Rattle.std.proofs.lemmas.List.{append-nil}
 use Rattle.std.proofs.lemmas.Option.{slice_get_past}
 use Rattle.std.proofs.lemmas.Bool.{cases_lt, eqb-true, eq-eqb, le-leb, leb-true, lt-ltb, ltb-true}
 use Rattle.std.proofs.lemmas.List.Concat.{flat_map-cons}
 use Rattle.std.specs.List.{flat_map, list_any, AllByRecursion}
-use Rattle.byteorder.specs.Endian.{big_bytes}
 use Rattle.vx_reading.specs.Place.{Place, place}
-use Rattle.vx_reading.specs.Reading.{Fault, Read, ◌>>=◌, check, number, bytes, steps, item_step, items}
+use Rattle.vx_reading.specs.Reading.{Read, ◌>>=◌, check, number, bytes, steps, item_step, items}
 use Rattle.vx_reading.specs.Again.{Reads, number_reads, bytes_reads, room_again, reads_then, reads_last, check_passes}
 use Rattle.vx_pool.specs.declared.pool.Entry.{Entry}
 use Rattle.vx_pool.specs.declared.pool.Entry.TheVariants as entry

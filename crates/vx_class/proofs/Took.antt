@@ -1,5 +1,5 @@
 -- What is read of attributes and code is spelled so, and meets its checks.
-use Rattle.std.proofs.Common.{◌≡◌, ℕ, zero, suc, ◌+◌, ◌<◌, ◌≤◌, ◌^◌, Result, List, [], ◌∷◌, ◌++◌, length, Bool, true, false, Option, Some, None, Ok, filter, ◌⊎◌, inl, inr, refl, sym, ap, subst, ◌∙◌, append_assoc, arith}
+use Rattle.std.proofs.Common.{◌≡◌, ℕ, zero, suc, ◌+◌, ◌<◌, ◌≤◌, ◌^◌, Result, List, [], ◌∷◌, ◌++◌, length, Option, Some, None, Ok, refl, sym, ap, subst, ◌∙◌, append_assoc, arith}
 use Rattle.std.proofs.lemmas.List.{append-nil}
 use Rattle.std.proofs.lemmas.List.Concat.{flat_map-cons}
 use Rattle.std.proofs.lemmas.Bool.{eqb-true, leb-true, ltb-true}
@@ -15,7 +15,7 @@ use Rattle.vx_class.specs.declared.class_file.Code.{Code}
 use Rattle.vx_class.specs.declared.code.Parts.{Parts}
 use Rattle.vx_code.specs.Lookups.{entry_of, utf8, text}
 use Rattle.vx_class.specs.Code.{text_given, utf8_at, content_at, skipped_at, skip_step, all_skipped_at, catch_at, catches_at, catch_checks, row_checked, catches_checked, parts_at, code_checked, code_at}
-use Rattle.vx_class.specs.Spelling.{u2, u4, Attribute, attribute_bytes, attributes_bytes, catch_bytes, code_bytes, IsAttribute, AreAttributes, IsOneAmong, IsCode}
+use Rattle.vx_class.specs.Spelling.{u2, u4, Attribute, attribute_bytes, attributes_bytes, catch_bytes, code_bytes, IsAttribute, AreAttributes, IsCode}
 use Rattle.vx_class.specs.File.{CodeHolds}
 use Rattle.vx_code.specs.Checks.{all_hold}
 use Rattle.vx_code.specs.Instructions.{starts_of, jumps_at, jumps_checked, AreInstructions, OperandHolds, JumpsHold}

@@ -1,5 +1,5 @@
 -- The bytes of a class file: its parts one after the other, with any skipped attributes between.
-use Rattle.std.specs.Prelude.{◌≡◌, ℕ, zero, suc, ◌^◌, ◌<◌, List, [], ◌∷◌, ◌++◌, length, filter, is_some, Bool, true, Option, Some, None, unwrap_or, ◌&&◌, ◌||◌, codes}
+use Rattle.std.specs.Prelude.{◌≡◌, ℕ, zero, suc, ◌^◌, ◌<◌, List, [], ◌∷◌, ◌++◌, length, filter, is_some, Bool, true, Option, Some, None, ◌&&◌, ◌||◌, codes}
 use Rattle.std.specs.List.{flat_map, AllByRecursion}
 use Rattle.byteorder.specs.Endian.{big_bytes}
 use Rattle.vx_pool.specs.declared.pool.Pool.{Pool}

@@ -1,4 +1,4 @@
-use Rattle.std.proofs.Common.{◌≡◌, ℕ, List, Result, Ok, Err, sym, subst, ◌∙◌, arith}
+use Rattle.std.proofs.Common.{◌≡◌, ℕ, List, Result, Ok, Err, arith}
 use Rattle.std.specs.Prelude.{IfOk}
 use Rattle.vx_reading.specs.declared.fault.ClassFault.{ClassFault}
 use Rattle.vx_reading.specs.declared.fault.ClassFault.TheVariants as fault
