@@ -2,3 +2,4 @@ pub mod CallerLaws
 pub mod JoinLaws
 pub mod GroupLaws
 pub mod GroupJoins
+pub mod SweepLaws

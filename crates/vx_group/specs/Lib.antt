@@ -1,3 +1,4 @@
 pub mod Callers
 pub mod Group
 pub mod Keeping
+pub mod Sweep

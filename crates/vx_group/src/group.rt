@@ -293,6 +293,20 @@ impl<S: Space> Group<S> {
         })
     }
 
+    /// The number of the nearest caller, if there is one.
+    pub(crate) fn caller(&self) -> Option<usize>
+        ensures { result ≡ self.now.caller }
+    {
+        self.caller
+    }
+
+    /// How many frames are below the top.
+    pub(crate) fn callers_count(&self) -> usize
+        ensures { result ≡ length self.now.below }
+    {
+        self.below.len()
+    }
+
     /// Appends just the ids that the group holds by itself: path and attempts, then the frame on top.
     pub fn ids_out(&self, ids: &mut Vec<S::Id>) -> Result<(), AllocError>
         ensures ok { OnOk result (ids.new.items ≡ ids.old.items ++ group_ids self.now) }

@@ -6,6 +6,7 @@ pub mod callers;
 pub mod group;
 mod joins;
 mod parts;
+mod sweep;
 
 pub use callers::{Caller, Callers};
 pub use group::{Below, Group};
