@@ -1,0 +1,212 @@
+//! The program on worked examples, over files and sinks in memory.
+#![tactic(auto)]
+
+#[cfg(test)]
+mod tests {
+    use std::alloc::{AllocError, Global};
+    use std::test::Fail;
+    use vx_cli::varex;
+    use vx_io::{MemoryFiles, MemorySink, SteadyFiles, SteadySink, are_distinct};
+
+    /// `main` prints the option A.
+    const PRINTS_OPTION: &[u8] =
+        b"\xca\xfe\xba\xbe\x00\x00\x003\x00\x18\x07\x00\x02\x01\x00\x04Main\x07\x00\x04\x01\x00\x10java/lang/Object\x01\x00\x01A\x01\x00\x01Z\x01\x00\x04main\x01\x00\x16([Ljava/lang/String;)V\x01\x00\x04Code\x09\x00\x0b\x00\x0d\x07\x00\x0c\x01\x00\x10java/lang/System\x0c\x00\x0e\x00\x0f\x01\x00\x03out\x01\x00\x15Ljava/io/PrintStream;\x09\x00\x01\x00\x11\x0c\x00\x05\x00\x06\x0a\x00\x13\x00\x15\x07\x00\x14\x01\x00\x13java/io/PrintStream\x0c\x00\x16\x00\x17\x01\x00\x07println\x01\x00\x04(I)V\x00!\x00\x01\x00\x03\x00\x00\x00\x01\x00\x09\x00\x05\x00\x06\x00\x00\x00\x01\x00\x09\x00\x07\x00\x08\x00\x01\x00\x09\x00\x00\x00\x16\x00\x02\x00\x01\x00\x00\x00\x0a\xb2\x00\x0a\xb2\x00\x10\xb6\x00\x12\xb1\x00\x00\x00\x00\x00\x00";
+
+    /// `main` prints the number 2.
+    const PRINTS_NUMBER: &[u8] =
+        b"\xca\xfe\xba\xbe\x00\x00\x003\x00\x14\x07\x00\x02\x01\x00\x04Main\x07\x00\x04\x01\x00\x10java/lang/Object\x01\x00\x04main\x01\x00\x16([Ljava/lang/String;)V\x01\x00\x04Code\x09\x00\x09\x00\x0b\x07\x00\x0a\x01\x00\x10java/lang/System\x0c\x00\x0c\x00\x0d\x01\x00\x03out\x01\x00\x15Ljava/io/PrintStream;\x0a\x00\x0f\x00\x11\x07\x00\x10\x01\x00\x13java/io/PrintStream\x0c\x00\x12\x00\x13\x01\x00\x07println\x01\x00\x04(I)V\x00!\x00\x01\x00\x03\x00\x00\x00\x00\x00\x01\x00\x09\x00\x05\x00\x06\x00\x01\x00\x07\x00\x00\x00\x14\x00\x06\x00\x04\x00\x00\x00\x08\xb2\x00\x08\x05\xb6\x00\x0e\xb1\x00\x00\x00\x00\x00\x00";
+
+    /// `main` pops from an empty operand stack.
+    const POPS_NOTHING: &[u8] =
+        b"\xca\xfe\xba\xbe\x00\x00\x003\x00\x08\x07\x00\x02\x01\x00\x04Main\x07\x00\x04\x01\x00\x10java/lang/Object\x01\x00\x04main\x01\x00\x16([Ljava/lang/String;)V\x01\x00\x04Code\x00!\x00\x01\x00\x03\x00\x00\x00\x00\x00\x01\x00\x09\x00\x05\x00\x06\x00\x01\x00\x07\x00\x00\x00\x0e\x00\x06\x00\x04\x00\x00\x00\x02W\xb1\x00\x00\x00\x00\x00\x00";
+
+    const FILES: [(&str, &[u8]); 16] = [
+        ("m", b"option A Main A\n"),
+        ("e", b""),
+        ("r", b"option A Main A\nrule true\n"),
+        ("e.cnf", b""),
+        ("a/Main.class", PRINTS_OPTION),
+        ("n/Main.class", PRINTS_NUMBER),
+        ("n/readme", b"no class"),
+        ("i/Main.class", POPS_NOTHING),
+        ("b/1 1.class", b"\xca\xfe\xba"),
+        ("b/2.class", b""),
+        ("f/5.class", PRINTS_NUMBER),
+        ("f/4.class", PRINTS_NUMBER),
+        ("f/3.class", PRINTS_NUMBER),
+        ("f/2.class", PRINTS_NUMBER),
+        ("f/1.class", PRINTS_NUMBER),
+        ("f/readme", b"no class"),
+    ];
+
+    /// Words, and what has to come: the code, `out`, and `err`.
+    const CASES: [(&str, u8, &str, &str); 19] = [
+        (
+            "run a m Main 100 1",
+            0,
+            "varexj report 1\noptions 1\noption A\nlimit 100\nrounds 4\nnode 2 0 1 0\nnode 3 0 0 1\nout 2 0\\0a\nout 3 1\\0a\nend 1 return\ndone\n",
+            "",
+        ),
+        (
+            "run n e Main 100 1",
+            0,
+            "varexj report 1\noptions 0\nlimit 100\nrounds 4\nout 1 2\\0a\nend 1 return\ndone\n",
+            "",
+        ),
+        (
+            "run n e Main 4 1",
+            0,
+            "varexj report 1\noptions 0\nlimit 4\nrounds 4\nout 1 2\\0a\nend 1 return\ndone\n",
+            "",
+        ),
+        (
+            "run n e Main 3 1",
+            0,
+            "varexj report 1\noptions 0\nlimit 3\nrounds 3\nout 1 2\\0a\nend 1 unfinished\ndone\n",
+            "",
+        ),
+        (
+            "run n e Main 2 1",
+            0,
+            "varexj report 1\noptions 0\nlimit 2\nrounds 2\nend 1 unfinished\ndone\n",
+            "",
+        ),
+        (
+            "run n e Main 100",
+            0,
+            "varexj report 2\noptions 0\nlimit 100\nrounds 4\nout 1 2\\0a\nend 1 return\nattempts 1 4\ndone\n",
+            "",
+        ),
+        (
+            "run i e Main 100 1",
+            0,
+            "varexj report 1\noptions 0\nlimit 100\nrounds 1\nend 1 illegal Main.main([Ljava/lang/String;)V@0\ndone\n",
+            "",
+        ),
+        ("run n e Main 0 1", 2, "", "usage\n"),
+        ("run n e Main 007 1", 2, "", "usage\n"),
+        ("run n e Main 1000000001 1", 2, "", "usage\n"),
+        ("run n e Main 100 3", 2, "", "usage\n"),
+        ("run n e Main", 2, "", "usage\n"),
+        (
+            "run b e Main 100 1",
+            7,
+            "",
+            "bad class 1\\201.class at 3 reason 3\n",
+        ),
+        ("run a r Main 100 1", 20, "", "not yet r\n"),
+        ("run n e.cnf Main 100 1", 20, "", "not yet e.cnf\n"),
+        ("run n m Main 100 1", 20, "", "not yet Main.class\n"),
+        ("run n e Other 100 1", 20, "", "not yet Main.class\n"),
+        ("run f e Main 100 1", 20, "", "not yet f\n"),
+        ("run none e Main 100 1", 20, "", "not yet none\n"),
+    ];
+
+    /// Words, the calls of the files, of `out` and of `err` that fail, and what has to come.
+    const FAULTS: [(&str, u64, u64, u64, u8, &str, &str); 6] = [
+        (
+            "run n e Main 100 1",
+            0,
+            3,
+            0,
+            4,
+            "varexj report 1\nopti",
+            "write fault\n",
+        ),
+        (
+            "run n e Main 100 1",
+            0,
+            3,
+            2,
+            4,
+            "varexj report 1\nopti",
+            "write faul",
+        ),
+        ("run f e Main 100 1", 7, 0, 0, 3, "", "read fault 5.class\n"),
+        ("run f e Main 100 1", 2, 0, 0, 3, "", "read fault f\n"),
+        ("run f e Main 100 1", 1, 0, 0, 3, "", "read fault e\n"),
+        (
+            "run f absent Main 100 1",
+            0,
+            0,
+            0,
+            3,
+            "",
+            "read fault absent\n",
+        ),
+    ];
+
+    fn kept(alloc: Global) -> Result<Vec<(String, Vec<u8>)>, AllocError> {
+        let mut kept = Vec::new(alloc);
+        for (path, bytes) in FILES {
+            let file = (
+                String::from_str(alloc, path)?,
+                Vec::from_slice(alloc, bytes)?,
+            );
+            kept.push(file)?;
+        }
+        Ok(kept)
+    }
+
+    fn words(alloc: Global, text: &str) -> Result<Vec<String>, AllocError> {
+        let mut words = Vec::new(alloc);
+        for word in text.split(' ') {
+            words.push(String::from_str(alloc, word)?)?;
+        }
+        Ok(words)
+    }
+
+    #[test]
+    fn reports_and_refusals(rt: HostRuntime) -> Result<(), Fail> {
+        let alloc = rt.alloc();
+        let held = kept(alloc)?;
+        assert!(rt; are_distinct(held.as_slice()));
+        let mut files = SteadyFiles::new(alloc, held)?;
+        for (text, code, written, line) in CASES {
+            let mut out = SteadySink::new(alloc)?;
+            let mut err = SteadySink::new(alloc)?;
+            let words = words(alloc, text)?;
+            let status = varex(alloc, &words, &mut files, &mut out, &mut err);
+            assert_eq!(rt; status.code(), code, "{text}");
+            assert!(rt; out.written() == written.as_bytes(), "{text}");
+            assert!(rt; err.written() == line.as_bytes(), "{text}");
+        }
+        Ok(())
+    }
+
+    #[test]
+    fn faults_of_files_and_sinks(rt: HostRuntime) -> Result<(), Fail> {
+        let alloc = rt.alloc();
+        for (text, files_fail, out_fail, err_fail, code, written, line) in FAULTS {
+            let held = kept(alloc)?;
+            assert!(rt; are_distinct(held.as_slice()));
+            let words = words(alloc, text)?;
+            let mut files = MemoryFiles::new(alloc, held, vec![in alloc; files_fail]?)?;
+            let mut out = MemorySink::new(alloc, 10, vec![in alloc; out_fail]?)?;
+            let mut err = MemorySink::new(alloc, 10, vec![in alloc; err_fail]?)?;
+            let status = varex(alloc, &words, &mut files, &mut out, &mut err);
+            assert_eq!(rt; status.code(), code, "{line}");
+            assert!(rt; out.written() == written.as_bytes(), "{line}");
+            assert!(rt; err.written() == line.as_bytes(), "{line}");
+        }
+        Ok(())
+    }
+
+    #[test]
+    fn a_model_one_byte_too_large(rt: HostRuntime) -> Result<(), Fail> {
+        let alloc = rt.alloc();
+        let mut large = Vec::new(alloc);
+        large.resize(1_048_577, b'#')?;
+        let held = vec![in alloc; (String::from_str(alloc, "m")?, large)]?;
+        assert!(rt; are_distinct(held.as_slice()));
+        let mut files = SteadyFiles::new(alloc, held)?;
+        let mut out = SteadySink::new(alloc)?;
+        let mut err = SteadySink::new(alloc)?;
+        let words = words(alloc, "run f m Main 100 1")?;
+        let status = varex(alloc, &words, &mut files, &mut out, &mut err);
+        assert_eq!(rt; status.code(), 13);
+        assert!(rt; out.written().is_empty());
+        assert!(rt; err.written() == b"too large m 1048576\n".as_slice());
+        Ok(())
+    }
+}
