@@ -1,0 +1,7 @@
+//! Feature models as DIMACS CNF: variables with names, and clauses.
+#![tactic(auto)]
+
+mod draft;
+mod line;
+mod number;
+mod text;
