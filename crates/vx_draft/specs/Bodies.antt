@@ -1,7 +1,6 @@
 -- The body of a method: its labels, each with the number of the instruction behind it.
-use Rattle.std.specs.Prelude.{ℕ, ◌+◌, List, [], ◌∷◌, ◌++◌, Bool, true, false, Option, Some, None, if◌then◌else◌}
+use Rattle.std.specs.Prelude.{ℕ, ◌+◌, List, [], ◌∷◌, ◌++◌, Option, Some, None, if◌then◌else◌}
 use Rattle.std.specs.Str.{bytes_eq}
-use Rattle.vx_source.specs.declared.statement.Statement.{Statement}
 use Rattle.vx_source.specs.declared.statement.Statement.TheVariants as statement
 use Rattle.vx_source.specs.declared.lines.Said.{Said}
 use Rattle.vx_source.specs.declared.lines.Said.TheVariants as said

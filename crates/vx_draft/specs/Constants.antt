@@ -1,5 +1,5 @@
 -- The pool of an assembled class: its constants in the order in which they are first needed, each once. An entry stands before those that it refers to.
-use Rattle.std.specs.Prelude.{ℕ, ℤ, suc, ◌+◌, ◌%◌, List, [], ◌∷◌, ◌++◌, length, sum_by, Bool, true, false, nat_lt, ◌&&◌, if◌then◌else◌}
+use Rattle.std.specs.Prelude.{ℕ, ◌+◌, ◌%◌, List, [], ◌∷◌, ◌++◌, length, sum_by, Bool, true, false, nat_lt, ◌&&◌, if◌then◌else◌}
 use Rattle.std.specs.List.{list_any, flat_map}
 use Rattle.std.specs.Str.{bytes_eq}
 use Rattle.std.specs.Ordering.{int_eq}

@@ -1,6 +1,6 @@
 -- The code of a method that is assembled: instructions whose jumps name others by their numbers, and the bytes of all.
-use Rattle.std.specs.Prelude.{ℕ, ℤ, pos, ◌+◌, ◌-◌, ◌*◌, ◌%◌, ◌+ℤ◌, List, [], ◌∷◌, ◌++◌, length, slice_index, min, replicate, Bool, true, false, nat_le, ◌&&◌, if◌then◌else◌}
-use Rattle.std.specs.List.{list_all, flat_map}
+use Rattle.std.specs.Prelude.{ℕ, ℤ, ◌+◌, ◌-◌, ◌*◌, ◌%◌, List, [], ◌∷◌, ◌++◌, length, slice_index, min, replicate, Bool, true, nat_le, ◌&&◌}
+use Rattle.std.specs.List.{flat_map}
 use Rattle.std.specs.Int.{w32, cast_unsigned}
 use Rattle.byteorder.specs.Endian.{big_bytes}
 use Rattle.vx_class.specs.Spelling.{u2, u4}

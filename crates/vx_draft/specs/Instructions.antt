@@ -1,5 +1,5 @@
 -- One instruction of a body: its labels, its rules, the constant that it needs, and its draft.
-use Rattle.std.specs.Prelude.{ℕ, ℤ, ◌+◌, List, [], ◌∷◌, ◌++◌, length, map, Bool, true, false, not, is_some, nat_le, nat_lt, int_lt, ◌==◌, ◌&&◌, ◌||◌, Option, Some, None, unwrap_or, Ok, if◌then◌else◌}
+use Rattle.std.specs.Prelude.{ℕ, ℤ, ◌+◌, List, [], ◌∷◌, ◌++◌, map, Bool, true, not, is_some, nat_le, nat_lt, int_lt, ◌==◌, ◌&&◌, ◌||◌, Option, Some, None, unwrap_or, Ok, if◌then◌else◌}
 use Rattle.std.specs.List.{list_all}
 use Rattle.std.specs.Int.{w16, w32, cast_unsigned}
 use Rattle.byteorder.specs.Endian.{big_bytes}
@@ -14,9 +14,7 @@ use Rattle.vx_source.specs.declared.statement.Case.{Case}
 use Rattle.vx_source.specs.declared.statement.Instruction.{Instruction}
 use Rattle.vx_draft.specs.Bodies.{find_label}
 use Rattle.vx_draft.specs.Rules.{is_lawful_class, is_plain_class, is_lawful_field, is_lawful_method, is_callable, interface_slots, has_dimensions}
-use Rattle.vx_draft.specs.Constants.{with, with_class, with_literal, with_member, index_of}
 use Rattle.vx_draft.specs.declared.labels.Labels.{Labels}
-use Rattle.vx_draft.specs.declared.labels.Label.{Label}
 use Rattle.vx_draft.specs.declared.constants.Constant.{Constant}
 use Rattle.vx_draft.specs.declared.constants.Constant.TheVariants as constant
 use Rattle.vx_draft.specs.declared.constants.Kind.{Kind}

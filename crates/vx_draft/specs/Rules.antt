@@ -1,5 +1,5 @@
 -- The rules that names, descriptors and flags of a source meet (JVMS 4.2, 4.3, 4.6, 4.9.1).
-use Rattle.std.specs.Prelude.{ℕ, ◌+◌, List, [], ◌∷◌, length, take_while, slice_index, Bool, true, false, not, is_some, nat_le, nat_lt, ◌==◌, ◌&&◌, ◌||◌, Option, Some, None, unwrap_or, if◌then◌else◌, codes}
+use Rattle.std.specs.Prelude.{ℕ, ◌+◌, List, length, slice_index, Bool, true, false, not, nat_le, nat_lt, ◌==◌, ◌&&◌, ◌||◌, Option, Some, None, unwrap_or, if◌then◌else◌, codes}
 use Rattle.std.specs.Str.{bytes_eq}
 use Rattle.vx_desc.specs.declared.java_type.Base.{Base}
 use Rattle.vx_desc.specs.declared.java_type.Base.TheVariants as base
@@ -8,7 +8,7 @@ use Rattle.vx_desc.specs.Names.{is_field_name, is_method_name, is_init}
 use Rattle.vx_desc.specs.Descriptors.{is_field_descriptor, is_method_descriptor, field_type, method_slots}
 use Rattle.vx_code.specs.Lookups.{is_array, is_class_text}
 use Rattle.vx_code.specs.Instructions.{dimensions}
-use Rattle.vx_class.specs.Members.{has, STATIC, INTERFACE, is_static, takes_code, slots_of, is_lawful_initialiser}
+use Rattle.vx_class.specs.Members.{has, STATIC, INTERFACE, is_static, takes_code, slots_of}
 use Rattle.vx_source.specs.declared.statement.Value.{Value}
 use Rattle.vx_source.specs.declared.statement.Value.TheVariants as value
 

@@ -1,4 +1,4 @@
-use Rattle.std.proofs.Common.{◌≡◌, ◌+◌, ◌*◌, ◌≤◌, ◌++◌, take, drop, length}
+use Rattle.std.proofs.Common.{◌≡◌, ◌+◌, ◌*◌, ◌≤◌, drop}
 use Rattle.vx_draft.specs.Constants.{index_from}
 use Rattle.vx_draft.proofs.constants.index_of.Given as goal
 

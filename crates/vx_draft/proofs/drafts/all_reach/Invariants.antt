@@ -1,4 +1,4 @@
-use Rattle.std.proofs.Common.{◌≡◌, ◌+◌, ◌*◌, ◌≤◌, ◌++◌, take, drop, length}
+use Rattle.std.proofs.Common.{◌≡◌, ◌≤◌, drop}
 use Rattle.vx_draft.specs.Drafts.{all_reach}
 use Rattle.vx_draft.proofs.drafts.all_reach.Given as goal
 

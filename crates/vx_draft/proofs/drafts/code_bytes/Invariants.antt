@@ -1,4 +1,4 @@
-use Rattle.std.proofs.Common.{◌≡◌, ◌+◌, ◌*◌, ◌≤◌, ◌++◌, take, drop, length}
+use Rattle.std.proofs.Common.{◌≡◌, ◌≤◌, ◌++◌, drop}
 use Rattle.vx_draft.specs.Drafts.{code_bytes}
 use Rattle.vx_draft.proofs.drafts.code_bytes.Given as goal
 

@@ -1,4 +1,4 @@
-use Rattle.std.proofs.Common.{◌≡◌, ◌+◌, ◌*◌, ◌≤◌, ◌++◌, take, drop, length}
+use Rattle.std.proofs.Common.{◌≡◌, drop}
 use Rattle.vx_draft.specs.Bodies.{find_label}
 use Rattle.vx_draft.proofs.labels.find_label.Given as goal
 

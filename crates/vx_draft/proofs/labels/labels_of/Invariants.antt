@@ -1,4 +1,4 @@
-use Rattle.std.proofs.Common.{◌≡◌, ◌+◌, ◌*◌, ◌≤◌, ◌++◌, take, drop, length}
+use Rattle.std.proofs.Common.{◌≡◌, ◌≤◌, drop}
 use Rattle.vx_draft.specs.Bodies.{labels_from, labels_of}
 use Rattle.vx_draft.proofs.labels.labels_of.Given as goal
 
