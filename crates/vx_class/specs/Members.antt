@@ -21,8 +21,9 @@ use Rattle.vx_class.specs.Code.{utf8_at, content_at, code_at}
 
 -- ---- access flags
 
+-- all bits of a flag stand among these
 abbrev pub has : ℕ → ℕ → Bool
-has flags flag = not (bit_and flags flag == 0)
+has flags flag = bit_and flags flag == flag
 
 abbrev pub STATIC : ℕ
 STATIC = 0x0008

@@ -6,25 +6,17 @@ ghost use Rattle.vx_reading.specs.Reading.{Gives, GivesBy, steps, behind};
 ghost use Rattle.vx_desc.specs.Names.{is_field_name, is_method_name};
 ghost use Rattle.vx_desc.specs.Descriptors.{is_field_descriptor, is_method_descriptor};
 ghost use Rattle.vx_code.specs.Lookups.{entry_of};
-ghost use Rattle.vx_class.specs.Members.{has, is_number_for, is_constant_for, constant_at, field_attribute_at, constant_among, code_among, lawful_at, is_text_of, is_same, field_at, fields_at, method_attribute_at, is_static, takes_code, slots_of, is_lawful_initialiser, method_at, methods_at};
+ghost use Rattle.vx_class.specs.Members.{is_number_for, is_constant_for, constant_at, field_attribute_at, constant_among, code_among, lawful_at, is_text_of, is_same, field_at, fields_at, method_attribute_at, is_static, takes_code, slots_of, is_lawful_initialiser, method_at, methods_at};
 
 use crate::class_file::Field;
 use crate::code::{content, utf8};
+use crate::flags::{STATIC, has};
 use std::alloc::Global;
 use vx_code::{entry_of, is_usable, text};
 use vx_desc::{Base, field_type, is_field_descriptor, is_field_name};
 use vx_list::Items;
 use vx_pool::{ClassFault, Cursor, Entry, Pool};
 use vx_reading::refusal;
-
-const STATIC: u16 = 0x0008;
-
-/// Whether an access flag is set.
-pub fn has(flags: u16, flag: u16) -> bool
-    ensures { result ≡ has flags flag }
-{
-    flags & flag != 0
-}
 
 /// Whether an entry is a number of a type.
 fn is_number_for(base: Base, pool: &Pool, index: u16) -> bool

@@ -9,7 +9,8 @@ ghost use Rattle.vx_class.specs.Members.{lawful_at, is_same, method_attribute_at
 
 use crate::class_file::{Code, Method};
 use crate::code::{content, read_code, utf8};
-use crate::members::{has, is_same};
+use crate::flags::{ABSTRACT, NATIVE, STATIC, has};
+use crate::members::is_same;
 use std::alloc::{AllocError, Global};
 use vx_desc::{
     is_clinit, is_init, is_method_descriptor, is_method_name, method_slots, returns_nothing,
@@ -17,12 +18,6 @@ use vx_desc::{
 use vx_list::Items;
 use vx_pool::{ClassFault, Cursor, Pool};
 use vx_reading::refusal;
-
-const STATIC: u16 = 0x0008;
-
-const NATIVE: u16 = 0x0100;
-
-const ABSTRACT: u16 = 0x0400;
 
 #[tactic(auto, unfolding(crate::specs::Members::lawful_at))]
 fn method_name<'p>(pool: &'p Pool, cursor: &mut Cursor) -> Result<(u16, &'p [u8]), ClassFault>

@@ -9,7 +9,8 @@ ghost use Rattle.vx_class.specs.Class.{versions_at, checked_pool_at, interface_a
 
 use crate::class_file::ClassFile;
 use crate::code::skip_all;
-use crate::members::{fields, has};
+use crate::flags::{INTERFACE, has};
+use crate::members::fields;
 use crate::methods::methods;
 use std::alloc::Global;
 use vx_code::{check_entries, class_text, is_array, is_class, is_usable};
@@ -18,8 +19,6 @@ use vx_pool::{ClassFault, Cursor, Pool, read_pool};
 use vx_reading::refusal;
 
 const MAGIC: u32 = 0xCAFE_BABE;
-
-const INTERFACE: u16 = 0x0200;
 
 /// The minor and the major version, behind the magic number.
 #[tactic(auto, unfolding(crate::specs::Class::versions_at))]

@@ -9,7 +9,7 @@ use Rattle.vx_words.specs.Decimal.{decimal}
 use Rattle.vx_model.specs.Formula.{Formula}
 use Rattle.vx_model.specs.Formula as tree
 use Rattle.vx_model.specs.Grammar.{disjunction}
-use Rattle.vx_model.specs.Tokens.{is_name}
+use Rattle.vx_words.specs.Names.{is_name}
 use Rattle.vx_model.specs.Text.{clashes, slash, BadLine, at_line}
 use Rattle.vx_model.specs.declared.model.Model.{Model}
 use Rattle.vx_model.specs.declared.model.OptionField.{OptionField}

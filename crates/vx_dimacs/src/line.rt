@@ -11,9 +11,9 @@ ghost use Rattle.vx_dimacs.specs.Dimacs.{State, is_numbered, is_variable_name, i
 use crate::number::{Mark, TOO_MANY};
 use std::alloc::Global;
 use vx_list::Items;
-use vx_model::{FieldPlace, OptionField, Refusal, is_name, is_taken, slashed};
+use vx_model::{FieldPlace, OptionField, Refusal, is_taken, slashed};
 use vx_value::Name;
-use vx_words::{decimal_up_to, next_word};
+use vx_words::{decimal_up_to, is_name, next_word};
 
 /// How many variables and clauses there are.
 #[derive(Clone, Copy, Debug, PartialEq, Eq)]

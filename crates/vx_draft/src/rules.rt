@@ -4,30 +4,17 @@ ghost use Rattle.std.specs.Prelude.{◌≡◌, ◌+◌, ◌<◌, ◌≤◌, ◌^
 ghost use Rattle.vx_desc.specs.Descriptors.{is_method_descriptor};
 ghost use Rattle.vx_code.specs.Lookups.{is_class_text};
 ghost use Rattle.vx_code.specs.Instructions.{dimensions};
-ghost use Rattle.vx_class.specs.Members.{has, takes_code, slots_of, is_lawful_initialiser};
+ghost use Rattle.vx_class.specs.Members.{takes_code, slots_of, is_lawful_initialiser};
 ghost use Rattle.vx_draft.specs.Rules.{is_short, is_lawful_class, is_plain_class, is_lawful_field, is_lawful_method, is_int_base, is_long_base, is_value_of_type, is_number_for, is_value_for, is_nothing, may_have_value, receiver, is_lawful_code, is_callable, interface_slots, has_dimensions};
 
 use std::alloc::{AllocError, Global};
+use vx_class::{ABSTRACT, INTERFACE, NATIVE, STATIC, has};
 use vx_code::is_array;
 use vx_desc::{
     Base, JavaType, field_type, is_class_name, is_clinit, is_field_descriptor, is_field_name,
     is_init, is_method_name, method_slots, returns_nothing,
 };
 use vx_source::Value;
-
-const STATIC: u16 = 0x0008;
-
-const NATIVE: u16 = 0x0100;
-
-const INTERFACE: u16 = 0x0200;
-
-const ABSTRACT: u16 = 0x0400;
-
-fn has(flags: u16, flag: u16) -> bool
-    ensures { result ≡ has flags flag }
-{
-    flags & flag != 0
-}
 
 fn is_short(name: &[u8]) -> bool
     ensures { result ≡ is_short name.now }

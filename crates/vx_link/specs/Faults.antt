@@ -2,12 +2,12 @@
 use Rattle.std.specs.List.{list_all, list_any}
 use Rattle.std.specs.Option.{option_or}
 use Rattle.std.specs.Prelude.{Bool, List, None, Option, Some, [], bytes_eq, codes, false, find, flat_map, if◌then◌else◌, is_some, length, map, not, option_map, option_to_list, suc, true, zero, ℕ, ◌&&◌, ◌++◌, ◌==◌, ◌||◌, ◌∷◌}
-use Rattle.vx_class.specs.Members.{INTERFACE, STATIC}
+use Rattle.vx_class.specs.Members.{has, INTERFACE, STATIC}
 use Rattle.vx_class.specs.declared.class_file.ClassFile.{ClassFile}
 use Rattle.vx_class.specs.declared.class_file.Field.{Field}
 use Rattle.vx_class.specs.declared.class_file.Method.{Method}
 use Rattle.vx_link.specs.Names.{class_name, utf8}
-use Rattle.vx_link.specs.Parts.{FINAL, PUBLIC, has_bits}
+use Rattle.vx_link.specs.Parts.{FINAL, PUBLIC}
 use Rattle.vx_link.specs.declared.fault.LinkFault.{LinkFault}
 use Rattle.vx_link.specs.declared.fault.LinkFault.TheVariants.{Cycle, FinalSuper, NoMain, NoOption, NoSuper, Twice}
 
@@ -29,7 +29,7 @@ abbrev pub interface_names : ClassFile → List (List ℕ)
 interface_names c = map (class_name c.pool) c.interfaces
 
 abbrev pub is_interface_file : ClassFile → Bool
-is_interface_file c = has_bits INTERFACE c.flags
+is_interface_file c = has c.flags INTERFACE
 
 -- the class file of a name, the first where there are several
 abbrev pub file_named : List ClassFile → List ℕ → Option ClassFile
@@ -63,7 +63,7 @@ interfaces_fit all c = list_all (λ name. passes is_interface_file (file_named a
 
 abbrev pub super_is_final : List ClassFile → Option (List ℕ) → Bool
 super_is_final all None = false
-super_is_final all (Some name) = passes (λ s. has_bits FINAL s.flags) (file_named all name)
+super_is_final all (Some name) = passes (λ s. has s.flags FINAL) (file_named all name)
 
 -- class by class: one of them does not fit, before a superclass that is final
 abbrev pub bad_super : List ClassFile → List ClassFile → Option LinkFault
@@ -99,7 +99,7 @@ cycle all classes = option_map (λ c. Cycle (name_of c)) (find (is_own_ancestor 
 abbrev pub is_option_field : ClassFile → List ℕ → Field → Bool
 is_option_field c name f =
     bytes_eq (utf8 c.pool f.name) name
-    && (bytes_eq (utf8 c.pool f.descriptor) (codes "Z") && (has_bits STATIC f.flags || is_interface_file c))
+    && (bytes_eq (utf8 c.pool f.descriptor) (codes "Z") && (has f.flags STATIC || is_interface_file c))
 
 -- a class of the folder declares the field of an option that has one
 abbrev pub has_place : List ClassFile → Option (List ℕ × List ℕ) → Bool
@@ -115,7 +115,7 @@ abbrev pub is_main : ClassFile → Method → Bool
 is_main c m =
     bytes_eq (utf8 c.pool m.name) (codes "main")
     && (bytes_eq (utf8 c.pool m.descriptor) (codes "([Ljava/lang/String;)V")
-    && (has_bits PUBLIC m.flags && (has_bits STATIC m.flags && is_some m.code)))
+    && (has m.flags PUBLIC && (has m.flags STATIC && is_some m.code)))
 
 abbrev pub no_main : List ClassFile → List ℕ → Option LinkFault
 no_main classes main =

@@ -1,6 +1,6 @@
 -- The parts of a program by their numbers, and their access flags (JVMS 4.1, 4.5, 4.6).
 use Rattle.std.specs.Prelude.{Bool, List, None, [], bit_and, false, length, map, not, ℕ, ◌&&◌, ◌==◌}
-use Rattle.vx_class.specs.Members.{ABSTRACT, INTERFACE, STATIC}
+use Rattle.vx_class.specs.Members.{has as has_flag, ABSTRACT, INTERFACE, STATIC}
 use Rattle.vx_link.specs.declared.access_flags.AccessFlags.{AccessFlags}
 use Rattle.vx_link.specs.declared.program.LinkedClass.{LinkedClass}
 use Rattle.vx_link.specs.declared.program.LinkedField.{LinkedField}
@@ -19,12 +19,8 @@ PRIVATE = 0x0002
 abbrev pub FINAL : ℕ
 FINAL = 0x0010
 
--- all bits of a flag stand among these
-abbrev pub has_bits : ℕ → ℕ → Bool
-has_bits flag flags = bit_and flags flag == flag
-
 abbrev pub has : ℕ → AccessFlags → Bool
-has flag flags = has_bits flag flags.0
+has flag flags = has_flag flags.0 flag
 
 -- ---- classes, methods, fields
 

@@ -6,7 +6,8 @@ use Rattle.std.specs.List.{list_any, list_all}
 use Rattle.std.proofs.lemmas.Bool.Decides.{nat_tests}
 use Rattle.vx_words.specs.Lines.{words, behind_word}
 use Rattle.vx_model.specs.Formula.{Formula}
-use Rattle.vx_model.specs.Tokens.{is_name, tokens}
+use Rattle.vx_model.specs.Tokens.{tokens}
+use Rattle.vx_words.specs.Names.{is_name}
 use Rattle.vx_model.specs.Parser.{parsed}
 use Rattle.vx_model.specs.Text.{statement_of, line_by, option_line, declared, rule_line, demanded, begins_comment, is_plain, clashes, is_unknown}
 use Rattle.vx_model.specs.declared.token.Token.{Token}

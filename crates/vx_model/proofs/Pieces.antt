@@ -3,7 +3,8 @@ use Rattle.std.proofs.Common.{◌≡◌, ℕ, suc, ◌+◌, List, [], ◌∷◌,
 use Rattle.std.specs.List.{prefix_len}
 use Rattle.std.proofs.lemmas.Bool.Decides.{nat_tests}
 use Rattle.vx_words.specs.Lines.{with_first, is_blank, skip}
-use Rattle.vx_model.specs.Tokens.{pieces, joins_arrow, joins, is_word_byte, piece_length}
+use Rattle.vx_model.specs.Tokens.{pieces, joins_arrow, joins, piece_length}
+use Rattle.vx_words.specs.Names.{is_word_byte}
 
 one_more : (n : ℕ) → 1 + n ≡ suc n
 one_more n = omega arith

@@ -4,7 +4,8 @@ use Rattle.std.specs.List.{list_all, list_any}
 use Rattle.std.specs.Str.{bytes_eq}
 use Rattle.vx_words.specs.Lines.{lines, words, behind_word}
 use Rattle.vx_model.specs.Formula.{Formula}
-use Rattle.vx_model.specs.Tokens.{is_name, tokens}
+use Rattle.vx_model.specs.Tokens.{tokens}
+use Rattle.vx_words.specs.Names.{is_name}
 use Rattle.vx_model.specs.Parser.{parsed}
 use Rattle.vx_model.specs.declared.token.Token.{Token}
 use Rattle.vx_model.specs.declared.token.Token.TheVariants as token

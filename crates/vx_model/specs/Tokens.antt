@@ -4,23 +4,10 @@ use Rattle.std.specs.List.{list_all, prefix_len, position_or_len}
 use Rattle.std.specs.Str.{bytes_eq}
 use Rattle.std.specs.Char.{is_ascii_digit, is_ascii_alphabetic}
 use Rattle.vx_words.specs.Lines.{with_first, is_blank}
+use Rattle.vx_words.specs.Names.{is_word_byte, is_name}
 use Rattle.vx_model.specs.declared.model.OptionField.{OptionField}
 use Rattle.vx_model.specs.declared.token.Token.{Token}
 use Rattle.vx_model.specs.declared.token.Token.TheVariants as token
-
--- a letter, a digit or _
-abbrev pub is_word_byte : ℕ → Bool
-is_word_byte b = is_ascii_alphabetic b || (is_ascii_digit b || b == 95)
-
-abbrev pub begins_with_digit : List ℕ → Bool
-begins_with_digit [] = false
-begins_with_digit (b ∷ bs) = is_ascii_digit b
-
--- 1 to 64 letters, digits or _, of which the first is no digit, but neither true nor false
-unfoldable pub is_name : List ℕ → Bool
-is_name word =
-    (nat_le 1 (length word) && nat_le (length word) 64) && (list_all is_word_byte word && not (begins_with_digit word))
-    && not (bytes_eq word (codes "true") || bytes_eq word (codes "false"))
 
 -- Two bytes that stand side by side belong together in a word, and in an arrow.
 abbrev pub joins : ℕ → ℕ → Bool

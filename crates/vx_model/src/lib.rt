@@ -16,4 +16,3 @@ pub use fault::ModelFault;
 pub use model::{FieldPlace, Model, OptionField};
 pub use statement::{Refusal, is_taken, slashed};
 pub use text::{fault_at, read_model};
-pub use token::is_name;

@@ -10,7 +10,7 @@ ghost use Rattle.vx_model.specs.Answers.{Judges};
 use crate::expr::Expr;
 use crate::model::{FieldPlace, OptionField};
 use crate::rule::{RuleFault, rule_of};
-use crate::token::{Token, is_name, tokens_of};
+use crate::token::{Token, tokens_of};
 use std::alloc::{AllocError, AllocFailed, Global};
 use vx_value::Name;
 use vx_words::next_word;

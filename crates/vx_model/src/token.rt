@@ -1,13 +1,14 @@
 //! Tokens of a rule's text.
 
 ghost use Rattle.std.specs.Prelude.{◌≡◌, ◌≤◌, ◌<◌, ◌↔◌, ◌∷◌, [], length, IfOk, IfSome, IsNone, unwrap_or, position, ◌&&◌, nat_le};
-ghost use Rattle.std.specs.List.{list_all, prefix_len};
+ghost use Rattle.std.specs.List.{prefix_len};
 ghost use Rattle.std.specs.Str.{bytes_eq};
-ghost use Rattle.vx_model.specs.Tokens.{is_word_byte, begins_with_digit, is_name, pieces, number_of, word_token, token_of, tokens, piece_length};
+ghost use Rattle.vx_words.specs.Names.{is_word_byte};
+ghost use Rattle.vx_model.specs.Tokens.{pieces, number_of, word_token, token_of, tokens, piece_length};
 
 use crate::model::OptionField;
 use std::alloc::{AllocError, Global};
-use vx_words::skip_blanks;
+use vx_words::{is_name, is_word_byte, skip_blanks};
 
 /// A token of a rule's text. `Name` has the number of an option, or the number of all options for a name that none has.
 #[derive(Clone, Copy, Debug, PartialEq, Eq)]
@@ -27,38 +28,6 @@ pub enum Token {
 const TRUE: &[u8] = b"true";
 
 const FALSE: &[u8] = b"false";
-
-fn is_word_byte(byte: u8) -> bool
-    ensures { result ≡ is_word_byte byte }
-{
-    byte.is_ascii_alphabetic() || byte.is_ascii_digit() || byte == b'_'
-}
-
-fn are_word_bytes(word: &[u8]) -> bool
-    ensures { result ≡ list_all is_word_byte word.now }
-{
-    word.iter().all(|b| is_word_byte(*b))
-}
-
-fn begins_with_digit(word: &[u8]) -> bool
-    ensures { result ≡ begins_with_digit word.now }
-{
-    match word {
-        [] => false,
-        [first, ..] => first.is_ascii_digit(),
-    }
-}
-
-/// Whether a word is a name: 1 to 64 letters, digits or `_`, of which the first is no digit, but neither `true` nor
-/// `false`.
-#[tactic(auto, unfolding(crate::specs::Tokens::is_name))]
-pub fn is_name(word: &[u8]) -> bool
-    ensures { result ≡ is_name word.now }
-{
-    (1 <= word.len() && word.len() <= 64)
-        && (are_word_bytes(word) && !begins_with_digit(word))
-        && !(word == TRUE || word == FALSE)
-}
 
 fn has_name(option: &OptionField, name: &[u8]) -> bool
     ensures { result ≡ bytes_eq option.now.name name.now }

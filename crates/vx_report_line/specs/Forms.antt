@@ -4,24 +4,10 @@ use Rattle.std.specs.List.{list_all}
 use Rattle.std.specs.Str.{bytes_eq}
 use Rattle.vx_value.specs.declared.end.End.{End}
 use Rattle.vx_value.specs.declared.end.End.TheVariants.{Return, Exit, Uncaught, Unsupported, Illegal, Unfinished}
+use Rattle.vx_words.specs.Names.{is_name}
 use Rattle.vx_report.specs.Lines.{line_text}
 use Rattle.vx_report.specs.declared.line.Line.{Line}
 use Rattle.vx_report.specs.declared.line.Line.TheVariants.{Head, Count, Named, Limit, Rounds, Numbered, Printed, Ended, Spent, Done}
-
-abbrev pub is_digit : ℕ → Bool
-is_digit b = nat_le 48 b && nat_le b 57
-
--- a letter, a digit or `_`
-abbrev pub is_name_byte : ℕ → Bool
-is_name_byte b = is_digit b || (nat_le 65 b && nat_le b 90) || (nat_le 97 b && nat_le b 122) || (b == 95)
-
-abbrev pub begins_with_digit : List ℕ → Bool
-begins_with_digit [] = false
-begins_with_digit (b ∷ bs) = is_digit b
-
--- the name of an option: 1 to 64 letters, digits and `_`, no digit first, and neither `true` nor `false`
-unfoldable pub is_name : List ℕ → Bool
-is_name name = nat_le 1 (length name) && nat_le (length name) 64 && list_all is_name_byte name && not (begins_with_digit name) && not (bytes_eq name (codes "true")) && not (bytes_eq name (codes "false"))
 
 -- at least one byte
 abbrev pub is_text : List ℕ → Bool

@@ -10,7 +10,9 @@ use Rattle.vx_value.specs.Words.{is_plain}
 use Rattle.vx_report.specs.declared.line.Line.{Line}
 use Rattle.vx_report.specs.declared.line.Line.TheVariants.{Head, Count, Named, Limit, Rounds, Numbered, Printed, Ended, Spent, Done}
 use Rattle.vx_report.specs.Lines.{kinds}
-use Rattle.vx_report_line.specs.Forms.{is_name, is_named, is_digit}
+use Rattle.vx_words.specs.Decimal.{is_digit}
+use Rattle.vx_words.specs.Names.{is_name}
+use Rattle.vx_report_line.specs.Forms.{is_named}
 
 infixl 10 ◌>>=◌
 abbrev pub ◌>>=◌ : {A B : Type 0} → Option A → (A → Option B) → Option B

@@ -2,7 +2,8 @@
 
 ghost use Rattle.std.specs.Prelude.{◌≡◌, ◌≤◌, ◌-◌, ◌^◌, negsuc, IfOk, IfSome};
 ghost use Rattle.vx_value.specs.declared.end.Stream.{Stream};
-ghost use Rattle.vx_report_line.specs.Forms.{is_name, is_name_byte, is_digit, begins_with_digit, is_named, IsSpelled, IsOnly};
+ghost use Rattle.vx_words.specs.Decimal.{is_digit};
+ghost use Rattle.vx_report_line.specs.Forms.{is_named, IsSpelled, IsOnly};
 ghost use Rattle.vx_report_line.specs.Parsing.{negative_in, positive_in, code_in, kind_in, unsupported_in, named_end_in, end_in, node_line_in, piece_in, end_line_in, attempts_in, head_in, count_in, name_in, limit_in, rounds_in, setting_in, front_in, last_in, printed_in, line_in};
 ghost use Rattle.std.specs.List.{list_all};
 ghost use Rattle.std.specs.Str.{bytes_eq};
@@ -244,39 +245,6 @@ fn rounds_line(text: &[u8]) -> Option<Line>
 {
     let rounds = wide_number(text)?;
     Some(Line::Rounds(rounds))
-}
-
-fn is_name_byte(b: u8) -> bool
-    ensures { result ≡ is_name_byte b }
-{
-    b.is_ascii_digit() || b.is_ascii_uppercase() || b.is_ascii_lowercase() || b == b'_'
-}
-
-fn are_name_bytes(name: &[u8]) -> bool
-    ensures { result ≡ list_all is_name_byte name.now }
-{
-    name.iter().all(|b| is_name_byte(*b))
-}
-
-fn begins_with_digit(name: &[u8]) -> bool
-    ensures { result ≡ begins_with_digit name.now }
-{
-    match name {
-        [] => false,
-        [first, ..] => first.is_ascii_digit(),
-    }
-}
-
-#[tactic(auto, unfolding(crate::specs::Forms::is_name))]
-fn is_name(name: &[u8]) -> bool
-    ensures { result ≡ is_name name.now }
-{
-    1 <= name.len()
-        && name.len() <= 64
-        && are_name_bytes(name)
-        && !begins_with_digit(name)
-        && !is_word(name, b"true")
-        && !is_word(name, b"false")
 }
 
 #[tactic(auto, unfolding(crate::specs::Parsing::name_in))]

@@ -3,36 +3,21 @@
 ghost use Rattle.std.specs.Prelude.{◌≡◌, IfOk, IfSome, ◌≤◌, length};
 ghost use Rattle.std.specs.List.{list_all};
 ghost use Rattle.std.specs.Option.{option_copied};
-ghost use Rattle.vx_class.specs.Members.{has};
 ghost use Rattle.vx_straight.specs.FirstClass.{is_named, is_flag, is_main, uncaught, main_code, has_option, program_of, program_with};
 
 use crate::names::{is_core_name, is_given};
 use crate::program::Program;
 use crate::walk::{has_field, steps_of};
 use std::alloc::{AllocError, Global};
-use vx_class::{ClassFile, Code, Field, Method};
+use vx_class::{ABSTRACT, ClassFile, Code, Field, INTERFACE, Method, NATIVE, STATIC, has};
 use vx_code::{class_text, text};
 use vx_pool::Pool;
 use vx_value::Name;
 
 const PUBLIC: u16 = 0x0001;
 
-const STATIC: u16 = 0x0008;
-
-const NATIVE: u16 = 0x0100;
-
-const INTERFACE: u16 = 0x0200;
-
-const ABSTRACT: u16 = 0x0400;
-
 /// The most bytes that the code of a method has (JVMS 4.7.3).
 const MOST_CODE: usize = 65_535;
-
-fn has(flags: u16, flag: u16) -> bool
-    ensures { result ≡ has flags flag }
-{
-    flags & flag != 0
-}
 
 /// Whether the class has this name, which no core class has, directly extends `java/lang/Object`, and implements nothing.
 fn is_named(class: &ClassFile, main: &[u8]) -> bool

@@ -3,9 +3,11 @@
 
 mod decimal;
 mod lines;
+mod names;
 
 pub use decimal::decimal_up_to;
 pub use lines::{is_blank, next_line, next_word, skip_blanks};
+pub use names::{is_name, is_word_byte};
 
 #[cfg(test)]
 mod tests {
