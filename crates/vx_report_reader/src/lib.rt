@@ -1,6 +1,9 @@
-//! The body of a report, read line by line: each line is taken where it may follow those before it, or refused.
+//! Reports read from their text: each line is taken where it may follow those before it, and the first that may not is
+//! the fault.
 #![tactic(auto)]
 
 pub mod body;
+pub mod reading;
 
 pub use body::Body;
+pub use reading::{ReportFault, read_report};

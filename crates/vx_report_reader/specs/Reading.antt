@@ -1,0 +1,21 @@
+-- What the reading of a report answers.
+use Rattle.std.specs.Prelude.{◌≡◌, ℕ, List, Result, Ok, Err}
+use Rattle.vx_report.specs.declared.report.Report.{Report}
+use Rattle.vx_report_reader.specs.declared.reading.ReportFault.{ReportFault}
+use Rattle.vx_report_reader.specs.declared.reading.ReportFault.TheVariants.{NoMemory, Line}
+use Rattle.vx_report_reader.specs.Rules.{ReportText, IsBadLine}
+
+-- this report, or want of memory
+abbrev pub IsReadAs : Report → Result Report ReportFault → Type 0
+IsReadAs r (Ok found) = found ≡ r
+IsReadAs r (Err NoMemory) = Unit {0}
+IsReadAs r (Err (Line n)) = ⊥
+
+-- where the bytes are the text of a report, it is given, unless memory runs out
+pub record IsOnlyReading (bytes : List ℕ) (answer : Result Report ReportFault) : Type 0 where
+  pub same : (r : Report) → ReportText bytes r → IsReadAs r answer
+
+-- the line that is named is the first bad one
+abbrev pub Faults : List ℕ → ReportFault → Type 0
+Faults bytes NoMemory = Unit {0}
+Faults bytes (Line n) = IsBadLine bytes n
