@@ -1,5 +1,5 @@
 -- The rules of each line of a report by itself: the range of its numbers, and the form of its words.
-use Rattle.std.specs.Prelude.{◌≡◌, Option, Some, ℕ, ℤ, pos, negsuc, ◌^◌, List, [], ◌∷◌, length, codes, Bool, true, false, nat_le, nat_lt, ◌&&◌, ◌||◌, ◌==◌, not}
+use Rattle.std.specs.Prelude.{◌≡◌, Option, Some, ℕ, ℤ, pos, negsuc, ◌^◌, List, length, codes, Bool, true, nat_le, nat_lt, ◌&&◌, ◌||◌, ◌==◌}
 use Rattle.std.specs.List.{list_all}
 use Rattle.std.specs.Str.{bytes_eq}
 use Rattle.vx_value.specs.declared.end.End.{End}

@@ -15,6 +15,7 @@ use vx_report::line::Line;
 use vx_report::spelling::{TEXT, WORD};
 use vx_report::{AttemptLine, EndLine, Piece};
 use vx_value::{End, Name, Stream};
+use vx_words::is_name;
 
 fn is_word(text: &[u8], word: &[u8]) -> bool
     ensures { result ≡ bytes_eq text.now word.now }
