@@ -13,7 +13,7 @@ use crate::rule::{RuleFault, rule_of};
 use crate::token::{Token, tokens_of};
 use std::alloc::{AllocError, AllocFailed, Global};
 use vx_value::Name;
-use vx_words::next_word;
+use vx_words::{is_name, next_word};
 
 /// What a line says: nothing, an option, or a rule.
 #[derive(Debug, Drop)]
