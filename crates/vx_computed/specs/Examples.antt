@@ -6,11 +6,11 @@ use Rattle.vx_java.specs.Lockstep.{Piece, Shared}
 use Rattle.vx_java.specs.Report.{LockReport, lock_report}
 use Rattle.vx_java.specs.Returns.{max_stack}
 use Rattle.vx_java.specs.Step.{Config, run, start, steps, trace}
-use Rattle.vx_link.specs.Faults.{OptionPlace}
 use Rattle.vx_link.specs.Linked.{linked_program}
 use Rattle.vx_link.specs.Written.{Item, WrittenCatch, WrittenClass, WrittenMethod, body, class_file, nothing}
 use Rattle.vx_link.specs.declared.fault.LinkFault.{LinkFault}
 use Rattle.vx_link.specs.declared.program.Program.{Program}
+use Rattle.vx_model.specs.declared.model.OptionField.{OptionField}
 use Rattle.vx_value.specs.declared.end.End.{End}
 use Rattle.vx_value.specs.declared.end.End.TheVariants.{Unfinished}
 use Rattle.vx_value.specs.declared.end.Stream.{Stream}
@@ -26,10 +26,10 @@ abbrev pub uncoded : ℕ → (name descriptor : String) → WrittenMethod
 uncoded flags name descriptor = record { name = name; descriptor = descriptor; flags = flags; how = nothing }
 
 -- an option with its field in Main
-abbrev pub option : String → OptionPlace
-option name = record { name = codes name; place = Some (codes "Main", codes name) }
+abbrev pub option : String → OptionField
+option name = record { name = codes name; place = Some (record { class = codes "Main"; field = codes name }) }
 
-abbrev pub linked_example : List WrittenClass → List OptionPlace → Result Program LinkFault
+abbrev pub linked_example : List WrittenClass → List OptionField → Result Program LinkFault
 linked_example classes options = linked_program (map class_file classes) options (codes "Main")
 
 -- ---- configurations
@@ -64,7 +64,7 @@ report_if (Ok p) allowed n v = lock_report p allowed n v
 report_if (Err fault) allowed n v = no_report
 
 -- the report of some classes with some options, for the allowed configurations
-abbrev pub report : List WrittenClass → List OptionPlace → List Config → (limit version : ℕ) → LockReport
+abbrev pub report : List WrittenClass → List OptionField → List Config → (limit version : ℕ) → LockReport
 report classes options allowed n v = report_if (linked_example classes options) allowed n v
 
 -- a text and the end of a line
@@ -111,5 +111,5 @@ abbrev pub fault_if : Result Program LinkFault → Option LinkFault
 fault_if (Ok p) = None
 fault_if (Err fault) = Some fault
 
-abbrev pub fault : List WrittenClass → List OptionPlace → Option LinkFault
+abbrev pub fault : List WrittenClass → List OptionField → Option LinkFault
 fault classes options = fault_if (linked_example classes options)

@@ -10,11 +10,8 @@ use Rattle.vx_link.specs.Names.{class_name, utf8}
 use Rattle.vx_link.specs.Parts.{FINAL, PUBLIC}
 use Rattle.vx_link.specs.declared.fault.LinkFault.{LinkFault}
 use Rattle.vx_link.specs.declared.fault.LinkFault.TheVariants.{Cycle, FinalSuper, NoMain, NoOption, NoSuper, Twice}
-
--- an option of the model: its name and, where it has one, its field by class and name
-pub record OptionPlace : Type 0 where
-  pub name : List ℕ
-  pub place : Option (List ℕ × List ℕ)
+use Rattle.vx_model.specs.declared.model.FieldPlace.{FieldPlace}
+use Rattle.vx_model.specs.declared.model.OptionField.{OptionField}
 
 -- ---- class files by their names
 
@@ -102,12 +99,13 @@ is_option_field c name f =
     && (bytes_eq (utf8 c.pool f.descriptor) (codes "Z") && (has f.flags STATIC || is_interface_file c))
 
 -- a class of the folder declares the field of an option that has one
-abbrev pub has_place : List ClassFile → Option (List ℕ × List ℕ) → Bool
+abbrev pub has_place : List ClassFile → Option FieldPlace → Bool
 has_place classes None = true
-has_place classes (Some (class, field)) = passes (λ c. list_any (is_option_field c field) c.fields) (file_named classes class)
+has_place classes (Some place) =
+    passes (λ c. list_any (is_option_field c place.field) c.fields) (file_named classes place.class)
 
 -- the first option whose field is not there
-abbrev pub no_option : List ClassFile → List OptionPlace → Option LinkFault
+abbrev pub no_option : List ClassFile → List OptionField → Option LinkFault
 no_option classes options = option_map (λ o. NoOption o.name) (find (λ o. not (has_place classes o.place)) options)
 
 -- main([Ljava/lang/String;)V that is public, static and has code
@@ -123,7 +121,7 @@ no_main classes main =
 
 -- ---- the first fault of a folder's classes beside the core classes
 
-abbrev pub link_fault : (classes core : List ClassFile) → List OptionPlace → (main : List ℕ) → Option LinkFault
+abbrev pub link_fault : (classes core : List ClassFile) → List OptionField → (main : List ℕ) → Option LinkFault
 link_fault classes core options main =
     option_or (twice core classes)
     (option_or (bad_super (classes ++ core) classes)

@@ -10,3 +10,4 @@ pub mod CoreTable
 pub mod CoreFiles
 pub mod Faults
 pub mod Linked
+pub mod Answers

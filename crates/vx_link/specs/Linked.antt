@@ -7,7 +7,7 @@ use Rattle.vx_class.specs.declared.class_file.Field.{Field}
 use Rattle.vx_class.specs.declared.class_file.Method.{Method}
 use Rattle.vx_desc.specs.Names.{is_clinit}
 use Rattle.vx_link.specs.CoreFiles.{core_files, native_numbers}
-use Rattle.vx_link.specs.Faults.{OptionPlace, interface_names, is_interface_file, link_fault, name_of, super_name}
+use Rattle.vx_link.specs.Faults.{interface_names, is_interface_file, link_fault, name_of, super_name}
 use Rattle.vx_link.specs.Hierarchy.{superclasses}
 use Rattle.vx_link.specs.Names.{utf8}
 use Rattle.vx_link.specs.Parts.{field_at, fields_of, is_static_field}
@@ -16,6 +16,8 @@ use Rattle.vx_link.specs.declared.program.LinkedClass.{LinkedClass}
 use Rattle.vx_link.specs.declared.program.LinkedField.{LinkedField}
 use Rattle.vx_link.specs.declared.program.LinkedMethod.{LinkedMethod}
 use Rattle.vx_link.specs.declared.program.Program.{Program}
+use Rattle.vx_model.specs.declared.model.FieldPlace.{FieldPlace}
+use Rattle.vx_model.specs.declared.model.OptionField.{OptionField}
 use Rattle.vx_value.specs.declared.ids.ClassId.{ClassId}
 use Rattle.vx_value.specs.declared.ids.FieldId.{FieldId}
 use Rattle.vx_value.specs.declared.ids.MethodId.{MethodId}
@@ -81,12 +83,12 @@ methods_from class (c ∷ cs) (ns ∷ rest) = methods_of_class class c ns ++ met
 
 -- ---- fields
 
-abbrev pub is_place : (class field : List ℕ) → Option (List ℕ × List ℕ) → Bool
+abbrev pub is_place : (class field : List ℕ) → Option FieldPlace → Bool
 is_place class field None = false
-is_place class field (Some (c, f)) = bytes_eq c class && bytes_eq f field
+is_place class field (Some place) = bytes_eq place.class class && bytes_eq place.field field
 
 -- the option whose field this is; its descriptor is Z
-abbrev pub option_of : List OptionPlace → ClassFile → Field → Option ℕ
+abbrev pub option_of : List OptionField → ClassFile → Field → Option ℕ
 option_of options c f =
     if bytes_eq (utf8 c.pool f.descriptor) (codes "Z")
     then position (λ o. is_place (name_of c) (utf8 c.pool f.name) o.place) options
@@ -96,7 +98,7 @@ option_of options c f =
 abbrev pub field_flags : ClassFile → ℕ → ℕ
 field_flags c flags = if is_interface_file c then bit_or flags STATIC else flags
 
-abbrev pub linked_field : List OptionPlace → ℕ → ClassFile → Field → LinkedField
+abbrev pub linked_field : List OptionField → ℕ → ClassFile → Field → LinkedField
 linked_field options class c f =
     record {
       class = record { 0 = class };
@@ -108,7 +110,7 @@ linked_field options class c f =
       option = option_of options c f;
     }
 
-abbrev pub fields_from : List OptionPlace → ℕ → List ClassFile → List LinkedField
+abbrev pub fields_from : List OptionField → ℕ → List ClassFile → List LinkedField
 fields_from options class [] = []
 fields_from options class (c ∷ cs) = map (linked_field options class c) c.fields ++ fields_from options (suc class) cs
 
@@ -180,7 +182,7 @@ is_option option (Some o) = o == option
 abbrev pub option_field : List LinkedField → ℕ → Option FieldId
 option_field fields option = option_map (λ f. record { 0 = f }) (position (λ f. is_option option f.option) fields)
 
-abbrev pub option_fields : List LinkedField → List OptionPlace → List (Option FieldId)
+abbrev pub option_fields : List LinkedField → List OptionField → List (Option FieldId)
 option_fields fields options = map (option_field fields) (range_with_len 0 (length options))
 
 -- main of the named class; the classes of the folder stand before the core classes
@@ -195,7 +197,7 @@ abbrev pub main_method : List LinkedClass → List LinkedMethod → List ℕ →
 main_method classes methods main = unwrap_or (find (λ m. is_main_method (slice_get methods m)) (methods_named classes main)) 0
 
 -- the program of classes that have no fault: the folder's and then the core classes
-abbrev pub program_of : (classes core : List ClassFile) → (numbers : List (List ℕ)) → List OptionPlace → (main : List ℕ) → Program
+abbrev pub program_of : (classes core : List ClassFile) → (numbers : List (List ℕ)) → List OptionField → (main : List ℕ) → Program
 program_of classes core numbers options main =
     let all = classes ++ core in
     let numbered = linked_classes all all 0 0 in
@@ -215,6 +217,6 @@ unless_fault (Some fault) p = Err fault
 unless_fault None p = Ok p
 
 -- the program of a folder's classes with the options of a model and the class whose main is run, or the first fault
-abbrev pub linked_program : List ClassFile → List OptionPlace → (main : List ℕ) → Result Program LinkFault
+abbrev pub linked_program : List ClassFile → List OptionField → (main : List ℕ) → Result Program LinkFault
 linked_program classes options main =
     unless_fault (link_fault classes core_files options main) (program_of classes core_files native_numbers options main)

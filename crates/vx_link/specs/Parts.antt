@@ -1,5 +1,5 @@
 -- The parts of a program by their numbers, and their access flags (JVMS 4.1, 4.5, 4.6).
-use Rattle.std.specs.Prelude.{Bool, List, None, [], bit_and, false, length, map, not, ℕ, ◌&&◌, ◌==◌}
+use Rattle.std.specs.Prelude.{Bool, List, None, [], false, length, map, not, ℕ, ◌&&◌}
 use Rattle.vx_class.specs.Members.{has as has_flag, ABSTRACT, INTERFACE, STATIC}
 use Rattle.vx_link.specs.declared.access_flags.AccessFlags.{AccessFlags}
 use Rattle.vx_link.specs.declared.program.LinkedClass.{LinkedClass}

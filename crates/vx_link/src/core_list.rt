@@ -7,4 +7,6 @@ use vx_list::Items;
 #[derive(Debug, Drop)]
 pub struct CoreList {
     pub classes: Items<ClassFile>,
+    /// For each class and each of its methods the number of a native one, and 0 for another.
+    pub natives: Items<Items<u32>>,
 }

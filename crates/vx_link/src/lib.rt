@@ -5,9 +5,11 @@
 pub mod access_flags;
 pub mod core_list;
 pub mod fault;
+pub mod linking;
 pub mod program;
 
 pub use access_flags::AccessFlags;
 pub use core_list::CoreList;
 pub use fault::LinkFault;
+pub use linking::link;
 pub use program::{LinkedClass, LinkedField, LinkedMethod, Program};
