@@ -1,2 +1,7 @@
+pub mod Drafts
+pub mod Lines
 pub mod More
 pub mod Named
+pub mod Progress
+pub mod Verdicts
+pub mod Visible

@@ -40,3 +40,11 @@ no_roots r id e =
 
 pub walk_more : (r : Report) (id g : ℕ) (more : List Node) → numbers r id ≡ true → NumbersAll r.nodes 2 (roots_of r) g → NumbersAll more 2 (roots_of r) g
 walk_more r id g more e w = walk_none r.nodes more g (roots_of r) (no_roots r id e) w
+
+-- ---- no node line so far
+
+pub falls_nil : IsFalling []
+falls_nil = record { low = λ place x e. cc; high = λ place x e. cc }
+
+pub walk_nil : (nodes : List Node) → NumbersAll nodes 2 [] 2
+walk_nil nodes = NumbersAll.none 2

@@ -11,9 +11,16 @@ IsReadAs r (Ok found) = found ≡ r
 IsReadAs r (Err NoMemory) = Unit {0}
 IsReadAs r (Err (Line n)) = ⊥
 
--- where the bytes are the text of a report, it is given, unless memory runs out
+-- this line, or want of memory
+abbrev pub IsFaultAt : ℕ → Result Report ReportFault → Type 0
+IsFaultAt n (Ok found) = ⊥
+IsFaultAt n (Err NoMemory) = Unit {0}
+IsFaultAt n (Err (Line m)) = m ≡ n
+
+-- where the bytes are the text of a report it is given, and where a line is the first bad one it is named, unless memory runs out
 pub record IsOnlyReading (bytes : List ℕ) (answer : Result Report ReportFault) : Type 0 where
-  pub same : (r : Report) → ReportText bytes r → IsReadAs r answer
+  pub report : (r : Report) → ReportText bytes r → IsReadAs r answer
+  pub line : (n : ℕ) → IsBadLine bytes n → IsFaultAt n answer
 
 -- the line that is named is the first bad one
 abbrev pub Faults : List ℕ → ReportFault → Type 0

@@ -4,6 +4,7 @@
 
 pub mod body;
 pub mod reading;
+pub mod stage;
 
 pub use body::Body;
 pub use reading::{ReportFault, read_report};

@@ -5,9 +5,11 @@ ghost use Rattle.vx_report_reader.specs.declared.reading.ReportFault.TheVariants
 ghost use Rattle.vx_report_reader.specs.Rules.{ReportText};
 ghost use Rattle.vx_report_reader.specs.Reading.{IsOnlyReading, Faults};
 
+use crate::stage::{Stage, whole_report, with_text};
 use std::alloc::{AllocError, Global};
 use thiserror::Error;
 use vx_report::Report;
+use vx_report_line::first_line;
 
 /// Why no report is given: want of memory, or the first bad line, from 1 on.
 #[derive(Clone, Copy, Debug, PartialEq, Eq, Error)]
@@ -26,14 +28,40 @@ impl From<AllocError> for ReportFault {
     }
 }
 
-/// The report that a text spells, or the first line that breaks a rule; a line that is missing is bad at the place where
-/// it should stand.
-pub fn read_report(_alloc: Global, _bytes: &[u8]) -> Result<Report, ReportFault>
-    // The bytes are the text of the report.
-    ensures found { IfOk result (ReportText _bytes.now) }
-    // Where the bytes are the text of a report, it is given, unless memory runs out.
-    ensures only { IsOnlyReading _bytes.now result }
-    ensures fault { IfErr result (Faults _bytes.now) }
+/// The report that lines spell, or the first of them that is bad.
+fn report_in(alloc: Global, bytes: &[u8]) -> Result<Report, ReportFault>
+    ensures found { IfOk result (ReportText bytes.now) }
+    ensures fault { IfErr result (Faults bytes.now) }
 {
-    Err(ReportFault::NoMemory)
+    let mut stage = Stage::Nothing;
+    let mut rest = bytes;
+    let mut line: u64 = 1;
+    while let Some((text, after)) = first_line(rest) {
+        let Some(next) = with_text(alloc, stage, text)? else {
+            return Err(ReportFault::Line { line });
+        };
+        stage = next;
+        rest = after;
+        line += 1;
+    }
+    if !rest.is_empty() {
+        return Err(ReportFault::Line { line });
+    }
+    let Some(report) = whole_report(stage) else {
+        return Err(ReportFault::Line { line });
+    };
+    Ok(report)
+}
+
+/// The report that a text spells, or the first line that breaks a rule. A line that is missing is bad at the place where
+/// it should stand, so a report without its last line is bad behind its last line, and an unused node at `done`.
+pub fn read_report(alloc: Global, bytes: &[u8]) -> Result<Report, ReportFault>
+    // The bytes are the text of the report.
+    ensures found { IfOk result (ReportText bytes.now) }
+    ensures fault { IfErr result (Faults bytes.now) }
+    // Where the bytes are the text of a report, or a line is the first bad one, just that is the answer, unless memory runs
+    // out.
+    ensures only { IsOnlyReading bytes.now result }
+{
+    report_in(alloc, bytes)
 }

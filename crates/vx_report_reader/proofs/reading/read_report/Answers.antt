@@ -1,4 +1,5 @@
+use Rattle.vx_report_reader.proofs.Verdicts.{only_reading}
 use Rattle.vx_report_reader.proofs.reading.read_report.Goals as goal
 
 pub returns-clause-only : goal.returns-clause-only
-returns-clause-only c = record { same = λ r t. tt }
+returns-clause-only c = only_reading _ _ c.report_in.ensures.found c.report_in.ensures.fault
