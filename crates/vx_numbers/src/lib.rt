@@ -1,0 +1,176 @@
+//! What the arithmetic instructions compute of plain numbers (JVMS 6.5). No call takes memory.
+#![tactic(auto)]
+
+ghost use Rattle.std.specs.Prelude.{◌≡◌};
+ghost use Rattle.std.specs.Int.{w32, w64};
+ghost use Rattle.vx_value.specs.Arithmetic.{int_op_of, long_op_of, negation, shift_int_of, shift_long_of, compare_long_of, narrow_of, long_to_int as int_of_long};
+
+use vx_value::{IntOp, Narrow, ShiftOp};
+
+/// iadd, isub, imul, idiv, irem, iand, ior, ixor: results wrap, division goes toward zero. `None` exactly where the
+/// divisor is 0.
+pub fn int_op(op: IntOp, a: i32, b: i32) -> Option<i32>
+    ensures { result ≡ int_op_of op a b }
+{
+    match op {
+        IntOp::Add => Some(a.wrapping_add(b)),
+        IntOp::Sub => Some(a.wrapping_sub(b)),
+        IntOp::Mul => Some(a.wrapping_mul(b)),
+        IntOp::Div => int_quotient(a, b),
+        IntOp::Rem => int_remainder(a, b),
+        IntOp::And => Some(a & b),
+        IntOp::Or => Some(a | b),
+        IntOp::Xor => Some(a ^ b),
+    }
+}
+
+fn int_quotient(a: i32, b: i32) -> Option<i32>
+    ensures { result ≡ int_op_of IntOp.Div a b }
+{
+    if b == 0 {
+        return None;
+    }
+    Some(a.wrapping_div(b))
+}
+
+fn int_remainder(a: i32, b: i32) -> Option<i32>
+    ensures { result ≡ int_op_of IntOp.Rem a b }
+{
+    if b == 0 {
+        return None;
+    }
+    Some(a.wrapping_rem(b))
+}
+
+/// ladd, lsub, lmul, ldiv, lrem, land, lor, lxor: as the operations on ints.
+pub fn long_op(op: IntOp, a: i64, b: i64) -> Option<i64>
+    ensures { result ≡ long_op_of op a b }
+{
+    match op {
+        IntOp::Add => Some(a.wrapping_add(b)),
+        IntOp::Sub => Some(a.wrapping_sub(b)),
+        IntOp::Mul => Some(a.wrapping_mul(b)),
+        IntOp::Div => long_quotient(a, b),
+        IntOp::Rem => long_remainder(a, b),
+        IntOp::And => Some(a & b),
+        IntOp::Or => Some(a | b),
+        IntOp::Xor => Some(a ^ b),
+    }
+}
+
+fn long_quotient(a: i64, b: i64) -> Option<i64>
+    ensures { result ≡ long_op_of IntOp.Div a b }
+{
+    if b == 0 {
+        return None;
+    }
+    Some(a.wrapping_div(b))
+}
+
+fn long_remainder(a: i64, b: i64) -> Option<i64>
+    ensures { result ≡ long_op_of IntOp.Rem a b }
+{
+    if b == 0 {
+        return None;
+    }
+    Some(a.wrapping_rem(b))
+}
+
+/// ineg: the least number stays.
+pub fn negate_int(a: i32) -> i32
+    ensures { result ≡ negation w32 a }
+{
+    0i32.wrapping_sub(a)
+}
+
+/// lneg: the least number stays.
+pub fn negate_long(a: i64) -> i64
+    ensures { result ≡ negation w64 a }
+{
+    0i64.wrapping_sub(a)
+}
+
+/// ishl, ishr, iushr: the distance is the lowest five bits.
+pub fn shift_int(op: ShiftOp, a: i32, n: i32) -> i32
+    ensures { result ≡ shift_int_of op a n }
+{
+    let distance = n.cast_unsigned() % 32;
+    match op {
+        ShiftOp::Left => a.wrapping_shl(distance),
+        ShiftOp::Right => a.wrapping_shr(distance),
+        ShiftOp::Unsigned => a.cast_unsigned().wrapping_shr(distance).cast_signed(),
+    }
+}
+
+/// lshl, lshr, lushr: the distance is an int, of which the lowest six bits count.
+pub fn shift_long(op: ShiftOp, a: i64, n: i32) -> i64
+    ensures { result ≡ shift_long_of op a n }
+{
+    let distance = n.cast_unsigned() % 64;
+    match op {
+        ShiftOp::Left => a.wrapping_shl(distance),
+        ShiftOp::Right => a.wrapping_shr(distance),
+        ShiftOp::Unsigned => a.cast_unsigned().wrapping_shr(distance).cast_signed(),
+    }
+}
+
+/// lcmp: -1, 0 or 1.
+pub fn compare_long(a: i64, b: i64) -> i32
+    ensures { result ≡ compare_long_of a b }
+{
+    if a < b {
+        -1
+    } else if b < a {
+        1
+    } else {
+        0
+    }
+}
+
+/// i2b, i2c, i2s, and for a boolean the lowest bit.
+pub fn narrow(to: Narrow, a: i32) -> i32
+    ensures { result ≡ narrow_of to a }
+{
+    match to {
+        Narrow::Byte => i32::from(((a.cast_unsigned() % 256) as u8).cast_signed()),
+        Narrow::Char => (a.cast_unsigned() % 65_536) as i32,
+        Narrow::Short => i32::from(((a.cast_unsigned() % 65_536) as u16).cast_signed()),
+        Narrow::Bool => (a.cast_unsigned() % 2) as i32,
+    }
+}
+
+/// l2i: the lowest 32 bits.
+pub fn long_to_int(a: i64) -> i32
+    ensures { result ≡ int_of_long a }
+{
+    ((a.cast_unsigned() % 4_294_967_296) as u32).cast_signed()
+}
+
+#[cfg(test)]
+mod tests {
+    use super::*;
+    use std::test::Fail;
+
+    #[test]
+    fn edges_of_the_instructions(rt: HostRuntime) -> Result<(), Fail> {
+        assert_eq!(rt; int_op(IntOp::Div, i32::MIN, -1), Some(i32::MIN));
+        assert_eq!(rt; int_op(IntOp::Rem, -7, 3), Some(-1));
+        assert_eq!(rt; int_op(IntOp::Rem, 7, 0), None);
+        assert_eq!(rt; long_op(IntOp::Mul, i64::MIN, -1), Some(i64::MIN));
+        assert_eq!(rt; (negate_int(i32::MIN), negate_long(5)), (i32::MIN, -5));
+        assert_eq!(rt; shift_int(ShiftOp::Left, 1, 33), 2);
+        assert_eq!(rt; shift_int(ShiftOp::Unsigned, -1, 28), 15);
+        assert_eq!(rt; shift_long(ShiftOp::Right, -8, 65), -4);
+        assert_eq!(rt; (compare_long(1, 2), compare_long(2, 2)), (-1, 0));
+        assert_eq!(rt;
+            (narrow(Narrow::Byte, 200), narrow(Narrow::Char, -1)),
+            (-56, 65_535)
+        );
+        assert_eq!(rt;
+            (narrow(Narrow::Short, 40_000), narrow(Narrow::Bool, 7)),
+            (-25_536, 1)
+        );
+        assert_eq!(rt; long_to_int(4_294_967_297), 1);
+        Ok(())
+    }
+}
