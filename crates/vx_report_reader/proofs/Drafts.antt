@@ -31,36 +31,36 @@ good_behind d (x ∷ xs) ys g = good_behind (after d x) xs ys g.2
 
 -- ---- the lines of a report say the report
 
-named : (version count : ℕ) (names more : List (List ℕ)) → reached (rules.Naming version count names) (map Named more) ≡ rules.Naming version count (names ++ more)
+pub named : (version count : ℕ) (names more : List (List ℕ)) → reached (rules.Naming version count names) (map Named more) ≡ rules.Naming version count (names ++ more)
 named version count names [] = ap (rules.Naming version count) (sym (append-nil names))
 named version count names (x ∷ xs) = named version count (names ++ x ∷ []) xs ∙ ap (rules.Naming version count) (append_assoc names (x ∷ []) xs)
 
 -- a report that goes on
-abbrev with_nodes : Report → List Node → Report
+abbrev pub with_nodes : Report → List Node → Report
 with_nodes r nodes = record r { nodes = nodes }
 
-abbrev with_pieces : Report → List Piece → Report
+abbrev pub with_pieces : Report → List Piece → Report
 with_pieces r pieces = record r { pieces = pieces }
 
-abbrev with_ends : Report → List EndLine → Report
+abbrev pub with_ends : Report → List EndLine → Report
 with_ends r ends = record r { ends = ends }
 
-abbrev with_attempts : Report → List AttemptLine → Report
+abbrev pub with_attempts : Report → List AttemptLine → Report
 with_attempts r attempts = record r { attempts = attempts }
 
-nodes_said : (r : Report) (id : ℕ) (nodes : List Node) → reached (rules.Body r) (numbered id nodes) ≡ rules.Body (with_nodes r (r.nodes ++ nodes))
+pub nodes_said : (r : Report) (id : ℕ) (nodes : List Node) → reached (rules.Body r) (numbered id nodes) ≡ rules.Body (with_nodes r (r.nodes ++ nodes))
 nodes_said r id [] = ap (λ xs. rules.Body (with_nodes r xs)) (sym (append-nil r.nodes))
 nodes_said r id (x ∷ xs) = nodes_said (with_nodes r (r.nodes ++ x ∷ [])) (suc id) xs ∙ ap (λ ys. rules.Body (with_nodes r ys)) (append_assoc r.nodes (x ∷ []) xs)
 
-pieces_said : (r : Report) (pieces : List Piece) → reached (rules.Body r) (map Printed pieces) ≡ rules.Body (with_pieces r (r.pieces ++ pieces))
+pub pieces_said : (r : Report) (pieces : List Piece) → reached (rules.Body r) (map Printed pieces) ≡ rules.Body (with_pieces r (r.pieces ++ pieces))
 pieces_said r [] = ap (λ xs. rules.Body (with_pieces r xs)) (sym (append-nil r.pieces))
 pieces_said r (x ∷ xs) = pieces_said (with_pieces r (r.pieces ++ x ∷ [])) xs ∙ ap (λ ys. rules.Body (with_pieces r ys)) (append_assoc r.pieces (x ∷ []) xs)
 
-ends_said : (r : Report) (ends : List EndLine) → reached (rules.Body r) (map Ended ends) ≡ rules.Body (with_ends r (r.ends ++ ends))
+pub ends_said : (r : Report) (ends : List EndLine) → reached (rules.Body r) (map Ended ends) ≡ rules.Body (with_ends r (r.ends ++ ends))
 ends_said r [] = ap (λ xs. rules.Body (with_ends r xs)) (sym (append-nil r.ends))
 ends_said r (x ∷ xs) = ends_said (with_ends r (r.ends ++ x ∷ [])) xs ∙ ap (λ ys. rules.Body (with_ends r ys)) (append_assoc r.ends (x ∷ []) xs)
 
-attempts_said : (r : Report) (attempts : List AttemptLine) → reached (rules.Body r) (map Spent attempts) ≡ rules.Body (with_attempts r (r.attempts ++ attempts))
+pub attempts_said : (r : Report) (attempts : List AttemptLine) → reached (rules.Body r) (map Spent attempts) ≡ rules.Body (with_attempts r (r.attempts ++ attempts))
 attempts_said r [] = ap (λ xs. rules.Body (with_attempts r xs)) (sym (append-nil r.attempts))
 attempts_said r (x ∷ xs) = attempts_said (with_attempts r (r.attempts ++ x ∷ [])) xs ∙ ap (λ ys. rules.Body (with_attempts r ys)) (append_assoc r.attempts (x ∷ []) xs)
 
@@ -68,14 +68,14 @@ attempts_said r (x ∷ xs) = attempts_said (with_attempts r (r.attempts ++ x ∷
 abbrev pub begun_report : ℕ → List (List ℕ) → ℕ → ℕ → Report
 begun_report version options limit rounds = record { version = version; options = options; limit = limit; rounds = rounds; nodes = []; pieces = []; ends = []; attempts = [] }
 
-front_said : (r : Report) → reached rules.Nothing (front_lines r) ≡ rules.Body (begun_report r.version r.options r.limit r.rounds)
+pub front_said : (r : Report) → reached rules.Nothing (front_lines r) ≡ rules.Body (begun_report r.version r.options r.limit r.rounds)
 unfolding front_lines
 front_said r =
     let start = rules.Naming r.version (length r.options) [] in
     let last = Limit r.limit ∷ Rounds r.rounds ∷ [] in
     reached-append start (map Named r.options) last ∙ ap (λ d. reached d last) (named r.version (length r.options) [] r.options)
 
-found_said : (r start : Report) → reached (rules.Body start) (found_lines r) ≡ rules.Body (with_attempts (with_ends (with_pieces start (start.pieces ++ r.pieces)) (start.ends ++ r.ends)) (start.attempts ++ r.attempts))
+pub found_said : (r start : Report) → reached (rules.Body start) (found_lines r) ≡ rules.Body (with_attempts (with_ends (with_pieces start (start.pieces ++ r.pieces)) (start.ends ++ r.ends)) (start.attempts ++ r.attempts))
 unfolding found_lines
 found_said r start =
     reached-append (rules.Body start) (map Printed r.pieces ++ map Ended r.ends) (map Spent r.attempts)
@@ -114,7 +114,7 @@ numbered-append id (x ∷ xs) node =
     let e : suc id + length xs ≡ id + length (x ∷ xs) = omega arith in
     ap (λ ys. Numbered id x ∷ ys) (numbered-append (suc id) xs node ∙ ap (λ k. numbered (suc id) xs ++ Numbered k node ∷ []) e)
 
-nil_of : {A : Type 0} (xs : List A) → is_nil xs ≡ true → xs ≡ []
+pub nil_of : {A : Type 0} (xs : List A) → is_nil xs ≡ true → xs ≡ []
 nil_of [] e = refl
 nil_of (x ∷ xs) e = absurd (grind (arith, nat_tests))
 
@@ -151,10 +151,10 @@ found_more r new line f n h =
     ∙ ap (λ xs. front_lines r ++ numbered 2 r.nodes ++ xs) h
     ∙ sym (append_assoc (front_lines r ++ numbered 2 r.nodes) (found_lines r) (line ∷ []))
 
-two_empty : (xs : List Line) (x : Line) → (xs ++ x ∷ []) ++ [] ++ [] ≡ (xs ++ [] ++ []) ++ x ∷ []
+pub two_empty : {A : Type 0} (xs : List A) (x : A) → (xs ++ x ∷ []) ++ [] ++ [] ≡ (xs ++ [] ++ []) ++ x ∷ []
 two_empty xs x = append-nil ((xs ++ x ∷ []) ++ []) ∙ append-nil (xs ++ x ∷ []) ∙ ap (λ ys. ys ++ x ∷ []) (sym (append-nil xs) ∙ sym (append-nil (xs ++ [])))
 
-one_empty : (xs ys : List Line) (x : Line) → xs ++ (ys ++ x ∷ []) ++ [] ≡ (xs ++ ys ++ []) ++ x ∷ []
+pub one_empty : {A : Type 0} (xs ys : List A) (x : A) → xs ++ (ys ++ x ∷ []) ++ [] ≡ (xs ++ ys ++ []) ++ x ∷ []
 one_empty xs ys x = append-nil (xs ++ (ys ++ x ∷ [])) ∙ sym (append_assoc xs ys (x ∷ [])) ∙ ap (λ zs. zs ++ x ∷ []) (sym (append-nil (xs ++ ys)))
 
 pieces_more : (r : Report) (piece : Piece) → prints r ≡ true → lines_of (rules.Body (with_pieces r (r.pieces ++ piece ∷ []))) ≡ lines_of (rules.Body r) ++ Printed piece ∷ []

@@ -1,4 +1,5 @@
 pub mod Drafts
+pub mod Good
 pub mod Lines
 pub mod More
 pub mod Named

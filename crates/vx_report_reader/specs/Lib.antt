@@ -1,4 +1,5 @@
 pub mod Bodies
+pub mod Lawful
 pub mod Reading
 pub mod Rules
 pub mod Stages

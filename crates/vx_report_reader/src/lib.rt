@@ -2,9 +2,14 @@
 //! the fault.
 #![tactic(auto)]
 
+pub mod again;
 pub mod body;
 pub mod reading;
 pub mod stage;
 
+pub use again::read_written;
 pub use body::Body;
 pub use reading::{ReportFault, read_report};
+
+#[cfg(test)]
+mod tests;
