@@ -3,7 +3,8 @@
 ghost use Rattle.std.specs.Prelude.{◌≡◌, ◌<◌, ◌^◌, ℕ, List, map, string_bytes, IfOk, IfErr, MatchResult, Ok, [], ◌⊎◌};
 ghost use Rattle.vx_class.specs.declared.class_file.ClassFile.{ClassFile};
 ghost use Rattle.vx_cli.specs.Plan.{Plan, Leads, MayStop};
-ghost use Rattle.vx_cli.specs.Run.{read_sized, read_checked, read_classes, list_classes, class_in, place_of, class_paths};
+ghost use Rattle.vx_cli.specs.Sized.{read_sized};
+ghost use Rattle.vx_cli.specs.Run.{read_checked, read_classes, read_folder, list_classes, class_in, place_of, class_paths};
 ghost use Rattle.vx_cli.specs.KeepsFiles.{KeepsFiles};
 
 use crate::job::is_class_file;
@@ -151,4 +152,24 @@ pub fn read_class_files<F: Files>(
         classes.push(class)?;
     }
     Ok(classes)
+}
+
+/// The class files of a folder: their paths below it, ascending, and the classes that they spell.
+#[derive(Drop)]
+pub struct Folder {
+    pub paths: Vec<String>,
+    pub classes: Vec<ClassFile>,
+}
+
+/// Lists a folder and reads its class files.
+pub fn read_folder<F: Files>(alloc: Global, files: &mut F, folder: &str) -> Result<Folder, Status>
+    ensures ok { IfOk result (λ found. (next : List (List ℕ) → List ClassFile → Plan) →
+        Leads (F.seen files.old).held (read_folder folder.now next) (next (map string_bytes found.paths.items) found.classes.items)) }
+    ensures err { IfErr result (λ status. (next : List (List ℕ) → List ClassFile → Plan) →
+        MayStop (F.seen files.old) (F.seen files.new) (read_folder folder.now next) status) }
+    ensures keeps { KeepsFiles (F.seen files.old) (F.seen files.new) }
+{
+    let paths = list_class_files(alloc, files, folder)?;
+    let classes = read_class_files(alloc, files, folder, paths.as_slice())?;
+    Ok(Folder { paths, classes })
 }

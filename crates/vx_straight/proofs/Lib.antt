@@ -1,4 +1,3 @@
 pub mod Leads
 pub mod Walks
-pub mod Cuts
 pub mod Projections

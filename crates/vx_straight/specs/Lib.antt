@@ -2,5 +2,4 @@ pub mod Machine
 pub mod Shared
 pub mod CoreNames
 pub mod FirstClass
-pub mod FirstModel
 pub mod Reported

@@ -1,9 +1,6 @@
 -- What operands that serve both values of the option mean at one of them.
 use Rattle.std.specs.Prelude.{ℕ, ℤ, Bool, List, map, reverse}
 use Rattle.std.specs.List.{flat_map}
-use Rattle.std.proofs.Common.{Bor}
-use Rattle.vx_straight.specs.declared.model.OptionLine.{OptionLine}
-use Rattle.vx_straight.specs.FirstModel.{OptionField}
 use Rattle.vx_value.specs.declared.end.Stream.{Stream}
 use Rattle.vx_straight.specs.declared.runs.Findings.{Findings}
 use Rattle.vx_straight.specs.declared.operand.Operand.{Operand}
@@ -42,11 +39,3 @@ written on lines = flat_map (λ line. line_of (number_of on line)) lines
 -- the run that was found
 abbrev pub plain_run : Bool → Findings → Run
 plain_run on findings = record { output = written on findings.lines; end = findings.end; attempts = findings.attempts }
-
--- two slices, as lists
-abbrev pub pair_now : Bor (List ℕ) × Bor (List ℕ) → List ℕ × List ℕ
-pair_now p = (p.0.now, p.1.now)
-
--- an option of a model
-abbrev pub field_now : OptionLine → OptionField
-field_now line = record { name = line.name.now; field = line.field.now }

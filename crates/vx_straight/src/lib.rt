@@ -2,9 +2,9 @@
 //! built so far, with the tests of what it takes.
 #![tactic(auto)]
 
+pub mod allowed;
 pub mod attempt;
 pub mod first_class;
-pub mod model;
 pub mod names;
 pub mod operand;
 pub mod program;
@@ -13,8 +13,8 @@ pub mod runs;
 pub mod step;
 pub mod walk;
 
+pub use allowed::Allowed;
 pub use first_class::program_of;
-pub use model::{OptionLine, first_model, slash};
 pub use operand::{Line, Operand};
 pub use program::{Located, Program};
 pub use reporting::report_runs;

@@ -4,8 +4,10 @@ ghost use Rattle.std.specs.Prelude.{◌≡◌, ◌==◌, ◌++◌, [], ◌∷◌
 ghost use Rattle.std.specs.Bool.{if◌then◌else◌};
 ghost use Rattle.std.specs.Fmt.{signed_decimal};
 ghost use Rattle.std.specs.List.{flat_map, list_any};
-ghost use Rattle.vx_straight.specs.Reported.{IsReported, is_option, nodes_for, option_nodes, piece, pieces_for, report_of};
+ghost use Rattle.vx_straight.specs.Reported.{IsReported, allows, is_option, nodes_for, off_node, on_node, piece, pieces_for, report_of, scope_of};
+ghost use Rattle.vx_space.specs.Config.{value_of};
 
+use crate::allowed::Allowed;
 use crate::operand::Line;
 use crate::program::Program;
 use crate::runs::{Findings, run};
@@ -29,22 +31,43 @@ fn has_option(lines: &[Line]) -> bool
     lines.iter().any(|line| is_option(*line))
 }
 
-/// The nodes of the sets where the option is off and on, where a line needs them.
-fn nodes_for(alloc: Global, lines: &[Line]) -> Result<Vec<Node>, AllocError>
-    ensures { IfOk result (λ nodes. nodes.items ≡ nodes_for lines.now) }
+/// The node of the configurations where the option is off.
+const OFF_NODE: Node = Node {
+    option: 0,
+    low: 1,
+    high: 0,
+};
+
+/// The node of the configurations where the option is on.
+const ON_NODE: Node = Node {
+    option: 0,
+    low: 0,
+    high: 1,
+};
+
+/// The number of the set of all allowed configurations.
+fn scope_of(allowed: Allowed) -> u64
+    ensures { result ≡ scope_of allowed }
+{
+    match allowed {
+        Allowed::All => 1,
+        Allowed::Off | Allowed::On => 2,
+    }
+}
+
+/// The nodes of the sets where the option is off and on, where a line needs them, or of the one value that is allowed.
+fn nodes_for(alloc: Global, allowed: Allowed, lines: &[Line]) -> Result<Vec<Node>, AllocError>
+    ensures { IfOk result (λ nodes. nodes.items ≡ nodes_for allowed lines.now) }
 {
     let mut nodes = Vec::new(alloc);
-    if has_option(lines) {
-        nodes.push(Node {
-            option: 0,
-            low: 1,
-            high: 0,
-        })?;
-        nodes.push(Node {
-            option: 0,
-            low: 0,
-            high: 1,
-        })?;
+    match allowed {
+        Allowed::All if has_option(lines) => {
+            nodes.push(OFF_NODE)?;
+            nodes.push(ON_NODE)?;
+        }
+        Allowed::All => {}
+        Allowed::Off => nodes.push(OFF_NODE)?,
+        Allowed::On => nodes.push(ON_NODE)?,
     }
     Ok(nodes)
 }
@@ -62,36 +85,58 @@ fn piece(alloc: Global, node: u64, number: i32) -> Result<Piece, AllocError>
     })
 }
 
-fn add_pieces(alloc: Global, line: Line, pieces: &mut Vec<Piece>) -> Result<(), AllocError>
-    ensures { OnOk result (pieces.new.items ≡ pieces.old.items ++ pieces_for line) }
+/// Puts the pieces of the option's value.
+fn add_option(alloc: Global, allowed: Allowed, pieces: &mut Vec<Piece>) -> Result<(), AllocError>
+    ensures { OnOk result (pieces.new.items ≡ pieces.old.items ++ pieces_for allowed Line.Option) }
 {
-    match line {
-        Line::Number(number) => pieces.push(piece(alloc, 1, number)?)?,
-        Line::Option => {
+    match allowed {
+        Allowed::All => {
             pieces.push(piece(alloc, 2, 0)?)?;
             pieces.push(piece(alloc, 3, 1)?)?;
         }
+        Allowed::Off => pieces.push(piece(alloc, 2, 0)?)?,
+        Allowed::On => pieces.push(piece(alloc, 2, 1)?)?,
     }
     Ok(())
 }
 
-fn pieces_for(alloc: Global, lines: &[Line]) -> Result<Vec<Piece>, AllocError>
-    ensures { IfOk result (λ pieces. pieces.items ≡ flat_map pieces_for lines.now) }
+fn add_pieces(
+    alloc: Global,
+    allowed: Allowed,
+    line: Line,
+    pieces: &mut Vec<Piece>,
+) -> Result<(), AllocError>
+    ensures { OnOk result (pieces.new.items ≡ pieces.old.items ++ pieces_for allowed line) }
+{
+    match line {
+        Line::Number(number) => pieces.push(piece(alloc, scope_of(allowed), number)?)?,
+        Line::Option => add_option(alloc, allowed, pieces)?,
+    }
+    Ok(())
+}
+
+fn pieces_for(alloc: Global, allowed: Allowed, lines: &[Line]) -> Result<Vec<Piece>, AllocError>
+    ensures { IfOk result (λ pieces. pieces.items ≡ flat_map (pieces_for allowed) lines.now) }
 {
     let mut pieces = Vec::new(alloc);
     for line in lines {
-        add_pieces(alloc, *line, &mut pieces)?;
+        add_pieces(alloc, allowed, *line, &mut pieces)?;
     }
     Ok(pieces)
 }
 
 /// The numbers of attempts, which version 2 shows.
-fn attempts_for(alloc: Global, version: u8, attempts: u64) -> Result<Vec<AttemptLine>, AllocError>
-    ensures { IfOk result (λ lines. lines.items ≡ (if version == 2 then record { node = 1; attempts = attempts } ∷ [] else [])) }
+fn attempts_for(
+    alloc: Global,
+    version: u8,
+    node: u64,
+    attempts: u64,
+) -> Result<Vec<AttemptLine>, AllocError>
+    ensures { IfOk result (λ lines. lines.items ≡ (if version == 2 then record { node = node; attempts = attempts } ∷ [] else [])) }
 {
     let mut lines = Vec::new(alloc);
     if version == 2 {
-        lines.push(AttemptLine { node: 1, attempts })?;
+        lines.push(AttemptLine { node, attempts })?;
     }
     Ok(lines)
 }
@@ -102,17 +147,19 @@ fn report_of(
     version: u8,
     options: Items<Name>,
     limit: u64,
+    allowed: Allowed,
     found: Findings,
 ) -> Result<Report, AllocError>
-    ensures { IfOk result (λ report. report ≡ report_of version options limit found) }
+    ensures { IfOk result (λ report. report ≡ report_of version options limit allowed found) }
 {
     let lines = found.lines.as_slice();
-    let nodes = Items::of(nodes_for(alloc, lines)?);
-    let pieces = Items::of(pieces_for(alloc, lines)?);
-    let attempts = Items::of(attempts_for(alloc, version, found.attempts)?);
+    let node = scope_of(allowed);
+    let nodes = Items::of(nodes_for(alloc, allowed, lines)?);
+    let pieces = Items::of(pieces_for(alloc, allowed, lines)?);
+    let attempts = Items::of(attempts_for(alloc, version, node, found.attempts)?);
     let ends = Items::of(vec![in alloc;
         EndLine {
-            node: 1,
+            node,
             end: found.end
         },
     ]?);
@@ -129,17 +176,18 @@ fn report_of(
 }
 
 /// The text of the report of a program's runs, in version 1 or 2: it has these options, of which the first is the
-/// program's, and each run makes at most `limit` attempts.
+/// program's, and each run makes at most `limit` attempts. It speaks of the allowed configurations alone.
 pub fn report_runs(
     alloc: Global,
     version: u8,
     options: Items<Name>,
     limit: u64,
+    allowed: Allowed,
     program: &Program,
 ) -> Result<Vec<u8>, AllocError>
-    ensures { IfOk result (λ text. IsReported version options limit program.now text.items) }
+    ensures { IfOk result (λ text. IsReported version options limit (λ c. allows allowed (value_of c 0)) program.now text.items) }
 {
     let found = run(alloc, program, limit)?;
-    let report = report_of(alloc, version, options, limit, found)?;
+    let report = report_of(alloc, version, options, limit, allowed, found)?;
     write_report(alloc, &report)
 }

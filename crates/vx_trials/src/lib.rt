@@ -20,10 +20,28 @@ mod tests {
     const POPS_NOTHING: &[u8] =
         b"\xca\xfe\xba\xbe\x00\x00\x003\x00\x08\x07\x00\x02\x01\x00\x04Main\x07\x00\x04\x01\x00\x10java/lang/Object\x01\x00\x04main\x01\x00\x16([Ljava/lang/String;)V\x01\x00\x04Code\x00!\x00\x01\x00\x03\x00\x00\x00\x00\x00\x01\x00\x09\x00\x05\x00\x06\x00\x01\x00\x07\x00\x00\x00\x0e\x00\x06\x00\x04\x00\x00\x00\x02W\xb1\x00\x00\x00\x00\x00\x00";
 
-    const FILES: [(&str, &[u8]); 16] = [
+    /// What `run` writes of the class that prints the option.
+    const REPORT: &[u8] =
+        b"varexj report 1\noptions 1\noption A\nlimit 100\nrounds 4\nnode 2 0 1 0\nnode 3 0 0 1\nout 2 0\\0a\nout 3 1\\0a\nend 1 return\ndone\n";
+
+    const FILES: [(&str, &[u8]); 24] = [
         ("m", b"option A Main A\n"),
         ("e", b""),
         ("r", b"option A Main A\nrule true\n"),
+        ("on", b"option A Main A\nrule A\n"),
+        ("none", b"option A Main A\nrule A & !A\n"),
+        ("bad", b"option A Main A\nrule A &\n"),
+        ("two", b"option A\noption B\n"),
+        ("report", REPORT),
+        (
+            "cut",
+            b"varexj report 1\noptions 1\noption A\nlimit 100\nrounds 4\nnode 2 0 1 1\n",
+        ),
+        (
+            "part",
+            b"varexj report 1\noptions 1\noption A\nlimit 100\nrounds 4\nnode 2 0 0 1\nout 2 1\\0a\nend 2 return\ndone\n",
+        ),
+        ("empty", b""),
         ("e.cnf", b""),
         ("a/Main.class", PRINTS_OPTION),
         ("n/Main.class", PRINTS_NUMBER),
@@ -40,7 +58,7 @@ mod tests {
     ];
 
     /// Words, and what has to come: the code, `out`, and `err`.
-    const CASES: [(&str, u8, &str, &str); 19] = [
+    const CASES: [(&str, u8, &str, &str); 31] = [
         (
             "run a m Main 100 1",
             0,
@@ -94,12 +112,34 @@ mod tests {
             "",
             "bad class 1\\201.class at 3 reason 3\n",
         ),
-        ("run a r Main 100 1", 20, "", "not yet r\n"),
+        (
+            "run a r Main 100 1",
+            0,
+            "varexj report 1\noptions 1\noption A\nlimit 100\nrounds 4\nnode 2 0 1 0\nnode 3 0 0 1\nout 2 0\\0a\nout 3 1\\0a\nend 1 return\ndone\n",
+            "",
+        ),
+        (
+            "run a on Main 100 1",
+            0,
+            "varexj report 1\noptions 1\noption A\nlimit 100\nrounds 4\nnode 2 0 0 1\nout 2 1\\0a\nend 2 return\ndone\n",
+            "",
+        ),
+        ("run a none Main 100 1", 6, "", "no configuration\n"),
+        ("run a bad Main 100 1", 5, "", "bad model line 2 reason 4\n"),
+        ("run a two Main 100 1", 20, "", "not yet two\n"),
         ("run n e.cnf Main 100 1", 20, "", "not yet e.cnf\n"),
         ("run n m Main 100 1", 20, "", "not yet Main.class\n"),
         ("run n e Other 100 1", 20, "", "not yet Main.class\n"),
         ("run f e Main 100 1", 20, "", "not yet f\n"),
-        ("run none e Main 100 1", 20, "", "not yet none\n"),
+        ("run absent e Main 100 1", 20, "", "not yet absent\n"),
+        ("project report -", 0, "out 0\\0a\nend return\n", ""),
+        ("project report A", 0, "out 1\\0a\nend return\n", ""),
+        ("project report Z", 11, "", "not allowed\n"),
+        ("project report A,A", 11, "", "not allowed\n"),
+        ("project report A,", 11, "", "not allowed\n"),
+        ("project part -", 11, "", "not allowed\n"),
+        ("project cut -", 10, "", "bad report line 6\n"),
+        ("project report", 2, "", "usage\n"),
     ];
 
     /// Words, the calls of the files, of `out` and of `err` that fail, and what has to come.

@@ -7,4 +7,4 @@ use Rattle.vx_straight.proofs.reporting.pieces_for.Goals as goal
 pub loop-line-preserved : goal.loop-line-preserved
 loop-line-preserved c =
     let so_far = c.loop-line.invariant in
-    rw (flat_more pieces_for c.args.lines.now c.loop-line.line-index (line.Number (pos 0)) c.loop-line-test.true) (rw so_far at c.in_ok-add_pieces.ensures)
+    rw (flat_more (pieces_for c.args.allowed) c.args.lines.now c.loop-line.line-index (line.Number (pos 0)) c.loop-line-test.true) (rw so_far at c.in_ok-add_pieces.ensures)

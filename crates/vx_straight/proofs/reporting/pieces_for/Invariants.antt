@@ -5,4 +5,4 @@ use Rattle.vx_straight.proofs.reporting.pieces_for.Given as goal
 
 -- the pieces of the lines so far
 abbrev pub invariant-loop-line : goal.invariant-loop-line
-invariant-loop-line l = l.pieces.items ≡ flat_map pieces_for (take l.line-index l.lines)
+invariant-loop-line l = l.pieces.items ≡ flat_map (pieces_for l.allowed) (take l.line-index l.lines)

@@ -1,0 +1,304 @@
+-- What the plan of `run` gave shows in terms of the files.
+use Rattle.std.proofs.Common.{◌≡◌, ◌≤◌, ◌<◌, ℕ, Bool, true, false, List, [], ◌∷◌, ◌++◌, length, filter, cond, IfSome, Option, None, Some, Result, Ok, Err, inl, inr, ◌⊎◌, refl, ap, sym, ◌∙◌, arith, append-nil, append_assoc, leb}
+use Rattle.std.specs.Prelude.{IsTrue}
+use Rattle.std.specs.List.{AllByRecursion}
+use Rattle.vx_io.specs.Call.{Reading}
+use Rattle.vx_io.specs.Held.{Held, FilesState, contents}
+use Rattle.vx_io.specs.Sink.{SinkState}
+use Rattle.vx_reading.specs.Reading.{Fault}
+use Rattle.vx_class.specs.declared.class_file.ClassFile.{ClassFile}
+use Rattle.vx_class.specs.Class.{class_of}
+use Rattle.vx_model.specs.declared.model.Model.{Model}
+use Rattle.vx_model.specs.Models.{is_allowed}
+use Rattle.vx_model.specs.Text.{BadLine}
+use Rattle.vx_model.specs.Text as text
+use Rattle.vx_straight.specs.declared.program.Program.{Program}
+use Rattle.vx_cli.specs.declared.status.Status.{Status}
+use Rattle.vx_cli.specs.declared.status.Status.TheVariants.{Done, NoMemory, ReadFault, WriteFault, BadModel, NoConfiguration, BadClass, TooLarge, NotYet}
+use Rattle.vx_cli.specs.Causes.{HasClasses, IsReached, IsModelOf, IsGoodModel, IsNotTaken, AreAll, class_bytes, AreClasses, RunCause, Shows, IsShown, IsGood, NothingFails}
+use Rattle.vx_cli.specs.Command.{Run}
+use Rattle.vx_cli.specs.Job.{is_class_path, is_dimacs_path, or_not_yet, with_one_option, model_of, program_in, Report}
+use Rattle.vx_cli.specs.Plan.{Plan, MayGive, Write, If_allowed, AllowsSome, AllowsNone, attempt}
+use Rattle.vx_cli.specs.Run.{read_classes, read_model, read_folder, run_classes, run_plan, class_in, or_bad_class, most_classes, place_of, class_paths}
+use Rattle.vx_cli.specs.Sized.{most_bytes, too_large}
+use Rattle.vx_cli.proofs.Told.{told_map, told_both, unless_cases, large_cases, IsText, SizedShows, sized_shows, attempt_cases, ok_and_err, same_value}
+
+-- ---- the class files
+
+all_filter : {X : Type 0} (p : X → Bool) (xs : List X) → AllByRecursion (λ x. IsTrue (p x)) (filter p xs)
+all_filter p [] = tt
+all_filter p (x ∷ xs) = by_test (p x) refl (all_filter p xs)
+  where
+    by_test : (b : Bool) → p x ≡ b → AllByRecursion (λ y. IsTrue (p y)) (filter p xs) → AllByRecursion (λ y. IsTrue (p y)) (cond b (x ∷ filter p xs) (filter p xs))
+    by_test true e h = (e, h)
+    by_test false e h = h
+
+-- the class files so far, and those that are left
+record SoFar (held : Held) (folder : List ℕ) (done paths : List (List ℕ)) (classes : List ClassFile) : Type 0 where
+  all : HasClasses held folder (done ++ paths)
+  good : AreClasses held folder done classes
+
+reached : (held : Held) (folder path : List ℕ) (done paths : List (List ℕ)) (classes : List ClassFile) → SoFar held folder done (path ∷ paths) classes → IsReached held folder path
+reached held folder path done paths classes h = record { before = done; after = paths; listed = h.all; classes = classes; good = h.good }
+
+are_more : (held : Held) (folder path : List ℕ) (class : ClassFile) (done : List (List ℕ)) (classes : List ClassFile) → AreClasses held folder done classes → length (class_bytes held folder path) ≤ most_bytes → class_of (class_bytes held folder path) ≡ Ok class
+    → AreClasses held folder (done ++ path ∷ []) (classes ++ class ∷ [])
+are_more held folder path class [] [] h fits reads = (fits, reads, tt)
+are_more held folder path class [] (c ∷ classes) h fits reads = absurd h
+are_more held folder path class (p ∷ done) [] h fits reads = absurd h
+are_more held folder path class (p ∷ done) (c ∷ classes) h fits reads = (h.0, h.1, are_more held folder path class done classes h.2 fits reads)
+
+further : (held : Held) (folder path bytes : List ℕ) (class : ClassFile) (done paths : List (List ℕ)) (classes : List ClassFile) → SoFar held folder done (path ∷ paths) classes
+    → (length (class_bytes held folder path) ≤ most_bytes) × (bytes ≡ class_bytes held folder path) → class_of bytes ≡ Ok class
+    → SoFar held folder (done ++ path ∷ []) paths (classes ++ class ∷ [])
+further held folder path bytes class done paths classes h b reads = record {
+  all = rw append_assoc h.all;
+  good = are_more held folder path class done classes h.good b.0 (ap class_of (sym b.1) ∙ reads);
+}
+
+abbrev ClassesShow : FilesState → FilesState → List ℕ → List ℕ → List ℕ → List (List ℕ) → (List ClassFile → Plan) → Result (List ℕ) Status → Type 0
+ClassesShow old new folder model main all next outcome =
+    ((status : Status) × (outcome ≡ Err status) × RunCause old new folder model main status)
+    ⊎ ((classes : List ClassFile) × IfSome old.held (λ held. SoFar held folder all [] classes) × MayGive old.held old.faults new.faults (next classes) outcome)
+
+a_class : (path bytes : List ℕ) (class : ClassFile) → class_in path bytes ≡ Ok class → class_of bytes ≡ Ok class
+a_class path bytes class e = by_case (class_of bytes) e
+  where
+    by_case : (r : Result ClassFile Fault) → or_bad_class path r ≡ Ok class → r ≡ Ok class
+    by_case (Ok c) e = let k : c ≡ class = cc in ap Ok k
+    by_case (Err fault) e = cc
+
+a_bad_class : (path bytes : List ℕ) (status : Status) → class_in path bytes ≡ Err status → (at : ℕ) × (reason : ℕ) × (class_of bytes ≡ Err (record { at = at; reason = reason })) × (status ≡ BadClass path at reason)
+a_bad_class path bytes status e = by_case (class_of bytes) e
+  where
+    by_case : (r : Result ClassFile Fault) → or_bad_class path r ≡ Err status → (at : ℕ) × (reason : ℕ) × (r ≡ Err (record { at = at; reason = reason })) × (status ≡ BadClass path at reason)
+    by_case (Ok c) e = cc
+    by_case (Err fault) e = (fault.at, fault.reason, refl, cc)
+
+-- reading on from here shows what a plan gave
+abbrev Continues : FilesState → FilesState → List ℕ → List ℕ → List ℕ → List (List ℕ) → (List ClassFile → Plan) → List (List ℕ) → List (List ℕ) → List ClassFile → Result (List ℕ) Status → Type 0
+Continues old new folder model main all next paths done classes outcome =
+    IfSome old.held (λ held. SoFar held folder done paths classes) → AllByRecursion (λ path. IsTrue (is_class_path path)) paths
+    → MayGive old.held old.faults new.faults (read_classes folder next classes paths) outcome → ClassesShow old new folder model main all next outcome
+
+classes_show : (old new : FilesState) (folder model main : List ℕ) (all : List (List ℕ)) (next : List ClassFile → Plan) (paths done : List (List ℕ)) (classes : List ClassFile) (outcome : Result (List ℕ) Status) → all ≡ done ++ paths
+    → IfSome old.held (λ held. SoFar held folder done paths classes) → AllByRecursion (λ path. IsTrue (is_class_path path)) paths
+    → MayGive old.held old.faults new.faults (read_classes folder next classes paths) outcome → ClassesShow old new folder model main all next outcome
+classes_show old new folder model main all next [] done classes outcome is told named g = inr (classes, rw (is ∙ append-nil done) told, g)
+classes_show old new folder model main all next (path ∷ paths) done classes outcome is told named g =
+    by_file (λ class. classes_show old new folder model main all next paths (done ++ path ∷ []) (classes ++ class ∷ []) outcome (is ∙ sym (append_assoc done (path ∷ []) paths)))
+    (sized_shows old new most_bytes (place_of folder path) path _ outcome g)
+  where
+    by_test : (bytes : List ℕ) → IfSome old.held (λ held. (length (class_bytes held folder path) ≤ most_bytes) × (bytes ≡ class_bytes held folder path)) → ((class : ClassFile) → Continues old new folder model main all next paths (done ++ path ∷ []) (classes ++ class ∷ []) outcome)
+        → ((status : Status) × (class_in path bytes ≡ Err status) × (outcome ≡ Err status)) ⊎ ((class : ClassFile) × (class_in path bytes ≡ Ok class) × MayGive old.held old.faults new.faults (read_classes folder next (classes ++ class ∷ []) paths) outcome)
+        → ClassesShow old new folder model main all next outcome
+    by_test bytes is rest (inl bad) =
+        let b = a_bad_class path bytes bad.0 bad.1 in
+        inl (BadClass path b.0 b.1, bad.2 ∙ ap Err b.3, told_both old.held _ _ _ (λ held h k. (reached held folder path done paths classes h, ap class_of (sym k.1) ∙ b.2)) told is)
+    by_test bytes is rest (inr good) =
+        rest good.0 (told_both old.held _ _ _ (λ held h k. further held folder path bytes good.0 done paths classes h k (a_class path bytes good.0 good.1)) told is) named.1 good.2
+
+    by_file : ((class : ClassFile) → Continues old new folder model main all next paths (done ++ path ∷ []) (classes ++ class ∷ []) outcome)
+        → SizedShows old new most_bytes (place_of folder path) path (λ bytes. attempt (class_in path bytes) (λ class. read_classes folder next (classes ++ class ∷ []) paths)) outcome → ClassesShow old new folder model main all next outcome
+    by_file rest (inl (inl fault)) = inl (ReadFault path, fault.1, inr (inr (named.0, fault.0, told_map old.held _ _ (λ held h. reached held folder path done paths classes h) told)))
+    by_file rest (inl (inr large)) = inl (TooLarge path most_bytes, large.1, inr (inr (refl, told_both old.held _ _ _ (λ held h k. (reached held folder path done paths classes h, k)) told large.0)))
+    by_file rest (inr read) = by_test read.0 read.1 rest (attempt_cases old.held old.faults new.faults (class_in path read.0) _ outcome read.2)
+
+-- ---- the folder
+
+abbrev FolderShows : FilesState → FilesState → List ℕ → List ℕ → List ℕ → (List (List ℕ) → List ClassFile → Plan) → Result (List ℕ) Status → Type 0
+FolderShows old new folder model main next outcome =
+    ((status : Status) × (outcome ≡ Err status) × RunCause old new folder model main status)
+    ⊎ ((paths : List (List ℕ)) × (classes : List ClassFile) × IfSome old.held (λ held. AreAll held folder paths classes) × MayGive old.held old.faults new.faults (next paths classes) outcome)
+
+-- a listing has one length
+folder_shows : (old new : FilesState) (folder model main : List ℕ) (next : List (List ℕ) → List ClassFile → Plan) (outcome : Result (List ℕ) Status)
+    → MayGive old.held old.faults new.faults (read_folder folder next) outcome → FolderShows old new folder model main next outcome
+folder_shows old new folder model main next outcome (inl fault) = inl (ReadFault folder, fault.1, inr (inl (refl, fault.0)))
+folder_shows old new folder model main next outcome (inr g) = by_size (unless_cases old.held old.faults new.faults (too_large folder most_classes (length (class_paths g.0))) _ outcome g.2) (large_cases folder most_classes (length (class_paths g.0)))
+  where
+    start : IfSome old.held (λ held. SoFar held folder [] (class_paths g.0) [])
+    start = told_map old.held _ _ (λ held h. record { all = record { listing = g.0; listed = h; classes = refl }; good = tt }) g.1
+
+    by_size : ((status : Status) × (too_large folder most_classes (length (class_paths g.0)) ≡ Some status) × (outcome ≡ Err status)) ⊎ ((too_large folder most_classes (length (class_paths g.0)) ≡ None) × MayGive old.held old.faults new.faults (read_classes folder (next (class_paths g.0)) [] (class_paths g.0)) outcome)
+        → ((too_large folder most_classes (length (class_paths g.0)) ≡ None) × (length (class_paths g.0) ≤ most_classes)) ⊎ ((too_large folder most_classes (length (class_paths g.0)) ≡ Some (TooLarge folder most_classes)) × (most_classes < length (class_paths g.0)))
+        → FolderShows old new folder model main next outcome
+    by_size (inl refused) (inl fits) = cc
+    by_size (inl refused) (inr large) =
+        inl (TooLarge folder most_classes, (let e : refused.0 ≡ TooLarge folder most_classes = cc in refused.2 ∙ ap Err e), inr (inl (refl, refl, told_map old.held _ _ (λ held h. (class_paths g.0, record { listing = g.0; listed = h; classes = refl }, large.1)) g.1)))
+    by_size (inr goes) (inr large) = cc
+    by_size (inr goes) (inl fits) = by_classes (classes_show old new folder model main (class_paths g.0) (next (class_paths g.0)) (class_paths g.0) [] [] outcome refl start (all_filter is_class_path g.0) goes.1)
+      where
+        by_classes : ClassesShow old new folder model main (class_paths g.0) (next (class_paths g.0)) outcome → FolderShows old new folder model main next outcome
+        by_classes (inl refused) = inl refused
+        by_classes (inr read) = inr (class_paths g.0, read.0, told_map old.held _ _ (λ held h. record { listed = (rw append-nil at h.all); few = fits.1; good = h.good }) read.1, read.2)
+
+-- ---- the model
+
+not_yet_alone : {A : Type 0} (path : List ℕ) (o : Option A) (status : Status) → or_not_yet path o ≡ Err status → status ≡ NotYet path
+not_yet_alone path None status e = cc
+not_yet_alone path (Some x) status e = cc
+
+-- a text is refused by its first bad line, or as not built
+one_option_refused : (path : List ℕ) (r : Result Model BadLine) (status : Status) → with_one_option path r ≡ Err status → (status ≡ NotYet path) ⊎ ((line : ℕ) × (reason : ℕ) × (status ≡ BadModel line reason))
+one_option_refused path (Err bad) status e = inr (bad.line, bad.reason, cc)
+one_option_refused path (Ok model) status e = by_test (leb (length model.options) 1) e
+  where
+    by_test : (b : Bool) → cond b (Ok model) (Err (NotYet path)) ≡ Err status → (status ≡ NotYet path) ⊎ ((line : ℕ) × (reason : ℕ) × (status ≡ BadModel line reason))
+    by_test true k = cc
+    by_test false k = inl cc
+
+model_refused : (path bytes : List ℕ) (status : Status) → model_of path bytes ≡ Err status → (status ≡ NotYet path) ⊎ ((line : ℕ) × (reason : ℕ) × (status ≡ BadModel line reason))
+model_refused path bytes status e = by_test (is_dimacs_path path) e
+  where
+    by_test : (b : Bool) → cond b (Err (NotYet path)) (with_one_option path (text.model_of bytes)) ≡ Err status → (status ≡ NotYet path) ⊎ ((line : ℕ) × (reason : ℕ) × (status ≡ BadModel line reason))
+    by_test true k = inl cc
+    by_test false k = one_option_refused path (text.model_of bytes) status k
+
+abbrev ModelShows : FilesState → FilesState → List ℕ → List ℕ → List ℕ → (Model → Plan) → Result (List ℕ) Status → Type 0
+ModelShows old new folder path main next outcome =
+    ((status : Status) × (outcome ≡ Err status) × RunCause old new folder path main status)
+    ⊎ ((model : Model) × IfSome old.held (λ held. IsGoodModel held path model) × MayGive old.held old.faults new.faults (next model) outcome)
+
+model_shows : (old new : FilesState) (folder path main : List ℕ) (next : Model → Plan) (outcome : Result (List ℕ) Status)
+    → MayGive old.held old.faults new.faults (read_model path next) outcome → ModelShows old new folder path main next outcome
+model_shows old new folder path main next outcome g = by_file (sized_shows old new most_bytes path path _ outcome g)
+  where
+    is_refused : (bytes : List ℕ) (refusal status : Status) → IsText old most_bytes path bytes → model_of path bytes ≡ Err refusal → refusal ≡ status → IfSome old.held (λ held. (length (contents held path) ≤ most_bytes) × (model_of path (contents held path) ≡ Err status))
+    is_refused bytes refusal status told bad is = told_map old.held _ _ (λ held h. (h.0, ap (model_of path) (sym h.1) ∙ bad ∙ ap Err is)) told
+
+    by_refusal : (bytes : List ℕ) (status : Status) → IsText old most_bytes path bytes → model_of path bytes ≡ Err status → outcome ≡ Err status
+        → (status ≡ NotYet path) ⊎ ((line : ℕ) × (reason : ℕ) × (status ≡ BadModel line reason)) → ModelShows old new folder path main next outcome
+    by_refusal bytes status told bad is (inl e) = inl (NotYet path, is ∙ ap Err e, inl (is_refused bytes status (NotYet path) told bad e))
+    by_refusal bytes status told bad is (inr e) = inl (BadModel e.0 e.1, is ∙ ap Err e.2, is_refused bytes status (BadModel e.0 e.1) told bad e.2)
+
+    is_model : (bytes : List ℕ) (model : Model) (held : Held) → model_of path bytes ≡ Ok model → (length (contents held path) ≤ most_bytes) × (bytes ≡ contents held path) → IsModelOf held path model
+    is_model bytes model held taken h = record { fits = h.0; reads = ap (model_of path) (sym h.1) ∙ taken }
+
+    by_allowed : (bytes : List ℕ) (model : Model) → IsText old most_bytes path bytes → model_of path bytes ≡ Ok model
+        → (AllowsNone model × (outcome ≡ Err NoConfiguration)) ⊎ (AllowsSome model × MayGive old.held old.faults new.faults (next model) outcome) → ModelShows old new folder path main next outcome
+    by_allowed bytes model told taken (inl none) = inl (NoConfiguration, none.1, told_map old.held _ _ (λ held h. (model, is_model bytes model held taken h, none.0)) told)
+    by_allowed bytes model told taken (inr some) = inr (model, told_map old.held _ _ (λ held h. record { spelled = is_model bytes model held taken h; allows = some.0 }) told, some.1)
+
+    by_test : (bytes : List ℕ) → IsText old most_bytes path bytes
+        → ((status : Status) × (model_of path bytes ≡ Err status) × (outcome ≡ Err status)) ⊎ ((model : Model) × (model_of path bytes ≡ Ok model) × MayGive old.held old.faults new.faults (If_allowed model (next model)) outcome) → ModelShows old new folder path main next outcome
+    by_test bytes told (inl bad) = by_refusal bytes bad.0 told bad.1 bad.2 (model_refused path bytes bad.0 bad.1)
+    by_test bytes told (inr good) = by_allowed bytes good.0 told good.1 good.2
+
+    by_file : SizedShows old new most_bytes path path (λ t. attempt (model_of path t) (λ m. If_allowed m (next m))) outcome → ModelShows old new folder path main next outcome
+    by_file (inl (inl fault)) = inl (ReadFault path, fault.1, inl (refl, fault.0))
+    by_file (inl (inr large)) = inl (TooLarge path most_bytes, large.1, inl (refl, refl, large.0))
+    by_file (inr read) = by_test read.0 read.1 (attempt_cases old.held old.faults new.faults (model_of path read.0) _ outcome read.2)
+
+-- ---- the whole run
+
+-- a folder is refused as not built by its own path, or by that of its class file
+not_yet_program : (folder main : List ℕ) (model : Model) (paths : List (List ℕ)) (classes : List ClassFile) (status : Status) → program_in folder main model paths classes ≡ Err status → (path : List ℕ) × (status ≡ NotYet path)
+not_yet_program folder main model (path ∷ []) (class ∷ []) status e = (path, not_yet_alone path _ status e)
+not_yet_program folder main model [] classes status e = (folder, cc)
+not_yet_program folder main model (path ∷ other ∷ paths) classes status e = (folder, cc)
+not_yet_program folder main model (path ∷ []) [] status e = (folder, cc)
+not_yet_program folder main model (path ∷ []) (class ∷ other ∷ classes) status e = (folder, cc)
+
+-- whatever the plan of `run` gave is shown by the files
+pub run_shows : (old new : FilesState) (folder path main : List ℕ) (limit version : ℕ) (outcome : Result (List ℕ) Status) → MayGive old.held old.faults new.faults (run_plan folder path main limit version) outcome → Shows old new (Run folder path main limit version) outcome
+run_shows old new folder path main limit version outcome g = by_model (model_shows old new folder path main _ outcome g)
+  where
+    refused : (status : Status) → outcome ≡ Err status → RunCause old new folder path main status → Shows old new (Run folder path main limit version) outcome
+    refused status e cause = rw e cause
+
+    by_program : (model : Model) (paths : List (List ℕ)) (classes : List ClassFile) → IfSome old.held (λ held. IsGoodModel held path model) → IfSome old.held (λ held. AreAll held folder paths classes)
+        → ((status : Status) × (program_in folder main model paths classes ≡ Err status) × (outcome ≡ Err status)) ⊎ ((program : Program) × (program_in folder main model paths classes ≡ Ok program) × MayGive old.held old.faults new.faults (Write (Report version model limit program)) outcome)
+        → Shows old new (Run folder path main limit version) outcome
+    by_program model paths classes modeled all (inl bad) =
+        let n = not_yet_program folder main model paths classes bad.0 bad.1 in
+        refused (NotYet n.0) (bad.2 ∙ ap Err n.1) (inr (told_both old.held _ _ _ (λ held m h. record { model = model; modeled = m; paths = paths; classes = classes; all = h; not_taken = bad.1 ∙ ap Err n.1 }) modeled all))
+    by_program model paths classes modeled all (inr good) =
+        rw good.2.2 (told_both old.held _ _ _ (λ held m h. record {
+          model = model;
+          modeled = m;
+          paths = paths;
+          classes = classes;
+          all = h;
+          reported = record { program = good.0; is_program = good.1; is_report = good.2.1 };
+        }) modeled all)
+
+    by_folder : (model : Model) → IfSome old.held (λ held. IsGoodModel held path model) → FolderShows old new folder path main (run_classes folder main limit version model) outcome → Shows old new (Run folder path main limit version) outcome
+    by_folder model modeled (inl stop) = refused stop.0 stop.1 stop.2
+    by_folder model modeled (inr read) = by_program model read.0 read.1 modeled read.2 (attempt_cases old.held old.faults new.faults (program_in folder main model read.0 read.1) _ outcome read.3)
+
+    by_model : ModelShows old new folder path main (λ model. read_folder folder (run_classes folder main limit version model)) outcome → Shows old new (Run folder path main limit version) outcome
+    by_model (inl stop) = refused stop.0 stop.1 stop.2
+    by_model (inr modeled) = by_folder modeled.0 modeled.1 (folder_shows old new folder path main (run_classes folder main limit version modeled.0) outcome modeled.2)
+
+-- the class of a file among those that spell classes
+class_at : (held : Held) (folder path : List ℕ) (before after : List (List ℕ)) (classes : List ClassFile) → AreClasses held folder (before ++ path ∷ after) classes
+    → (length (class_bytes held folder path) ≤ most_bytes) × ((class : ClassFile) × (class_of (class_bytes held folder path) ≡ Ok class))
+class_at held folder path [] after [] h = absurd h
+class_at held folder path [] after (c ∷ classes) h = (h.0, (c, h.1))
+class_at held folder path (p ∷ before) after [] h = absurd h
+class_at held folder path (p ∷ before) after (c ∷ classes) h = class_at held folder path before after classes h.2
+
+-- files spell one list of classes
+same_classes : (held : Held) (folder : List ℕ) (paths : List (List ℕ)) (a b : List ClassFile) → AreClasses held folder paths a → AreClasses held folder paths b → a ≡ b
+same_classes held folder [] [] [] h k = refl
+same_classes held folder [] [] (c ∷ b) h k = absurd k
+same_classes held folder [] (c ∷ a) b h k = absurd h
+same_classes held folder (p ∷ paths) [] b h k = absurd h
+same_classes held folder (p ∷ paths) (c ∷ a) [] h k = absurd k
+same_classes held folder (p ∷ paths) (c ∷ a) (d ∷ b) h k =
+    let e : Ok c ≡ Ok d = sym h.1 ∙ k.1 in
+    let same : c ≡ d = cc in
+    rw (same, same_classes held folder paths a b h.2 k.2)
+
+-- a run over good files, in which nothing fails, is done
+pub run_completes : (old new : FilesState) (out out' : SinkState) (folder model main : List ℕ) (limit version : ℕ) (held : Held) (status : Status) → old.held ≡ Some held → IsGood held (Run folder model main limit version) → NothingFails held old new out out' (Run folder model main limit version)
+    → IsShown old new out out' (Run folder model main limit version) status → (status ≡ Done) ⊎ (status ≡ NoMemory)
+run_completes old new out out' folder model main limit version held status told good fails shown = by_status status shown
+  where
+    here : (P : Held → Type 0) → IfSome old.held P → P held
+    here P h = rw told at h
+
+    is_reached : (path : List ℕ) → IsReached held folder path → (length (class_bytes held folder path) ≤ most_bytes) × ((class : ClassFile) × (class_of (class_bytes held folder path) ≡ Ok class))
+    is_reached path r = let k = good.2 (r.before ++ path ∷ r.after) r.listed in class_at held folder path r.before r.after k.0 k.1.good
+
+    not_taken : (path : List ℕ) → IsNotTaken held folder model main path → ⊥
+    not_taken path h =
+        let n = good.2 h.paths h.all.listed in
+        let m : h.model ≡ good.0 = same_value h.model good.0 _ h.modeled.spelled.reads good.1.spelled.reads in
+        let classes : h.classes ≡ n.0 = same_classes held folder h.paths h.classes n.0 h.all.good n.1.good in
+        ok_and_err n.2.0 (NotYet path) (program_in folder main h.model h.paths h.classes) (rw (m, classes) n.2.1) h.not_taken
+
+    bad_model : (s : Status) → IfSome old.held (λ held. (length (contents held model) ≤ most_bytes) × (model_of model (contents held model) ≡ Err s)) → ⊥
+    bad_model s h = ok_and_err good.0 s _ good.1.spelled.reads (here (λ held. (length (contents held model) ≤ most_bytes) × (model_of model (contents held model) ≡ Err s)) h).1
+
+    no_configuration : (m : Model) × IsModelOf held model m × AllowsNone m → ⊥
+    no_configuration h =
+        let m : h.0 ≡ good.0 = same_value h.0 good.0 _ h.1.reads good.1.spelled.reads in
+        let none : is_allowed good.0 good.1.allows.0 ≡ false = (rw m at h.2) good.1.allows.0 in
+        let clash : true ≡ false = sym good.1.allows.1 ∙ none in
+        cc
+
+    by_status : (s : Status) → IsShown old new out out' (Run folder model main limit version) s → (s ≡ Done) ⊎ (s ≡ NoMemory)
+    by_status Done h = inl refl
+    by_status NoMemory h = inr refl
+    by_status WriteFault h = absurd (fails.3 h.0)
+    by_status (ReadFault path) h = absurd (elim h.0 [
+      | inl m ↦ (let e = ap (λ p. new.faults (Reading p)) m.0 in omega (arith, m.1, fails.0))
+      | inr k ↦ elim k [ inl l ↦ omega (arith, l.1, fails.1) | inr c ↦ omega (arith, c.1, fails.2 path (here (λ held. IsReached held folder path) c.2)) ]
+    ])
+    by_status (BadClass path at reason) h =
+        let k = here (λ held. IsReached held folder path × (class_of (class_bytes held folder path) ≡ Err (record { at = at; reason = reason }))) h.0 in
+        let r = is_reached path k.0 in
+        absurd (ok_and_err r.1.0 (record { at = at; reason = reason }) _ r.1.1 k.1)
+    by_status (TooLarge path room) h = absurd (elim h.0 [
+      | inl m ↦ (let k = here (λ held. most_bytes < length (contents held model)) m.2 in omega (arith, k, good.1.spelled.fits))
+      | inr n ↦ elim n [
+        | inl f ↦ (let k = here (λ held. (paths : List (List ℕ)) × HasClasses held folder paths × (most_classes < length paths)) f.2 in omega (arith, k.2, (good.2 k.0 k.1).1.few))
+        | inr c ↦ (let k = here (λ held. IsReached held folder path × (most_bytes < length (class_bytes held folder path))) c.1 in omega (arith, k.1, (is_reached path k.0).0))
+      ]
+    ])
+    by_status (BadModel line reason) h = absurd (bad_model (BadModel line reason) h.0)
+    by_status NoConfiguration h = absurd (no_configuration (here (λ held. (m : Model) × IsModelOf held model m × AllowsNone m) h.0))
+    by_status (NotYet path) h = absurd (elim h.0 [ inl m ↦ bad_model (NotYet path) m | inr c ↦ not_taken path (here (λ held. IsNotTaken held folder model main path) c) ])
+    by_status s h = absurd h.0
