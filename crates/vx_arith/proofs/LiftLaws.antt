@@ -5,8 +5,8 @@ use Rattle.std.specs.Prelude.{Option, Some, None, is_some}
 use Rattle.vx_value.specs.declared.slot.Slot.{Slot}
 use Rattle.vx_value.specs.Slot.{slot_cmp}
 use Rattle.vx_space.specs.Sets.{Sets, Extends}
-use Rattle.vx_cond.specs.Leaves.{IsLifted2}
-use Rattle.vx_cond.specs.Cond.{Conditional, cond_at, IsCondLifting2}
+use Rattle.vx_cond.specs.Leaves.{IsLifted, IsLifted2}
+use Rattle.vx_cond.specs.Cond.{Conditional, cond_at, IsCondLifting, IsCondLifting2}
 use Rattle.vx_cond.specs.Row.{Conditionals, IsRow}
 use Rattle.vx_cond.specs.Slots.{or_top, slot_at, slots_at}
 use Rattle.std.specs.Ordering.{nat_cmp}
@@ -17,7 +17,7 @@ use Rattle.vx_group.specs.Group.{GroupView, IsGroup}
 use Rattle.vx_group.proofs.GroupLaws.{IsGroup-attempts, IsGroup-top, IsGroup-one_scope, IsGroup-of_parts}
 use Rattle.vx_cond.proofs.RowSteps.{IsRow-push, IsRow-popped, slots_at-push}
 use Rattle.vx_cond.proofs.SideLaws.{cond_at-covers, row_at-extends}
-use Rattle.vx_arith.specs.Lifting.{TakesTwo, IsTaken, operands_of}
+use Rattle.vx_arith.specs.Lifting.{TakesOne, TakesTwo, IsTaken, operands_of}
 
 -- the operands of a row with one part more
 pub operands_of-push : {S I : Type 0} (sets : Sets I) (row : Conditionals Slot S I) (cond : Conditional Slot S I) (c : List Bool) → operands_of sets (record row { conds = row.conds ++ cond ∷ [] }) c ≡ slot_at sets cond c ∷ operands_of sets row c
@@ -58,6 +58,27 @@ TakesTwo-lifted {s0 = s0} {s1 = s1} R before one rest after first second value e
     let put : operands_of s1 after c ≡ slot_at s1 value c ∷ operands_of s1 rest c = ap (λ r. operands_of s1 r c) made ∙ operands_of-push s1 rest value c in
     let P : List Slot → List Slot → Type 0 = λ xs ys. TakesTwo R xs ys in
     subst (λ xs. P xs (operands_of s1 after c)) (sym taken) (subst (λ ys. P (slot_at s0 second c ∷ (slot_at s0 first c ∷ operands_of s0 rest c)) ys) (sym put) (related, operands_of-extends e rest u.is_row c))
+
+one_lifted : (R : Slot → Slot → Type 0) (a v : Option Slot) → is_some a ≡ true → IsLifted R a v → R (or_top a) (or_top v)
+one_lifted R None v p h = cc
+one_lifted R (Some a) None p h = absurd h
+one_lifted R (Some a) (Some v) p h = h
+
+-- what `lift_one` makes of the operands
+pub TakesOne-lifted : {S I : Type 0} {s0 s1 : Sets I} (R : Slot → Slot → Type 0) (before rest after : Conditionals Slot S I) (operand value : Conditional Slot S I) → Extends s0 s1 → IsTaken s0 before rest operand → IsCondLifting slot_cmp s1 R (cond_at s0 operand) value → after ≡ record rest { conds = rest.conds ++ value ∷ [] } → (c : List Bool) → s0.test before.scope c ≡ true → TakesOne R (operands_of s0 before c) (operands_of s1 after c)
+unfolding IsCondLifting
+TakesOne-lifted {s0 = s0} {s1 = s1} R before rest after operand value e t l made c h =
+    let there : s0.test operand.scope c ≡ true = ap (λ i. s0.test i c) t.cond_scope ∙ h in
+    let related = one_lifted R (cond_at s0 operand c) (cond_at s1 value c) (cond_at-covers slot_cmp s0 operand t.is_cond c ∙ there) (l.at c) in
+    let put : operands_of s1 after c ≡ slot_at s1 value c ∷ operands_of s1 rest c = ap (λ r. operands_of s1 r c) made ∙ operands_of-push s1 rest value c in
+    subst (λ xs. TakesOne R xs (operands_of s1 after c)) (sym (t.operands c)) (subst (λ ys. TakesOne R (slot_at s0 operand c ∷ operands_of s0 rest c) ys) (sym put) (related, operands_of-extends e rest t.is_row c))
+
+-- what `lift_one` makes is a row of the same scope, with as many parts
+pub IsRow-lifted_one : {S I : Type 0} {s0 s1 : Sets I} (R : Slot → Slot → Type 0) (first : List Bool → Option Slot) (rest after : Conditionals Slot S I) (value : Conditional Slot S I) → Extends s0 s1 → IsRow slot_cmp s0 rest → IsCondLifting slot_cmp s1 R first value → value.scope ≡ rest.scope → after ≡ record rest { conds = rest.conds ++ value ∷ [] } → IsRow slot_cmp s1 after
+unfolding IsCondLifting
+IsRow-lifted_one {S = S} {I = I} {s1 = s1} R first rest after value e v l s made =
+    let P : Conditionals Slot S I → Type 0 = λ r. IsRow slot_cmp s1 r in
+    subst P (sym made) (IsRow-push slot_cmp s1 rest value (IsRow-extends slot_cmp e rest v) l.is_cond s)
 
 -- what `lift_two` makes is a row of the same scope, with one part less
 pub IsRow-lifted : {S I : Type 0} {s0 s1 : Sets I} (R : Slot → Slot → Slot → Type 0) (first second : List Bool → Option Slot) (rest after : Conditionals Slot S I) (value : Conditional Slot S I) → Extends s0 s1 → IsRow slot_cmp s0 rest → IsCondLifting2 slot_cmp s1 R first second value → value.scope ≡ rest.scope → after ≡ record rest { conds = rest.conds ++ value ∷ [] } → IsRow slot_cmp s1 after

@@ -11,6 +11,11 @@ use Rattle.vx_cond.specs.Slots.{slot_at, slots_at}
 abbrev pub operands_of : {S I : Type 0} → Sets I → Conditionals Slot S I → List Bool → List Slot
 operands_of sets stack c = reverse (slots_at sets stack c)
 
+-- an operand was taken off, and a value that R relates to it was put on
+abbrev pub TakesOne : (Slot → Slot → Type 0) → List Slot → List Slot → Type 0
+TakesOne R (operand ∷ rest) (value ∷ after) = R operand value × (after ≡ rest)
+TakesOne R _ _ = ⊥
+
 -- two operands were taken off, and a value that R relates to them was put on; the lower one is R's first
 abbrev pub TakesTwo : (Slot → Slot → Slot → Type 0) → List Slot → List Slot → Type 0
 TakesTwo R (second ∷ first ∷ rest) (value ∷ after) = R first second value × (after ≡ rest)

@@ -4,5 +4,5 @@
 pub mod lifting;
 pub mod parts;
 
-pub use lifting::{lift_two, on_two, take_operand};
+pub use lifting::{lift_one, lift_two, on_one, on_two, take_operand};
 pub use parts::{Part, divide};
