@@ -48,7 +48,7 @@ next front x rest = sym (append_assoc front (x ∷ []) rest)
 two_lawful : (xs ys : List Line) → list_all is_line (xs ++ ys) ≡ true → (list_all is_line xs ≡ true) × (list_all is_line ys ≡ true)
 two_lawful xs ys h = both_true (list_all is_line xs) (list_all is_line ys) (sym (list_all-append is_line xs ys) ∙ h)
 
-abbrev IsNewName : List (List ℕ) → List ℕ → Type 0
+abbrev pub IsNewName : List (List ℕ) → List ℕ → Type 0
 IsNewName before name = ¬ Contains before name
 
 names_good : (version count : ℕ) (before more : List (List ℕ)) → length before + length more ≤ count → EachFollows IsNewName (before ++ more) → list_all is_line (map Named more) ≡ true
@@ -157,7 +157,7 @@ pieces_good b (x ∷ xs) later all m e a s w l =
       pieces_good new xs later all m e a (roots_next all (roots_of b) (roots_of new) rest x.node s (piece_roots b x e a)) w p.1,
     )
 
-abbrev IsNextEnd : List EndLine → EndLine → Type 0
+abbrev pub IsNextEnd : List EndLine → EndLine → Type 0
 IsNextEnd before line = comes_after (last_of before) line.end ≡ true
 
 ends_good : (b : Report) (more : List EndLine) (later all : List ℕ) (m : ℕ) → is_nil b.attempts ≡ true → EachFollows IsNextEnd (b.ends ++ more) → all ≡ roots_of b ++ (end_nodes more ++ later) → NumbersAll b.nodes 2 all m
@@ -173,7 +173,7 @@ ends_good b (x ∷ xs) later all m a h s w l =
       ends_good new xs later all m a (subst (EachFollows IsNextEnd) (next b.ends x xs) h) (roots_next all (roots_of b) (roots_of new) rest x.node s (end_roots b x a)) w p.1,
     )
 
-abbrev IsNextNumber : ℕ → List AttemptLine → AttemptLine → Type 0
+abbrev pub IsNextNumber : ℕ → List AttemptLine → AttemptLine → Type 0
 IsNextNumber limit before line = (is_above (last_of before) line.attempts && nat_le line.attempts limit) ≡ true
 
 spends_true : (v e a l : Bool) → v ≡ true → e ≡ false → (a && l) ≡ true → (v && not e && a && l) ≡ true

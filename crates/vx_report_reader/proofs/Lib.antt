@@ -4,5 +4,6 @@ pub mod Lines
 pub mod More
 pub mod Named
 pub mod Progress
+pub mod Read
 pub mod Verdicts
 pub mod Visible

@@ -2,6 +2,7 @@
 
 ghost use Rattle.std.specs.Prelude.{◌≡◌, IfOk, IfErr};
 ghost use Rattle.vx_report_reader.specs.declared.reading.ReportFault.TheVariants.{NoMemory};
+ghost use Rattle.vx_report_reader.specs.Lawful.{IsLawful};
 ghost use Rattle.vx_report_reader.specs.Rules.{ReportText};
 ghost use Rattle.vx_report_reader.specs.Reading.{IsOnlyReading, Faults};
 
@@ -56,8 +57,9 @@ fn report_in(alloc: Global, bytes: &[u8]) -> Result<Report, ReportFault>
 /// The report that a text spells, or the first line that breaks a rule. A line that is missing is bad at the place where
 /// it should stand, so a report without its last line is bad behind its last line, and an unused node at `done`.
 pub fn read_report(alloc: Global, bytes: &[u8]) -> Result<Report, ReportFault>
-    // The bytes are the text of the report.
+    // The bytes are the text of the report, which is lawful.
     ensures found { IfOk result (ReportText bytes.now) }
+    ensures lawful { IfOk result IsLawful }
     ensures fault { IfErr result (Faults bytes.now) }
     // Where the bytes are the text of a report, or a line is the first bad one, just that is the answer, unless memory runs
     // out.
