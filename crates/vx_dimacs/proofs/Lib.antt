@@ -1,2 +1,4 @@
+mod Fits
 mod Following
+mod Lawful
 mod Marks

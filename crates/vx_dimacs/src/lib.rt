@@ -5,3 +5,5 @@ mod draft;
 mod line;
 mod number;
 mod text;
+
+pub use text::read_dimacs;

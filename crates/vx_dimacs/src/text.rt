@@ -3,6 +3,7 @@
 ghost use Rattle.std.specs.Prelude.{◌≡◌, ◌+◌, ◌<◌, ◌≤◌, ◌∷◌, ◌==◌, length, position, slice_get, option_copied, IfOk, IfSome, OnOk, List, ℕ, Option, is_some, if◌then◌else◌};
 ghost use Rattle.vx_words.specs.Lines.{lines, words};
 ghost use Rattle.vx_model.specs.Answers.{Answers, Judges};
+ghost use Rattle.vx_model.specs.Models.{IsModel};
 ghost use Rattle.vx_dimacs.specs.Draft.{drafted};
 ghost use Rattle.vx_dimacs.specs.Dimacs.{numeral, plain_option, option_at, option_for, options_upto, is_nothing, ended, end_of, told_by, first_told, dimacs_of};
 
@@ -157,7 +158,9 @@ fn first_told(bytes: &[u8]) -> Option<u32>
 /// or malformed, 8 a word that is no such number, 9 more clauses than the header says, at the line where the extra one
 /// begins. What is missing at the end, the header (7), or a clause or its end (9), is a fault of the line after the last.
 pub fn read_dimacs(alloc: Global, bytes: &[u8]) -> Result<Model, ModelFault>
-    ensures { Answers result (dimacs_of bytes.now) }
+    ensures exact { Answers result (dimacs_of bytes.now) }
+    // What is read is a model that each call takes.
+    ensures lawful { IfOk result IsModel }
 {
     let most = first_told(bytes).unwrap_or(TOO_MANY);
     let mut draft = Draft::new(alloc);
