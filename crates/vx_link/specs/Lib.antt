@@ -11,3 +11,4 @@ pub mod CoreFiles
 pub mod Faults
 pub mod Linked
 pub mod Answers
+pub mod Tables

@@ -3,8 +3,11 @@
 #![tactic(auto)]
 
 pub mod access_flags;
+mod class_names;
 pub mod core_list;
 pub mod fault;
+mod files;
+mod judging;
 pub mod linking;
 pub mod program;
 

@@ -1,18 +1,39 @@
 //! Linking: from class files to a program, or the first fault (JVMS 5.3, 5.4).
 
-ghost use Rattle.std.specs.Prelude.{◌≡◌, ◌≤◌, All, length};
+ghost use Rattle.std.specs.Prelude.{◌≡◌, ◌≤◌, All, IfOk, length};
 ghost use Rattle.vx_class.specs.File.{Holds};
 ghost use Rattle.vx_link.specs.CoreFiles.{core_files, native_numbers};
 ghost use Rattle.vx_link.specs.Linked.{linked_program};
-ghost use Rattle.vx_link.specs.Answers.{Answers};
+ghost use Rattle.vx_link.specs.Faults.{link_fault};
+ghost use Rattle.vx_link.specs.Tables.{HaveOwnNames};
+ghost use Rattle.vx_link.specs.Answers.{Answers, Judges};
 ghost use Rattle.vx_model.specs.Models.{IsModel};
 
 use crate::core_list::CoreList;
 use crate::fault::LinkFault;
+use crate::files::Files;
+use crate::judging::judge;
 use crate::program::Program;
 use std::alloc::Global;
 use vx_class::ClassFile;
-use vx_model::Model;
+use vx_model::{Model, OptionField};
+
+fn judged(
+    alloc: Global,
+    classes: Vec<ClassFile>,
+    core: Vec<ClassFile>,
+    options: &[OptionField],
+    main: &[u8],
+) -> Result<Files, LinkFault>
+    requires { HaveOwnNames core.items }
+    ensures judges { Judges result (link_fault classes.items core.items options.now main.now) }
+    ensures classes { IfOk result (λ files. files.classes ≡ classes) }
+    ensures core { IfOk result (λ files. files.core ≡ core) }
+{
+    let files = Files::new(alloc, classes, core)?;
+    judge(alloc, &files, options, main)?;
+    Ok(files)
+}
 
 /// The program of a folder's classes with the core classes and the options of a model, whose `main` is that of the named
 /// class, or the first fault of the classes (JVMS 5.3, 5.4; the order of faults is own). The name has `/` between its parts.
@@ -30,5 +51,9 @@ pub fn link(
     requires model { IsModel model.now }
     ensures { Answers result (linked_program classes.items model.now.options main.now) }
 {
-    Err(LinkFault::NoMemory)
+    let options = model.options.as_slice();
+    match judged(alloc, classes, core.classes.into_vec(), options, main) {
+        Ok(_files) => Err(LinkFault::NoMemory),
+        Err(fault) => Err(fault),
+    }
 }

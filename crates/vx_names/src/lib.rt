@@ -1,7 +1,7 @@
 //! Tables of names: the place of a name among names in order, found by its hash.
 #![tactic(auto)]
 
-ghost use Rattle.std.specs.Prelude.{◌≡◌, [], IfOk, OnErr, OnOk, IsTrue, ◌↔◌, length, not};
+ghost use Rattle.std.specs.Prelude.{◌≡◌, [], IfOk, OnErr, OnOk, IsTrue, ◌↔◌, ◌<◌, ◌^◌, IfSome, length, not};
 ghost use Rattle.vx_names.specs.Names.{has_name, place_of, with_name};
 
 use indexmap::IndexSet;
@@ -34,7 +34,8 @@ impl NameTable {
 
     /// How many names there are.
     pub fn len(&self) -> usize
-        ensures { result ≡ length self.now }
+        ensures len { result ≡ length self.now }
+        ensures small { result < 2 ^ 63 }
     {
         self.names.len()
     }
@@ -56,9 +57,17 @@ impl NameTable {
         Ok(self.names.insert(name)?)
     }
 
+    /// Whether a name is there.
+    pub fn has(&self, name: &[u8]) -> bool
+        ensures { result ≡ has_name self.now name.now }
+    {
+        self.names.contains(name)
+    }
+
     /// The place of a name, if it is there.
     pub fn place_of(&self, name: &[u8]) -> Option<usize>
-        ensures { result ≡ place_of self.now name.now }
+        ensures place { result ≡ place_of self.now name.now }
+        ensures within { IfSome result (λ place. place < length self.now) }
     {
         self.names.get_index_of(name)
     }

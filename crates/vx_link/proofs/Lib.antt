@@ -1,0 +1,4 @@
+pub mod Lookups
+pub mod Twices
+pub mod Cycles
+pub mod Judged

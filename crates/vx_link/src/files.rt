@@ -1,0 +1,141 @@
+//! The class files of a folder and of the core, found by their names through tables that are filled once.
+
+ghost use Rattle.std.specs.Prelude.{◌≡◌, ◌+◌, ◌++◌, length, option_map, [], IfOk, MatchResult, fold, slice_get};
+ghost use Rattle.std.specs.Option.{option_copied};
+ghost use Rattle.vx_names.specs.Names.{place_of};
+ghost use Rattle.vx_link.specs.Faults.{file_named, twice};
+ghost use Rattle.vx_link.specs.Tables.{names_of, HaveOwnNames, twice_among};
+ghost use Rattle.vx_link.specs.Answers.{IsFault, Judges};
+
+use crate::class_names::name_of;
+use crate::fault::LinkFault;
+use std::alloc::{AllocError, Global};
+use vx_class::ClassFile;
+use vx_names::NameTable;
+use vx_value::Name;
+
+/// The class files with tables of their names.
+#[derive(Drop)]
+pub struct Files {
+    pub classes: Vec<ClassFile>,
+    pub core: Vec<ClassFile>,
+    folder_names: NameTable,
+    core_names: NameTable,
+    ghost folder_named: { folder_names ≡ names_of classes.items },
+    ghost core_named: { core_names ≡ names_of core.items },
+}
+
+fn names_of_core(alloc: Global, core: &[ClassFile]) -> Result<NameTable, AllocError>
+    requires { HaveOwnNames core.now }
+    ensures { IfOk result (λ names. names ≡ names_of core.now) }
+{
+    let mut names = NameTable::new(alloc);
+    for class in core {
+        names.add(Vec::from_slice(alloc, name_of(class))?)?;
+    }
+    Ok(names)
+}
+
+fn names_of_folder(
+    alloc: Global,
+    core: &NameTable,
+    classes: &[ClassFile],
+) -> Result<NameTable, LinkFault>
+    ensures judges { Judges result (twice_among core.now [] classes.now) }
+    ensures names { IfOk result (λ names. names ≡ names_of classes.now) }
+{
+    let mut names = NameTable::new(alloc);
+    for class in classes {
+        let name = name_of(class);
+        if core.has(name) || !names.add(Vec::from_slice(alloc, name)?)? {
+            return Err(LinkFault::Twice {
+                class: Name::of(alloc, name)?,
+            });
+        }
+    }
+    Ok(names)
+}
+
+impl Files {
+    /// The class files of a folder and of the core, unless a class has the name of an earlier class or of a core class.
+    pub fn new(
+        alloc: Global,
+        classes: Vec<ClassFile>,
+        core: Vec<ClassFile>,
+    ) -> Result<Files, LinkFault>
+        requires { HaveOwnNames core.items }
+        ensures judges { Judges result (twice core.items classes.items) }
+        ensures classes { IfOk result (λ files. files.classes ≡ classes) }
+        ensures core { IfOk result (λ files. files.core ≡ core) }
+    {
+        let core_names = names_of_core(alloc, &core)?;
+        match names_of_folder(alloc, &core_names, &classes) {
+            Ok(folder_names) => Ok(Files {
+                classes,
+                core,
+                folder_names,
+                core_names,
+            }),
+            Err(fault) => Err(fault),
+        }
+    }
+
+    /// The place of a name among the names of the folder's classes and then of the core classes.
+    pub fn place_of(&self, name: &[u8]) -> Option<usize>
+        ensures { result ≡ place_of (names_of (self.now.classes.items ++ self.now.core.items)) name.now }
+    {
+        match self.folder_names.place_of(name) {
+            Some(place) => Some(place),
+            None => self.place_in_core(name),
+        }
+    }
+
+    fn place_in_core(&self, name: &[u8]) -> Option<usize>
+        ensures { result ≡ option_map (λ place. length self.now.folder_names + place) (place_of self.now.core_names name.now) }
+    {
+        let (before, count) = (self.folder_names.len(), self.core_names.len());
+        match self.core_names.place_of(name) {
+            Some(place) => {
+                prove!(place < count);
+                Some(before + place)
+            }
+            None => None,
+        }
+    }
+
+    /// The class file of a place among the folder's and then the core classes.
+    pub fn at(&self, place: usize) -> Option<&ClassFile>
+        ensures { option_copied result ≡ slice_get (self.now.classes.items ++ self.now.core.items) place }
+    {
+        match self.classes.get(place) {
+            Some(class) => Some(class),
+            None => self.core.get(place - self.classes.len()),
+        }
+    }
+
+    fn in_folder(&self, place: usize) -> Option<&ClassFile>
+        ensures { option_copied result ≡ slice_get self.now.classes.items place }
+    {
+        self.classes.get(place)
+    }
+
+    /// The class file of a name, the first where there are several.
+    pub fn named(&self, name: &[u8]) -> Option<&ClassFile>
+        ensures { option_copied result ≡ file_named (self.now.classes.items ++ self.now.core.items) name.now }
+    {
+        match self.place_of(name) {
+            Some(place) => self.at(place),
+            None => None,
+        }
+    }
+
+    /// The class file of a name in the folder.
+    pub fn named_in_folder(&self, name: &[u8]) -> Option<&ClassFile>
+        ensures { option_copied result ≡ file_named self.now.classes.items name.now }
+    {
+        match self.folder_names.place_of(name) {
+            Some(place) => self.in_folder(place),
+            None => None,
+        }
+    }
+}
