@@ -33,6 +33,16 @@ fn reads_the_forms_of_tools(rt: HostRuntime) -> Result<(), Fail> {
     Ok(())
 }
 
+#[test]
+fn reads_64_variables_and_clauses_on_a_line(rt: HostRuntime) -> Result<(), Fail> {
+    let model = read_dimacs(rt.alloc(), b"p cnf 64 3\n1 0 -2 0 3 64 0\n")?;
+    assert_eq!(rt; model.options.len(), 64);
+    let last = model.options.get(63).ok_or("an option")?;
+    assert_eq!(rt; last.name.bytes(), b"v64".as_slice());
+    assert_eq!(rt; model.rules.len(), 3);
+    Ok(())
+}
+
 fn fault(alloc: Global, text: &[u8]) -> Option<ModelFault> {
     read_dimacs(alloc, text).err()
 }
