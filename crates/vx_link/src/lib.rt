@@ -14,5 +14,6 @@ pub mod program;
 pub use access_flags::AccessFlags;
 pub use core_list::CoreList;
 pub use fault::LinkFault;
-pub use linking::link;
+pub use files::Files;
+pub use linking::{link, linkable};
 pub use program::{LinkedClass, LinkedField, LinkedMethod, Program};

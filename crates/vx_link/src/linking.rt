@@ -35,8 +35,28 @@ fn judged(
     Ok(files)
 }
 
+/// The class files of a folder and of the core with tables of their names, where they link with the options of a model and
+/// the class whose `main` is run; otherwise their first fault (JVMS 5.3, 5.4; the order of faults is own). The name has `/`
+/// between its parts. It takes time linear in the classes, but where a class is its own ancestor.
+pub fn linkable(
+    alloc: Global,
+    classes: Vec<ClassFile>,
+    core: CoreList,
+    model: &Model,
+    main: &[u8],
+) -> Result<Files, LinkFault>
+    requires { core.classes ≡ core_files }
+    ensures judges { Judges result (link_fault classes.items core_files model.now.options main.now) }
+    ensures classes { IfOk result (λ files. files.classes ≡ classes) }
+    ensures core { IfOk result (λ files. files.core.items ≡ core_files) }
+{
+    let options = model.options.as_slice();
+    judged(alloc, classes, core.classes.into_vec(), options, main)
+}
+
 /// The program of a folder's classes with the core classes and the options of a model, whose `main` is that of the named
-/// class, or the first fault of the classes (JVMS 5.3, 5.4; the order of faults is own). The name has `/` between its parts.
+/// class, or the first fault of the classes. The name has `/` between its parts. No program is built yet: where there is no
+/// fault the answer is want of memory.
 pub fn link(
     alloc: Global,
     classes: Vec<ClassFile>,
@@ -51,8 +71,7 @@ pub fn link(
     requires model { IsModel model.now }
     ensures { Answers result (linked_program classes.items model.now.options main.now) }
 {
-    let options = model.options.as_slice();
-    match judged(alloc, classes, core.classes.into_vec(), options, main) {
+    match linkable(alloc, classes, core, model, main) {
         Ok(_files) => Err(LinkFault::NoMemory),
         Err(fault) => Err(fault),
     }
