@@ -18,21 +18,27 @@ use vx_value::Name;
 /// What the lines so far say.
 #[derive(Drop)]
 pub enum Stage {
+    /// No line is read.
     Nothing,
+    /// The version.
     Begun {
         version: u8,
     },
+    /// How many options there are, and their names so far.
     Naming {
         version: u8,
         count: u64,
         names: Vec<Name>,
     },
+    /// All names, and the limit.
     Limited {
         version: u8,
         names: Vec<Name>,
         limit: u64,
     },
+    /// A report that may go on.
     Body(Body),
+    /// A report with its last line.
     Whole(Report),
 }
 
