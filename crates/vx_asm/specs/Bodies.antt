@@ -1,5 +1,5 @@
 -- The lines of a method's body, each with what it adds: an instruction, a label, a catch row; and the end of the body.
-use Rattle.std.specs.Prelude.{ℕ, ◌+◌, List, [], ◌∷◌, ◌++◌, length, map, take, slice_index, Bool, true, not, is_some, nat_le, nat_lt, ◌==◌, ◌&&◌, ◌||◌, Option, Some, None, unwrap_or, ◌%◌, Ok, Err, if◌then◌else◌}
+use Rattle.std.specs.Prelude.{ℕ, ◌+◌, List, [], ◌∷◌, ◌++◌, length, map, take, min, slice_index, Bool, true, not, is_some, nat_lt, ◌==◌, ◌&&◌, ◌||◌, Option, Some, None, ◌%◌, Ok, Err}
 use Rattle.vx_class.specs.declared.class_file.Code.{Code}
 use Rattle.vx_class.specs.declared.class_file.Catch.{Catch}
 use Rattle.vx_class.specs.declared.class_file.Method.{Method}
@@ -58,11 +58,11 @@ instruction_said d b i = do
 
 -- ---- a label
 
--- a label stands once in a body
+-- a label stands once in a body, of whose labels so many were passed
 unfoldable pub label_said : ClassDraft → Body → List ℕ → Read ClassDraft
 label_said d b name =
     check (not (is_some (find_label (take b.passed b.labels.labels) name))) 4
-    (Ok (record d { body = Some (record b { passed = b.passed + 1 }) }))
+    (Ok (record d { body = Some (record b { passed = min (length b.labels.labels) (b.passed + 1) }) }))
 
 -- ---- a catch row
 

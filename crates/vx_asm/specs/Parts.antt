@@ -1,12 +1,12 @@
 -- The lines that begin a part of the class, in the order in which they may follow one another.
-use Rattle.std.specs.Prelude.{ℕ, ◌+◌, List, [], ◌∷◌, ◌++◌, Bool, true, false, not, nat_le, ◌==◌, ◌&&◌, ◌||◌, Option, Some, None, Ok, Err, if◌then◌else◌, codes}
+use Rattle.std.specs.Prelude.{ℕ, List, [], ◌∷◌, ◌++◌, Bool, true, false, not, nat_le, ◌&&◌, Option, Some, None, Ok, Err, codes}
 use Rattle.std.specs.List.{list_any}
 use Rattle.std.specs.Option.{option_map}
 use Rattle.std.specs.Str.{bytes_eq}
 use Rattle.vx_class.specs.declared.class_file.Field.{Field}
 use Rattle.vx_class.specs.declared.class_file.Method.{Method}
 use Rattle.vx_class.specs.Members.{is_lawful_initialiser}
-use Rattle.vx_source.specs.Reading.{Read, ◌>>=◌, check}
+use Rattle.vx_source.specs.Reading.{Read, check}
 use Rattle.vx_source.specs.declared.lines.SourceLine.{SourceLine}
 use Rattle.vx_source.specs.declared.statement.Statement.{Statement}
 use Rattle.vx_source.specs.declared.statement.Statement.TheVariants as statement

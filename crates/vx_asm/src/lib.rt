@@ -1,10 +1,18 @@
-//! Assembling a source: the class that its lines name.
+//! Assembling a source: the walk over its lines, and the class that they name.
 #![tactic(auto)]
 
+mod bodies;
 mod class_draft;
+mod ends;
 mod fault;
+mod fields;
+mod methods;
+mod parts;
 mod source;
 
 pub use class_draft::{Body, ClassDraft, Covered, Signature, Stage};
 pub use fault::AsmFault;
 pub use source::assemble;
+
+#[cfg(test)]
+mod tests;

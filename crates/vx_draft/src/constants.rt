@@ -214,15 +214,16 @@ fn member_entry(kind: Kind, class: u16, name: u16) -> Entry
     }
 }
 
-/// The index of a text.
-fn text_index(alloc: Global, pool: &[Constant], text: &[u8]) -> Result<u16, AllocError>
+/// The index of a text, as it stands in the file.
+pub fn text_index(alloc: Global, pool: &[Constant], text: &[u8]) -> Result<u16, AllocError>
     ensures { IfOk result (λ i. i ≡ in_file pool.now (Constant.Text text.now)) }
 {
     let constant = Constant::Text(Name::of(alloc, text)?);
     Ok(in_file(pool, &constant))
 }
 
-fn class_index(alloc: Global, pool: &[Constant], name: &[u8]) -> Result<u16, AllocError>
+/// The index of a class, as it stands in the file.
+pub fn class_index(alloc: Global, pool: &[Constant], name: &[u8]) -> Result<u16, AllocError>
     ensures { IfOk result (λ i. i ≡ in_file pool.now (Constant.Class name.now)) }
 {
     let constant = Constant::Class(Name::of(alloc, name)?);

@@ -67,7 +67,7 @@ pub fn next_place(at: usize, draft: &Draft) -> usize
 }
 
 /// The place of an instruction, or 0 behind the last one.
-fn place_of(places: &[u32], number: usize) -> usize
+pub fn place_of(places: &[u32], number: usize) -> usize
     ensures value { result ≡ slice_index places.now number }
     ensures within { result < 2 ^ 32 }
 {

@@ -97,7 +97,8 @@ fn has_leading_labels(labels: &Labels, operand: &Operand) -> bool
     }
 }
 
-fn is_of_version(major: u16, operand: &Operand) -> bool
+/// Whether an instruction may have an operand in a version: a static call of a method of an interface stands only in 52.
+pub fn is_of_version(major: u16, operand: &Operand) -> bool
     ensures { result ≡ is_of_version major operand.now }
 {
     match operand {

@@ -1,0 +1,222 @@
+//! The lines of a method's body: instructions, labels and catch rows (JVMS 4.7.3, 4.9.1).
+
+ghost use Rattle.std.specs.Prelude.{◌≡◌, ◌+◌, ◌<◌, ◌^◌, ◌&&◌, length, take, min, option_copied, is_some, OnOk, IfOk};
+ghost use Rattle.vx_source.specs.Reading.{Gives};
+ghost use Rattle.vx_draft.specs.Bodies.{find_label};
+ghost use Rattle.vx_asm.specs.Bodies.{with_needed, needed_index, is_index_near, with_draft, with_instruction, instruction_said, label_said, are_known, is_caught, is_lawful_row, covered, with_row, catch_said};
+
+use crate::class_draft::{Body, ClassDraft, Covered};
+use std::alloc::{AllocError, Global};
+use vx_draft::{
+    Constant, Label, Labels, check_instruction, constant_of, draft_of, find_label, in_file,
+    index_of, is_known, is_lawful_class, leads, number_of, pushed, put_constant,
+};
+use vx_list::Items;
+use vx_source::{CatchLine, Instruction, LineFault, refused};
+use vx_value::Name;
+
+/// The constant that an instruction needs.
+fn put_needed(
+    alloc: Global,
+    pool: &mut Vec<Constant>,
+    needed: Option<&Constant>,
+) -> Result<(), AllocError>
+    ensures { OnOk result (pool.new.items ≡ with_needed pool.old.items (option_copied needed.entry)) }
+{
+    match needed {
+        None => Ok(()),
+        Some(constant) => put_constant(alloc, pool, constant),
+    }
+}
+
+fn needed_index(pool: &[Constant], needed: Option<&Constant>) -> u16
+    ensures { result ≡ needed_index pool.now (option_copied needed.entry) }
+{
+    match needed {
+        None => 0,
+        Some(constant) => in_file(pool, constant),
+    }
+}
+
+/// Whether the index of a constant fits the byte that `ldc` has for it.
+fn is_index_near(pool: &[Constant], opcode: u8, needed: Option<&Constant>) -> bool
+    ensures { result ≡ is_index_near pool.now opcode (option_copied needed.entry) }
+{
+    match needed {
+        None => true,
+        Some(constant) => opcode != 0x12 || index_of(pool, constant) < 256,
+    }
+}
+
+fn with_draft(
+    alloc: Global,
+    body: Body,
+    pool: &[Constant],
+    needed: Option<&Constant>,
+    instruction: &Instruction,
+) -> Result<Body, AllocError>
+    ensures { IfOk result (λ b. b ≡ with_draft body pool.now (option_copied needed.entry) instruction.now) }
+{
+    let index = needed_index(pool, needed);
+    let draft = draft_of(alloc, &body.labels, index, instruction)?;
+    let is_near = body.is_near && is_index_near(pool, instruction.opcode, needed);
+    Ok(Body {
+        drafts: pushed(body.drafts, draft)?,
+        is_near,
+        ..body
+    })
+}
+
+#[tactic(auto, unfolding(crate::specs::Bodies::with_instruction))]
+fn with_instruction(
+    alloc: Global,
+    draft: ClassDraft,
+    body: Body,
+    instruction: &Instruction,
+) -> Result<ClassDraft, AllocError>
+    ensures { IfOk result (λ d. d ≡ with_instruction draft body instruction.now) }
+{
+    let mut pool = draft.pool.into_vec();
+    let needed = constant_of(alloc, instruction.opcode, &instruction.operand)?;
+    put_needed(alloc, &mut pool, needed.as_ref())?;
+    let body = with_draft(alloc, body, &pool, needed.as_ref(), instruction)?;
+    Ok(ClassDraft {
+        pool: Items::of(pool),
+        body: Some(body),
+        ..draft
+    })
+}
+
+#[tactic(auto, unfolding(crate::specs::Bodies::instruction_said))]
+pub fn instruction_line(
+    alloc: Global,
+    draft: ClassDraft,
+    body: Body,
+    instruction: &Instruction,
+) -> Result<ClassDraft, LineFault>
+    ensures { Gives result (instruction_said draft body instruction.now) }
+{
+    check_instruction(
+        alloc,
+        draft.major,
+        body.max_locals,
+        &body.labels,
+        instruction,
+    )?;
+    Ok(with_instruction(alloc, draft, body, instruction)?)
+}
+
+/// The labels that were passed.
+fn passed(labels: &[Label], count: usize) -> &[Label]
+    ensures { result.now ≡ take count labels.now }
+{
+    &labels[..count.min(labels.len())]
+}
+
+fn is_repeated(body: &Body, name: &[u8]) -> bool
+    ensures { result ≡ is_some (find_label (take body.now.passed body.now.labels.labels) name.now) }
+{
+    find_label(passed(body.labels.labels.as_slice(), body.passed), name).is_some()
+}
+
+/// One more, up to all.
+fn one_more(passed: usize, all: usize) -> usize
+    ensures { result ≡ min all (passed + 1) }
+{
+    if passed < all { passed + 1 } else { all }
+}
+
+#[tactic(auto, unfolding(crate::specs::Bodies::label_said))]
+pub fn label_line(draft: ClassDraft, body: Body, name: &[u8]) -> Result<ClassDraft, LineFault>
+    ensures { Gives result (label_said draft body name.now) }
+{
+    if is_repeated(&body, name) {
+        return refused(4);
+    }
+    let passed = one_more(body.passed, body.labels.labels.len());
+    Ok(ClassDraft {
+        body: Some(Body { passed, ..body }),
+        ..draft
+    })
+}
+
+fn are_known(labels: &Labels, line: &CatchLine) -> bool
+    ensures { result ≡ are_known labels.now line.now }
+{
+    is_known(labels, line.start.bytes())
+        && is_known(labels, line.end.bytes())
+        && is_known(labels, line.handler.bytes())
+}
+
+fn is_caught(class: &Option<Name>) -> bool
+    ensures { result ≡ is_caught class.now }
+{
+    match class {
+        None => true,
+        Some(name) => is_lawful_class(name.bytes()),
+    }
+}
+
+/// Whether a row covers something, and an instruction stands behind its handler.
+fn is_lawful_row(labels: &Labels, line: &CatchLine) -> bool
+    ensures { result ≡ is_lawful_row labels.now line.now }
+{
+    number_of(labels, line.start.bytes()) < number_of(labels, line.end.bytes())
+        && leads(labels, line.handler.bytes())
+        && is_caught(&line.class)
+}
+
+fn caught(alloc: Global, class: &Option<Name>) -> Result<Option<Name>, AllocError>
+    ensures { IfOk result (λ c. c ≡ class.now) }
+{
+    match class {
+        None => Ok(None),
+        Some(name) => Ok(Some(Name::of(alloc, name.bytes())?)),
+    }
+}
+
+fn covered(alloc: Global, labels: &Labels, line: &CatchLine) -> Result<Covered, AllocError>
+    ensures { IfOk result (λ c. c ≡ covered labels.now line.now) }
+{
+    Ok(Covered {
+        start: number_of(labels, line.start.bytes()),
+        end: number_of(labels, line.end.bytes()),
+        handler: number_of(labels, line.handler.bytes()),
+        class: caught(alloc, &line.class)?,
+    })
+}
+
+#[tactic(auto, unfolding(crate::specs::Bodies::with_row))]
+fn with_row(
+    alloc: Global,
+    draft: ClassDraft,
+    body: Body,
+    line: &CatchLine,
+) -> Result<ClassDraft, AllocError>
+    ensures { IfOk result (λ d. d ≡ with_row draft body line.now) }
+{
+    let row = covered(alloc, &body.labels, line)?;
+    let rows = pushed(body.rows, row)?;
+    Ok(ClassDraft {
+        body: Some(Body { rows, ..body }),
+        ..draft
+    })
+}
+
+#[tactic(auto, unfolding(crate::specs::Bodies::catch_said))]
+pub fn catch_line(
+    alloc: Global,
+    draft: ClassDraft,
+    body: Body,
+    line: &CatchLine,
+) -> Result<ClassDraft, LineFault>
+    ensures { Gives result (catch_said draft body line.now) }
+{
+    if !are_known(&body.labels, line) {
+        return refused(4);
+    }
+    if !is_lawful_row(&body.labels, line) {
+        return refused(8);
+    }
+    Ok(with_row(alloc, draft, body, line)?)
+}

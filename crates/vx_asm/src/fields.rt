@@ -1,0 +1,139 @@
+//! Fields and their values (JVMS 4.5, 4.7.2).
+
+ghost use Rattle.std.specs.Prelude.{◌≡◌, ◌<◌, ◌^◌, true, length, option_copied, OnOk, IfOk};
+ghost use Rattle.vx_source.specs.Reading.{Gives};
+ghost use Rattle.vx_asm.specs.Parts.{with_signature, is_text_value, constant_of_value, with_value, value_index, field_of, with_field, is_lawful_field_line, field_said};
+
+use crate::class_draft::{ClassDraft, Stage};
+use crate::parts::{is_taken, may_have_field, signature_of};
+use std::alloc::{AllocError, Global};
+use vx_class::Field;
+use vx_draft::{
+    Constant, in_file, is_lawful_field, may_have_value, pushed, put_constant, put_text, text_index,
+};
+use vx_list::Items;
+use vx_source::{FieldLine, LineFault, Value, refused};
+use vx_value::Name;
+
+fn is_text_value(value: &Value) -> bool
+    ensures { result ≡ is_text_value value.now }
+{
+    !matches!(value, Value::Text(None))
+}
+
+/// The constant that a value needs.
+fn constant_of_value(alloc: Global, value: &Value) -> Result<Option<Constant>, AllocError>
+    ensures { IfOk result (λ c. c ≡ constant_of_value value.now) }
+{
+    match value {
+        Value::Int(number) => Ok(Some(Constant::Integer(*number))),
+        Value::Long(number) => Ok(Some(Constant::Long(*number))),
+        Value::Text(Some(text)) => Ok(Some(Constant::Literal(Name::of(alloc, text.bytes())?))),
+        _ => Ok(None),
+    }
+}
+
+/// The name and the descriptor of a member.
+pub fn put_signature(
+    alloc: Global,
+    pool: &mut Vec<Constant>,
+    name: &[u8],
+    descriptor: &[u8],
+) -> Result<(), AllocError>
+    ensures { OnOk result (pool.new.items ≡ with_signature pool.old.items name.now descriptor.now) }
+{
+    put_text(alloc, pool, name)?;
+    put_text(alloc, pool, descriptor)
+}
+
+/// The name of the attribute, then the value.
+fn put_value(
+    alloc: Global,
+    pool: &mut Vec<Constant>,
+    given: Option<&Constant>,
+) -> Result<(), AllocError>
+    ensures { OnOk result (pool.new.items ≡ with_value pool.old.items (option_copied given.entry)) }
+{
+    match given {
+        None => Ok(()),
+        Some(constant) => {
+            put_text(alloc, pool, b"ConstantValue")?;
+            put_constant(alloc, pool, constant)
+        }
+    }
+}
+
+fn value_index(pool: &[Constant], given: Option<&Constant>) -> u16
+    ensures { result ≡ value_index pool.now (option_copied given.entry) }
+{
+    match given {
+        None => 0,
+        Some(constant) => in_file(pool, constant),
+    }
+}
+
+fn field_of(
+    alloc: Global,
+    pool: &[Constant],
+    given: Option<&Constant>,
+    line: &FieldLine,
+) -> Result<Field, AllocError>
+    ensures { IfOk result (λ f. f ≡ field_of pool.now (option_copied given.entry) line.now) }
+{
+    Ok(Field {
+        flags: line.flags,
+        name: text_index(alloc, pool, line.name.bytes())?,
+        descriptor: text_index(alloc, pool, line.descriptor.bytes())?,
+        constant: value_index(pool, given),
+    })
+}
+
+#[tactic(auto, unfolding(crate::specs::Parts::with_field))]
+fn with_field(alloc: Global, draft: ClassDraft, line: &FieldLine) -> Result<ClassDraft, AllocError>
+    ensures { IfOk result (λ d. d ≡ with_field draft line.now) }
+{
+    let mut pool = draft.pool.into_vec();
+    let given = constant_of_value(alloc, &line.value)?;
+    put_signature(alloc, &mut pool, line.name.bytes(), line.descriptor.bytes())?;
+    put_value(alloc, &mut pool, given.as_ref())?;
+    let field = field_of(alloc, &pool, given.as_ref(), line)?;
+    let signature = signature_of(alloc, line.name.bytes(), line.descriptor.bytes())?;
+    Ok(ClassDraft {
+        stage: Stage::Fields,
+        pool: Items::of(pool),
+        fields: pushed(draft.fields, field)?,
+        field_signatures: pushed(draft.field_signatures, signature)?,
+        ..draft
+    })
+}
+
+#[tactic(auto, using(crate::proofs::Short::field_is_short), unfolding(crate::specs::Parts::is_lawful_field_line))]
+fn is_lawful_line(draft: &ClassDraft, line: &FieldLine) -> bool
+    ensures { result ≡ is_lawful_field_line draft.now line.now }
+{
+    let name = line.name.bytes();
+    let descriptor = line.descriptor.bytes();
+    is_lawful_field(name, descriptor)
+        && may_have_value(draft.flags, line.flags, descriptor, &line.value)
+        && !is_taken(draft.field_signatures.as_slice(), name, descriptor)
+}
+
+#[tactic(auto, unfolding(crate::specs::Parts::field_said))]
+pub fn field_line(
+    alloc: Global,
+    draft: ClassDraft,
+    line: &FieldLine,
+) -> Result<ClassDraft, LineFault>
+    ensures { Gives result (field_said draft line.now) }
+{
+    if !may_have_field(draft.stage) {
+        return refused(5);
+    }
+    if !is_text_value(&line.value) {
+        return refused(6);
+    }
+    if !is_lawful_line(&draft, line) {
+        return refused(8);
+    }
+    Ok(with_field(alloc, draft, line)?)
+}

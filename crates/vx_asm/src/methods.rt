@@ -1,0 +1,156 @@
+//! Methods up to their bodies (JVMS 4.6).
+
+ghost use Rattle.std.specs.Prelude.{◌≡◌, ◌<◌, ◌^◌, true, length, OnOk, IfOk};
+ghost use Rattle.vx_source.specs.Reading.{Gives};
+ghost use Rattle.vx_asm.specs.Parts.{locals_of, is_lawful_method_line, bare_method, with_bare_method, body_of, with_body, with_room, method_said};
+
+use crate::class_draft::{Body, ClassDraft, Stage};
+use crate::fields::put_signature;
+use crate::parts::{has_class, is_taken, signature_of};
+use std::alloc::{AllocError, Global};
+use vx_class::Method;
+use vx_draft::{
+    Constant, is_lawful_code, is_lawful_initialiser, is_lawful_method, labels_of, pushed, put_text,
+    text_index,
+};
+use vx_list::Items;
+use vx_source::{LineFault, MethodLine, Room, SourceLine, refused};
+
+fn locals_of(room: Option<Room>) -> Option<u16>
+    ensures { result ≡ locals_of room }
+{
+    match room {
+        None => None,
+        Some(room) => Some(room.max_locals),
+    }
+}
+
+#[tactic(auto, using(crate::proofs::Short::method_is_short), unfolding(crate::specs::Parts::is_lawful_method_line))]
+fn is_lawful_line(alloc: Global, draft: &ClassDraft, line: &MethodLine) -> Result<bool, AllocError>
+    ensures { IfOk result (λ b. b ≡ is_lawful_method_line draft.now line.now) }
+{
+    let name = line.name.bytes();
+    let descriptor = line.descriptor.bytes();
+    if !is_lawful_method(alloc, name, descriptor)? {
+        return Ok(false);
+    }
+    if !is_lawful_initialiser(alloc, name, descriptor)? {
+        return Ok(false);
+    }
+    if !is_lawful_code(alloc, line.flags, name, descriptor, locals_of(line.room))? {
+        return Ok(false);
+    }
+    Ok(!is_taken(draft.method_signatures.as_slice(), name, descriptor))
+}
+
+/// A method without code.
+fn bare_method(alloc: Global, pool: &[Constant], line: &MethodLine) -> Result<Method, AllocError>
+    ensures { IfOk result (λ m. m ≡ bare_method pool.now line.now) }
+{
+    Ok(Method {
+        flags: line.flags,
+        name: text_index(alloc, pool, line.name.bytes())?,
+        descriptor: text_index(alloc, pool, line.descriptor.bytes())?,
+        code: None,
+    })
+}
+
+#[tactic(auto, unfolding(crate::specs::Parts::with_bare_method))]
+fn with_bare_method(
+    alloc: Global,
+    draft: ClassDraft,
+    line: &MethodLine,
+) -> Result<ClassDraft, AllocError>
+    ensures { IfOk result (λ d. d ≡ with_bare_method draft line.now) }
+{
+    let mut pool = draft.pool.into_vec();
+    put_signature(alloc, &mut pool, line.name.bytes(), line.descriptor.bytes())?;
+    let method = bare_method(alloc, &pool, line)?;
+    let signature = signature_of(alloc, line.name.bytes(), line.descriptor.bytes())?;
+    Ok(ClassDraft {
+        stage: Stage::Methods,
+        pool: Items::of(pool),
+        methods: pushed(draft.methods, method)?,
+        method_signatures: pushed(draft.method_signatures, signature)?,
+        ..draft
+    })
+}
+
+fn body_of(
+    alloc: Global,
+    pool: &[Constant],
+    line: &MethodLine,
+    room: Room,
+    behind: &[SourceLine],
+) -> Result<Body, AllocError>
+    ensures { IfOk result (λ b. b ≡ body_of pool.now line.now room behind.now) }
+{
+    Ok(Body {
+        flags: line.flags,
+        name: text_index(alloc, pool, line.name.bytes())?,
+        descriptor: text_index(alloc, pool, line.descriptor.bytes())?,
+        max_stack: room.max_stack,
+        max_locals: room.max_locals,
+        labels: labels_of(alloc, behind)?,
+        passed: 0,
+        drafts: Items::of(Vec::new(alloc)),
+        rows: Items::of(Vec::new(alloc)),
+        is_near: true,
+    })
+}
+
+#[tactic(auto, unfolding(crate::specs::Parts::with_body))]
+fn with_body(
+    alloc: Global,
+    draft: ClassDraft,
+    line: &MethodLine,
+    room: Room,
+    behind: &[SourceLine],
+) -> Result<ClassDraft, AllocError>
+    ensures { IfOk result (λ d. d ≡ with_body draft line.now room behind.now) }
+{
+    let mut pool = draft.pool.into_vec();
+    put_signature(alloc, &mut pool, line.name.bytes(), line.descriptor.bytes())?;
+    put_text(alloc, &mut pool, b"Code")?;
+    let body = body_of(alloc, &pool, line, room, behind)?;
+    let signature = signature_of(alloc, line.name.bytes(), line.descriptor.bytes())?;
+    Ok(ClassDraft {
+        stage: Stage::Methods,
+        pool: Items::of(pool),
+        method_signatures: pushed(draft.method_signatures, signature)?,
+        body: Some(body),
+        ..draft
+    })
+}
+
+fn with_room(
+    alloc: Global,
+    draft: ClassDraft,
+    line: &MethodLine,
+    behind: &[SourceLine],
+) -> Result<ClassDraft, AllocError>
+    ensures { IfOk result (λ d. d ≡ with_room draft line.now line.now.room behind.now) }
+{
+    match line.room {
+        None => with_bare_method(alloc, draft, line),
+        Some(room) => with_body(alloc, draft, line, room, behind),
+    }
+}
+
+#[tactic(auto, unfolding(crate::specs::Parts::method_said))]
+pub fn method_line(
+    alloc: Global,
+    draft: ClassDraft,
+    line: &MethodLine,
+    behind: &[SourceLine],
+) -> Result<ClassDraft, LineFault>
+    ensures { Gives result (method_said draft line.now behind.now) }
+{
+    if !has_class(draft.stage) {
+        return refused(5);
+    }
+    if !is_lawful_line(alloc, &draft, line)? {
+        return refused(8);
+    }
+    Ok(with_room(alloc, draft, line, behind)?)
+}

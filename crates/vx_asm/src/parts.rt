@@ -1,0 +1,156 @@
+//! The version, the class and its interfaces, and the order in which parts may follow one another.
+
+ghost use Rattle.std.specs.Prelude.{◌≡◌, ◌≤◌, ◌<◌, ◌^◌, ◌==◌, ◌&&◌, length, IfOk};
+ghost use Rattle.std.specs.Str.{bytes_eq};
+ghost use Rattle.vx_source.specs.Reading.{Gives};
+ghost use Rattle.vx_asm.specs.Parts.{may_have_version, may_have_class, may_have_interface, may_have_field, has_class, version_said, with_class_line, class_said, with_interface, implements_said, is_taken};
+
+use crate::class_draft::{ClassDraft, Signature, Stage};
+use std::alloc::{AllocError, Global};
+use vx_draft::{class_index, is_lawful_class, is_plain_class, pushed, put_class};
+use vx_list::Items;
+use vx_source::{ClassLine, LineFault, refused};
+use vx_value::Name;
+
+fn may_have_version(stage: Stage) -> bool
+    ensures { result ≡ may_have_version stage }
+{
+    matches!(stage, Stage::Start)
+}
+
+fn may_have_class(stage: Stage) -> bool
+    ensures { result ≡ may_have_class stage }
+{
+    matches!(stage, Stage::Start | Stage::Version)
+}
+
+fn may_have_interface(stage: Stage) -> bool
+    ensures { result ≡ may_have_interface stage }
+{
+    matches!(stage, Stage::Class)
+}
+
+pub fn may_have_field(stage: Stage) -> bool
+    ensures { result ≡ may_have_field stage }
+{
+    matches!(stage, Stage::Class | Stage::Fields)
+}
+
+/// Whether the class itself was begun.
+pub fn has_class(stage: Stage) -> bool
+    ensures { result ≡ has_class stage }
+{
+    !may_have_class(stage)
+}
+
+#[tactic(auto, unfolding(crate::specs::Parts::version_said))]
+pub fn version_line(draft: ClassDraft, major: u16) -> Result<ClassDraft, LineFault>
+    ensures { Gives result (version_said draft major) }
+{
+    if !may_have_version(draft.stage) {
+        return refused(5);
+    }
+    if !(45..=52).contains(&major) {
+        return refused(8);
+    }
+    Ok(ClassDraft {
+        stage: Stage::Version,
+        major,
+        ..draft
+    })
+}
+
+#[tactic(auto, unfolding(crate::specs::Parts::with_class_line))]
+fn with_class_line(
+    alloc: Global,
+    draft: ClassDraft,
+    line: &ClassLine,
+) -> Result<ClassDraft, AllocError>
+    ensures { IfOk result (λ d. d ≡ with_class_line draft line.now) }
+{
+    let mut pool = draft.pool.into_vec();
+    put_class(alloc, &mut pool, line.name.bytes())?;
+    put_class(alloc, &mut pool, line.super_class.bytes())?;
+    let this_class = class_index(alloc, &pool, line.name.bytes())?;
+    let super_class = class_index(alloc, &pool, line.super_class.bytes())?;
+    Ok(ClassDraft {
+        stage: Stage::Class,
+        flags: line.flags,
+        this_class,
+        super_class,
+        pool: Items::of(pool),
+        ..draft
+    })
+}
+
+#[tactic(auto, unfolding(crate::specs::Parts::class_said))]
+pub fn class_line(
+    alloc: Global,
+    draft: ClassDraft,
+    line: &ClassLine,
+) -> Result<ClassDraft, LineFault>
+    ensures { Gives result (class_said draft line.now) }
+{
+    if !may_have_class(draft.stage) {
+        return refused(5);
+    }
+    if !is_plain_class(line.name.bytes()) || !is_plain_class(line.super_class.bytes()) {
+        return refused(8);
+    }
+    Ok(with_class_line(alloc, draft, line)?)
+}
+
+#[tactic(auto, unfolding(crate::specs::Parts::with_interface))]
+fn with_interface(alloc: Global, draft: ClassDraft, name: &[u8]) -> Result<ClassDraft, AllocError>
+    ensures { IfOk result (λ d. d ≡ with_interface draft name.now) }
+{
+    let mut pool = draft.pool.into_vec();
+    put_class(alloc, &mut pool, name)?;
+    let index = class_index(alloc, &pool, name)?;
+    Ok(ClassDraft {
+        pool: Items::of(pool),
+        interfaces: pushed(draft.interfaces, index)?,
+        ..draft
+    })
+}
+
+#[tactic(auto, unfolding(crate::specs::Parts::implements_said))]
+pub fn implements_line(
+    alloc: Global,
+    draft: ClassDraft,
+    name: &[u8],
+) -> Result<ClassDraft, LineFault>
+    ensures { Gives result (implements_said draft name.now) }
+{
+    if !may_have_interface(draft.stage) {
+        return refused(5);
+    }
+    if !is_lawful_class(name) {
+        return refused(8);
+    }
+    Ok(with_interface(alloc, draft, name)?)
+}
+
+fn is_signature(signature: &Signature, name: &[u8], descriptor: &[u8]) -> bool
+    ensures { result ≡ (bytes_eq signature.now.name name.now && bytes_eq signature.now.descriptor descriptor.now) }
+{
+    signature.name.bytes() == name && signature.descriptor.bytes() == descriptor
+}
+
+/// Whether a member before has the same name and descriptor.
+pub fn is_taken(signatures: &[Signature], name: &[u8], descriptor: &[u8]) -> bool
+    ensures { result ≡ is_taken signatures.now name.now descriptor.now }
+{
+    signatures
+        .iter()
+        .any(|signature| is_signature(signature, name, descriptor))
+}
+
+pub fn signature_of(alloc: Global, name: &[u8], descriptor: &[u8]) -> Result<Signature, AllocError>
+    ensures { IfOk result (λ s. s ≡ record { name = name.now; descriptor = descriptor.now }) }
+{
+    Ok(Signature {
+        name: Name::of(alloc, name)?,
+        descriptor: Name::of(alloc, descriptor)?,
+    })
+}
