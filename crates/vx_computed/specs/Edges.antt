@@ -1,6 +1,7 @@
 -- What the rules leave open, or say in two ways, by an example for each.
 use Rattle.std.specs.Prelude.{None, Some, [], codes, ◌∷◌, ◌≡◌}
 use Rattle.vx_computed.specs.Examples.{coded, comes_to, ended, one_configuration, outcome, report, spent, uncoded}
+use Rattle.vx_computed.specs.Initialisers.{blocking_interface_j}
 use Rattle.vx_computed.specs.Mnemonics.{athrow, bipush, getstatic, iconst_0, iconst_1, iconst_2, iconst_m1, if_acmpeq, if_acmpne, imul, invokeinterface, multianewarray, nop, pop, sipush}
 use Rattle.vx_link.specs.CoreTable.{aconst_null, checkcast, dup, instanceof, invokespecial, invokestatic, invokevirtual, ireturn, new, return}
 use Rattle.vx_link.specs.Written.{WrittenClass, a_class, a_field, a_method, a_text, an_interface_method, ldc}
@@ -416,27 +417,6 @@ abbrev pub OwnText : Type 0
 OwnText =
     outcome (own_text_main ∷ []) 1000 ≡ comes_to ("1" ∷ "2" ∷ []) Return
 
-abbrev pub blocked_main_j : WrittenClass
-blocked_main_j =
-    record {
-      major = 52;
-      name = "J";
-      superclass = Some "java/lang/Object";
-      interfaces = [];
-      flags = 0x0601;
-      fields = [];
-      methods =
-          coded 0x0008 "<clinit>" "()V" 0 0
-          (return ∷ [])
-          []
-          ∷ coded 0x0001 "f" "()V" 0 1
-          (return ∷ [])
-          []
-          ∷ [];
-      references =
-          [];
-    }
-
 abbrev pub blocked_main_main : WrittenClass
 blocked_main_main =
     record {
@@ -458,7 +438,7 @@ blocked_main_main =
 -- a blocking interface of the main class: the run has ended at its start
 abbrev pub BlockedMain : Type 0
 BlockedMain =
-    report (blocked_main_j ∷ blocked_main_main ∷ []) [] one_configuration 100 2
+    report (blocking_interface_j ∷ blocked_main_main ∷ []) [] one_configuration 100 2
     ≡ record {
       version = 2;
       limit = 100;

@@ -28,26 +28,8 @@ abbrev pub NoFault : Type 0
 NoFault =
     fault (no_fault_0 ∷ []) (option "A" ∷ []) ≡ None
 
-abbrev pub twice_named_0 : WrittenClass
-twice_named_0 =
-    record {
-      major = 51;
-      name = "Main";
-      superclass = Some "java/lang/Object";
-      interfaces = [];
-      flags = 0x0021;
-      fields = [];
-      methods =
-          coded 0x0009 "main" "([Ljava/lang/String;)V" 1 1
-          (return ∷ [])
-          []
-          ∷ [];
-      references =
-          [];
-    }
-
-abbrev pub twice_named_1 : WrittenClass
-twice_named_1 =
+abbrev pub empty_main : WrittenClass
+empty_main =
     record {
       major = 51;
       name = "Main";
@@ -67,7 +49,7 @@ twice_named_1 =
 -- two files of one class
 abbrev pub TwiceNamed : Type 0
 TwiceNamed =
-    fault (twice_named_0 ∷ twice_named_1 ∷ []) [] ≡ Some (Twice (codes "Main"))
+    fault (empty_main ∷ empty_main ∷ []) [] ≡ Some (Twice (codes "Main"))
 
 abbrev pub gone_superclass_0 : WrittenClass
 gone_superclass_0 =
@@ -115,24 +97,6 @@ abbrev pub InterfaceAsSuperclass : Type 0
 InterfaceAsSuperclass =
     fault (interface_as_superclass_0 ∷ []) [] ≡ Some (NoSuper (codes "Main"))
 
-abbrev pub own_ancestors_0 : WrittenClass
-own_ancestors_0 =
-    record {
-      major = 51;
-      name = "Main";
-      superclass = Some "java/lang/Object";
-      interfaces = [];
-      flags = 0x0021;
-      fields = [];
-      methods =
-          coded 0x0009 "main" "([Ljava/lang/String;)V" 1 1
-          (return ∷ [])
-          []
-          ∷ [];
-      references =
-          [];
-    }
-
 abbrev pub own_ancestors_1 : WrittenClass
 own_ancestors_1 =
     record {
@@ -166,7 +130,7 @@ own_ancestors_2 =
 -- two classes that extend each other
 abbrev pub OwnAncestors : Type 0
 OwnAncestors =
-    fault (own_ancestors_0 ∷ own_ancestors_1 ∷ own_ancestors_2 ∷ []) [] ≡ Some (Cycle (codes "P"))
+    fault (empty_main ∷ own_ancestors_1 ∷ own_ancestors_2 ∷ []) [] ≡ Some (Cycle (codes "P"))
 
 abbrev pub final_superclass_0 : WrittenClass
 final_superclass_0 =
@@ -191,28 +155,10 @@ abbrev pub FinalSuperclass : Type 0
 FinalSuperclass =
     fault (final_superclass_0 ∷ []) [] ≡ Some (FinalSuper (codes "Main"))
 
-abbrev pub option_without_field_0 : WrittenClass
-option_without_field_0 =
-    record {
-      major = 51;
-      name = "Main";
-      superclass = Some "java/lang/Object";
-      interfaces = [];
-      flags = 0x0021;
-      fields = [];
-      methods =
-          coded 0x0009 "main" "([Ljava/lang/String;)V" 1 1
-          (return ∷ [])
-          []
-          ∷ [];
-      references =
-          [];
-    }
-
 -- an option without a field
 abbrev pub OptionWithoutField : Type 0
 OptionWithoutField =
-    fault (option_without_field_0 ∷ []) (option "A" ∷ []) ≡ Some (NoOption (codes "A"))
+    fault (empty_main ∷ []) (option "A" ∷ []) ≡ Some (NoOption (codes "A"))
 
 abbrev pub without_main_0 : WrittenClass
 without_main_0 =

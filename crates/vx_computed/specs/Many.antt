@@ -5,8 +5,8 @@ use Rattle.vx_computed.specs.Mnemonics.{aload_3, astore_3, getstatic, iadd, iand
 use Rattle.vx_link.specs.CoreTable.{abstract, aload_0, aload_2, astore_2, dup, goto, ifeq, invokespecial, invokevirtual, ireturn, new, return}
 use Rattle.vx_link.specs.Written.{WrittenClass, a_class, a_field, a_method, an_interface_method}
 
-abbrev pub workload_of_three_keep : WrittenClass
-workload_of_three_keep =
+abbrev pub workload_keep : WrittenClass
+workload_keep =
     record {
       major = 51;
       name = "Keep";
@@ -59,8 +59,8 @@ workload_of_three_main =
           ∷ [];
     }
 
-abbrev pub workload_of_three_step : WrittenClass
-workload_of_three_step =
+abbrev pub workload_step : WrittenClass
+workload_step =
     record {
       major = 51;
       name = "Step";
@@ -75,8 +75,8 @@ workload_of_three_step =
           [];
     }
 
-abbrev pub workload_of_three_turn : WrittenClass
-workload_of_three_turn =
+abbrev pub workload_turn : WrittenClass
+workload_turn =
     record {
       major = 51;
       name = "Turn";
@@ -100,29 +100,7 @@ workload_of_three_turn =
 -- 3 options, with a call by the class of the receiver for each
 abbrev pub WorkloadOfThree : Type 0
 WorkloadOfThree =
-    (report (workload_of_three_keep ∷ workload_of_three_main ∷ workload_of_three_step ∷ workload_of_three_turn ∷ []) (option "O0" ∷ option "O1" ∷ option "O2" ∷ []) (all_configurations 3) 1000000 1).rounds ≡ 71
-
-abbrev pub workload_of_six_keep : WrittenClass
-workload_of_six_keep =
-    record {
-      major = 51;
-      name = "Keep";
-      superclass = Some "java/lang/Object";
-      interfaces = "Step" ∷ [];
-      flags = 0x0021;
-      fields = [];
-      methods =
-          coded 0x0001 "<init>" "()V" 1 1
-          (aload_0 ∷ invokespecial 0 ∷ return ∷ [])
-          []
-          ∷ coded 0x0001 "f" "(II)I" 2 3
-          (iload_1 ∷ ireturn ∷ [])
-          []
-          ∷ [];
-      references =
-          a_method "java/lang/Object" "<init>" "()V"
-          ∷ [];
-    }
+    (report (workload_keep ∷ workload_of_three_main ∷ workload_step ∷ workload_turn ∷ []) (option "O0" ∷ option "O1" ∷ option "O2" ∷ []) (all_configurations 3) 1000000 1).rounds ≡ 71
 
 abbrev pub workload_of_six_main : WrittenClass
 workload_of_six_main =
@@ -162,45 +140,7 @@ workload_of_six_main =
           ∷ [];
     }
 
-abbrev pub workload_of_six_step : WrittenClass
-workload_of_six_step =
-    record {
-      major = 51;
-      name = "Step";
-      superclass = Some "java/lang/Object";
-      interfaces = [];
-      flags = 0x0601;
-      fields = [];
-      methods =
-          abstract "f" "(II)I"
-          ∷ [];
-      references =
-          [];
-    }
-
-abbrev pub workload_of_six_turn : WrittenClass
-workload_of_six_turn =
-    record {
-      major = 51;
-      name = "Turn";
-      superclass = Some "java/lang/Object";
-      interfaces = "Step" ∷ [];
-      flags = 0x0021;
-      fields = [];
-      methods =
-          coded 0x0001 "<init>" "()V" 1 1
-          (aload_0 ∷ invokespecial 0 ∷ return ∷ [])
-          []
-          ∷ coded 0x0001 "f" "(II)I" 2 3
-          (iload_1 ∷ iload_2 ∷ iadd ∷ iconst_3 ∷ iand ∷ ireturn ∷ [])
-          []
-          ∷ [];
-      references =
-          a_method "java/lang/Object" "<init>" "()V"
-          ∷ [];
-    }
-
 -- 6 options, with a call by the class of the receiver for each
 abbrev pub WorkloadOfSix : Type 0
 WorkloadOfSix =
-    (report (workload_of_six_keep ∷ workload_of_six_main ∷ workload_of_six_step ∷ workload_of_six_turn ∷ []) (option "O0" ∷ option "O1" ∷ option "O2" ∷ option "O3" ∷ option "O4" ∷ option "O5" ∷ []) (all_configurations 6) 1000000 1).rounds ≡ 122
+    (report (workload_keep ∷ workload_of_six_main ∷ workload_step ∷ workload_turn ∷ []) (option "O0" ∷ option "O1" ∷ option "O2" ∷ option "O3" ∷ option "O4" ∷ option "O5" ∷ []) (all_configurations 6) 1000000 1).rounds ≡ 122

@@ -146,33 +146,6 @@ InterfaceCall =
       attempts = [];
     }
 
-abbrev pub default_method_main : WrittenClass
-default_method_main =
-    record {
-      major = 51;
-      name = "Main";
-      superclass = Some "java/lang/Object";
-      interfaces = [];
-      flags = 0x0021;
-      fields = record { name = "A"; descriptor = "Z"; flags = 0x0009 } ∷ [];
-      methods =
-          coded 0x0009 "main" "([Ljava/lang/String;)V" 6 8
-          (getstatic 0 ∷ ifeq 14 ∷ new 1 ∷ dup ∷ invokespecial 2 ∷ astore_1 ∷ goto 11 ∷ new 3 ∷ dup ∷ invokespecial 4
-          ∷ astore_1 ∷ getstatic 5 ∷ aload_1 ∷ invokeinterface 6 1 ∷ invokevirtual 7 ∷ return ∷ [])
-          []
-          ∷ [];
-      references =
-          a_field "Main" "A" "Z"
-          ∷ a_class "S1"
-          ∷ a_method "S1" "<init>" "()V"
-          ∷ a_class "S2"
-          ∷ a_method "S2" "<init>" "()V"
-          ∷ a_field "java/lang/System" "out" "Ljava/io/PrintStream;"
-          ∷ an_interface_method "S" "f" "()I"
-          ∷ a_method "java/io/PrintStream" "println" "(I)V"
-          ∷ [];
-    }
-
 abbrev pub default_method_s : WrittenClass
 default_method_s =
     record {
@@ -235,7 +208,7 @@ default_method_s2 =
 -- a default method of an interface
 abbrev pub DefaultMethod : Type 0
 DefaultMethod =
-    report (default_method_main ∷ default_method_s ∷ default_method_s1 ∷ default_method_s2 ∷ []) (option "A" ∷ []) both 100 1
+    report (interface_call_main ∷ default_method_s ∷ default_method_s1 ∷ default_method_s2 ∷ []) (option "A" ∷ []) both 100 1
     ≡ record {
       version = 1;
       limit = 100;

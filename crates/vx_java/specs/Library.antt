@@ -1,13 +1,13 @@
 -- The native methods of System, Number, Integer, Boolean, Math, Enum and Throwable (the class library of Java SE 7; what it leaves open is own).
 use Rattle.std.specs.Fmt.{signed_decimal}
 use Rattle.std.specs.Int.{int_wrapping_sub, w32, w64}
-use Rattle.std.specs.Prelude.{Bool, List, None, Option, Some, [], drop, false, if◌then◌else◌, int_le, int_lt, length, map, nat_le, neg_ℤ, negsuc, not, option_map, pos, take, take_while, true, ℕ, ℤ, ◌&&◌, ◌*◌, ◌++◌, ◌+◌, ◌-◌, ◌==◌, ◌||◌, ◌∷◌}
+use Rattle.std.specs.Prelude.{Bool, List, None, Option, Some, [], drop, false, if◌then◌else◌, int_le, length, map, nat_le, neg_ℤ, negsuc, not, option_map, pos, take, take_while, true, ℕ, ℤ, ◌&&◌, ◌*◌, ◌++◌, ◌+◌, ◌-◌, ◌==◌, ◌||◌, ◌∷◌}
 use Rattle.vx_java.specs.FirstObjects.{core_object, first_boolean, first_integer, units_of}
 use Rattle.vx_java.specs.Machine.{Ended, Here, Int, Long, Null, Object, Outcome, Ref, Value, cell_at, fit, go, illegal, in_state, object_at, push_new, raise, when, with_cell, with_cells}
 use Rattle.vx_java.specs.Texts.{NativeMethod, answer, answer_bool, answer_int, answer_text, bool_text, null_pointer, text_of_object}
 use Rattle.vx_link.specs.Assignability.{assignable}
 use Rattle.vx_link.specs.ClassNames.{class_text, component_of, has_reference_components, is_array}
-use Rattle.vx_value.specs.Arithmetic.{natural, negation, negative, same_int}
+use Rattle.vx_value.specs.Arithmetic.{compare_long_of, natural, negation, negative, same_int}
 use Rattle.vx_value.specs.declared.end.End.TheVariants.{Exit}
 
 -- ---- System
@@ -112,12 +112,8 @@ abbrev pub integer_to_string_of : NativeMethod
 integer_to_string_of h (Int n ∷ []) rest = answer_text h rest (signed_decimal n)
 integer_to_string_of h _ rest = illegal h
 
--- -1, 0 or 1
-abbrev pub int_order : ℤ → ℤ → ℤ
-int_order a b = if int_lt a b then negsuc 0 else if int_lt b a then pos 1 else pos 0
-
 abbrev pub integer_compare : NativeMethod
-integer_compare h (Int a ∷ Int b ∷ []) rest = answer_int h rest (int_order a b)
+integer_compare h (Int a ∷ Int b ∷ []) rest = answer_int h rest (compare_long_of a b)
 integer_compare h _ rest = illegal h
 
 abbrev pub integer_int_value : NativeMethod
@@ -142,7 +138,7 @@ same_number h _ rest = illegal h
 
 -- compareTo of Integer, and of Boolean, as FALSE is 0 and TRUE 1
 abbrev pub compare_numbers : NativeMethod
-compare_numbers h (Ref r ∷ Ref s ∷ []) rest = answer_int h rest (int_order (number_of_object h r) (number_of_object h s))
+compare_numbers h (Ref r ∷ Ref s ∷ []) rest = answer_int h rest (compare_long_of (number_of_object h r) (number_of_object h s))
 compare_numbers h (Ref r ∷ Null ∷ []) rest = null_pointer h
 compare_numbers h _ rest = illegal h
 

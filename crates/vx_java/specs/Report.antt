@@ -5,6 +5,7 @@ use Rattle.std.specs.Prelude.{Bool, List, None, Option, Some, [], cond, false, f
 use Rattle.vx_java.specs.Lockstep.{ConfigRun, Lockstep, Piece, Shared, groups_of, lockstep}
 use Rattle.vx_java.specs.Step.{Config, RunResult, result, run, same_config}
 use Rattle.vx_link.specs.declared.program.Program.{Program}
+use Rattle.vx_report.specs.Projection.{Projection}
 use Rattle.vx_value.specs.Ends.{compare_ends}
 use Rattle.vx_value.specs.declared.end.End.{End}
 use Rattle.vx_value.specs.declared.end.Stream.{Stream}
@@ -53,12 +54,6 @@ bytes_of piece = map (λ b. (piece.0, b)) piece.1
 abbrev pub first_of : {A : Type 0} → List A → Option A
 first_of [] = None
 first_of (x ∷ xs) = Some x
-
--- what a report says of a configuration: its output, its end and, where the report says it, its number of attempts
-pub record Projection : Type 0 where
-  pub output : List (Stream × ℕ)
-  pub end : End
-  pub attempts : Option ℕ
 
 abbrev pub projection : List (Stream × ℕ) → Option End → Option ℕ → Option Projection
 projection output None attempts = None
