@@ -11,13 +11,12 @@ use Rattle.vx_class.specs.Class.{class_of}
 use Rattle.vx_model.specs.declared.model.Model.{Model}
 use Rattle.vx_model.specs.Models.{is_allowed}
 use Rattle.vx_model.specs.Text.{BadLine}
-use Rattle.vx_model.specs.Text as text
 use Rattle.vx_straight.specs.declared.program.Program.{Program}
 use Rattle.vx_cli.specs.declared.status.Status.{Status}
 use Rattle.vx_cli.specs.declared.status.Status.TheVariants.{Done, NoMemory, ReadFault, WriteFault, BadModel, NoConfiguration, BadClass, TooLarge, NotYet}
 use Rattle.vx_cli.specs.Causes.{HasClasses, IsReached, IsModelOf, IsGoodModel, IsNotTaken, AreAll, class_bytes, AreClasses, RunCause, Shows, IsShown, IsGood, NothingFails}
 use Rattle.vx_cli.specs.Command.{Run}
-use Rattle.vx_cli.specs.Job.{is_class_path, is_dimacs_path, or_not_yet, with_one_option, model_of, program_in, Report}
+use Rattle.vx_cli.specs.Job.{is_class_path, or_not_yet, with_one_option, spelled_model, model_of, program_in, Report}
 use Rattle.vx_cli.specs.Plan.{Plan, MayGive, Write, If_allowed, AllowsSome, AllowsNone, attempt}
 use Rattle.vx_cli.specs.Run.{read_classes, read_model, read_folder, run_classes, run_plan, class_in, or_bad_class, most_classes, place_of, class_paths}
 use Rattle.vx_cli.specs.Sized.{most_bytes, too_large}
@@ -149,11 +148,7 @@ one_option_refused path (Ok model) status e = by_test (leb (length model.options
     by_test false k = inl cc
 
 model_refused : (path bytes : List ℕ) (status : Status) → model_of path bytes ≡ Err status → (status ≡ NotYet path) ⊎ ((line : ℕ) × (reason : ℕ) × (status ≡ BadModel line reason))
-model_refused path bytes status e = by_test (is_dimacs_path path) e
-  where
-    by_test : (b : Bool) → cond b (Err (NotYet path)) (with_one_option path (text.model_of bytes)) ≡ Err status → (status ≡ NotYet path) ⊎ ((line : ℕ) × (reason : ℕ) × (status ≡ BadModel line reason))
-    by_test true k = inl cc
-    by_test false k = one_option_refused path (text.model_of bytes) status k
+model_refused path bytes status e = one_option_refused path (spelled_model path bytes) status e
 
 abbrev ModelShows : FilesState → FilesState → List ℕ → List ℕ → List ℕ → (Model → Plan) → Result (List ℕ) Status → Type 0
 ModelShows old new folder path main next outcome =

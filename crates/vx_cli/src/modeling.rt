@@ -5,7 +5,8 @@ ghost use Rattle.vx_model.specs.Models.{IsModel, is_allowed};
 ghost use Rattle.vx_model.specs.declared.model.Model.{Model};
 ghost use Rattle.vx_space.specs.Config.{value_of};
 ghost use Rattle.vx_straight.specs.Reported.{allows};
-ghost use Rattle.vx_cli.specs.Job.{model_of};
+ghost use Rattle.vx_cli.specs.Job.{model_of, spelled_model};
+ghost use Rattle.vx_model.specs.Answers.{Answers};
 ghost use Rattle.vx_cli.specs.KeepsFiles.{KeepsFiles};
 ghost use Rattle.vx_cli.specs.Plan.{Plan, Leads, MayStop, AllowsNone};
 ghost use Rattle.vx_cli.specs.Run.{read_model};
@@ -14,6 +15,7 @@ use crate::job::{is_dimacs, not_yet};
 use crate::reading::{MOST_BYTES, read_file};
 use crate::status::Status;
 use std::alloc::Global;
+use vx_dimacs::read_dimacs;
 use vx_io::Files;
 use vx_model::{Model, ModelFault, allowed, read_model};
 use vx_space::{Config, MaskSpace, Space};
@@ -26,18 +28,27 @@ pub struct Modeled {
     pub allowed: Allowed,
 }
 
-/// The model of a file of this path, or the refusal of its first bad line. A model of more than one option, and one in
-/// DIMACS form, isn't taken yet and is refused by its path.
+/// The model that the bytes of a file of this path spell, in DIMACS form where the path says so.
+fn spelled_model(alloc: Global, path: &str, text: &[u8]) -> Result<Model, ModelFault>
+    ensures exact { Answers result (spelled_model path.now text.now) }
+    ensures lawful { IfOk result IsModel }
+{
+    if is_dimacs(path) {
+        read_dimacs(alloc, text)
+    } else {
+        read_model(alloc, text)
+    }
+}
+
+/// The model of a file of this path, or the refusal of its first bad line. A model of more than one option isn't taken yet
+/// and is refused by its path.
 fn model_of(alloc: Global, path: &str, text: &[u8]) -> Result<Model, Status>
     ensures exact { MatchResult result (λ model. model_of path.now text.now ≡ Ok model)
         (λ status. (status ≡ Status.NoMemory) ⊎ (model_of path.now text.now ≡ Err status)) }
     ensures lawful { IfOk result IsModel }
     ensures few { IfOk result (λ model. length model.options ≤ 1) }
 {
-    if is_dimacs(path) {
-        return Err(not_yet(alloc, path)?);
-    }
-    let model = match read_model(alloc, text) {
+    let model = match spelled_model(alloc, path, text) {
         Ok(model) => model,
         Err(ModelFault::NoMemory) => return Err(Status::NoMemory),
         Err(ModelFault::Line { line, reason }) => return Err(Status::BadModel { line, reason }),

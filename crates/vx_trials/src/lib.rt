@@ -24,7 +24,11 @@ mod tests {
     const REPORT: &[u8] =
         b"varexj report 1\noptions 1\noption A\nlimit 100\nrounds 4\nnode 2 0 1 0\nnode 3 0 0 1\nout 2 0\\0a\nout 3 1\\0a\nend 1 return\ndone\n";
 
-    const FILES: [(&str, &[u8]); 24] = [
+    /// The class `Main`, public, below `java/lang/Object` and empty.
+    const SMALLEST_CLASS: &[u8] =
+        b"\xca\xfe\xba\xbe\x00\x00\x003\x00\x05\x07\x00\x02\x01\x00\x04Main\x07\x00\x04\x01\x00\x10java/lang/Object\x00!\x00\x01\x00\x03\x00\x00\x00\x00\x00\x00\x00\x00";
+
+    const FILES: [(&str, &[u8]); 25] = [
         ("m", b"option A Main A\n"),
         ("e", b""),
         ("r", b"option A Main A\nrule true\n"),
@@ -41,8 +45,9 @@ mod tests {
             "part",
             b"varexj report 1\noptions 1\noption A\nlimit 100\nrounds 4\nnode 2 0 0 1\nout 2 1\\0a\nend 2 return\ndone\n",
         ),
-        ("empty", b""),
+        ("word", b"klass 0021 Main java/lang/Object\n"),
         ("e.cnf", b""),
+        ("a.cnf", b"c 1 A Main A\np cnf 1 1\n1 0\n"),
         ("a/Main.class", PRINTS_OPTION),
         ("n/Main.class", PRINTS_NUMBER),
         ("n/readme", b"no class"),
@@ -58,7 +63,7 @@ mod tests {
     ];
 
     /// Words, and what has to come: the code, `out`, and `err`.
-    const CASES: [(&str, u8, &str, &str); 31] = [
+    const CASES: [(&str, u8, &str, &str); 34] = [
         (
             "run a m Main 100 1",
             0,
@@ -127,7 +132,18 @@ mod tests {
         ("run a none Main 100 1", 6, "", "no configuration\n"),
         ("run a bad Main 100 1", 5, "", "bad model line 2 reason 4\n"),
         ("run a two Main 100 1", 20, "", "not yet two\n"),
-        ("run n e.cnf Main 100 1", 20, "", "not yet e.cnf\n"),
+        (
+            "run n e.cnf Main 100 1",
+            5,
+            "",
+            "bad model line 1 reason 7\n",
+        ),
+        (
+            "run a a.cnf Main 100 1",
+            0,
+            "varexj report 1\noptions 1\noption A\nlimit 100\nrounds 4\nnode 2 0 0 1\nout 2 1\\0a\nend 2 return\ndone\n",
+            "",
+        ),
         ("run n m Main 100 1", 20, "", "not yet Main.class\n"),
         ("run n e Other 100 1", 20, "", "not yet Main.class\n"),
         ("run f e Main 100 1", 20, "", "not yet f\n"),
@@ -140,6 +156,8 @@ mod tests {
         ("project part -", 11, "", "not allowed\n"),
         ("project cut -", 10, "", "bad report line 6\n"),
         ("project report", 2, "", "usage\n"),
+        ("asm word", 12, "", "bad source line 1 reason 1\n"),
+        ("asm", 2, "", "usage\n"),
     ];
 
     /// Words, the calls of the files, of `out` and of `err` that fail, and what has to come.
@@ -229,6 +247,22 @@ mod tests {
             assert!(rt; out.written() == written.as_bytes(), "{line}");
             assert!(rt; err.written() == line.as_bytes(), "{line}");
         }
+        Ok(())
+    }
+
+    #[test]
+    fn the_smallest_class(rt: HostRuntime) -> Result<(), Fail> {
+        let alloc = rt.alloc();
+        let source = Vec::from_slice(alloc, b"class 0021 Main java/lang/Object\n")?;
+        let held = vec![in alloc; (String::from_str(alloc, "s")?, source)]?;
+        assert!(rt; are_distinct(held.as_slice()));
+        let mut files = SteadyFiles::new(alloc, held)?;
+        let mut out = SteadySink::new(alloc)?;
+        let mut err = SteadySink::new(alloc)?;
+        let words = words(alloc, "asm s")?;
+        let status = varex(alloc, &words, &mut files, &mut out, &mut err);
+        assert_eq!(rt; status.code(), 0);
+        assert!(rt; out.written() == SMALLEST_CLASS);
         Ok(())
     }
 
