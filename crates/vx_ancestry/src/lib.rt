@@ -6,3 +6,6 @@ mod ranks;
 
 pub use below::is_own_ancestor;
 pub use ranks::is_ordered;
+
+#[cfg(test)]
+mod tests;

@@ -72,3 +72,6 @@ impl NameTable {
         self.names.get_index_of(name)
     }
 }
+
+#[cfg(test)]
+mod tests;
