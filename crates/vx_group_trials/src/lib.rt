@@ -1,0 +1,7 @@
+//! Groups on small examples, over the space of masks and the space of diagrams.
+#![tactic(auto)]
+
+#[cfg(test)]
+mod groups;
+#[cfg(test)]
+mod tests;
