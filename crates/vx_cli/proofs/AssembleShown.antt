@@ -1,8 +1,7 @@
 -- What the plan of `asm` gave shows in terms of the files.
-use Rattle.std.proofs.Common.{◌≡◌, ◌≤◌, ◌<◌, ℕ, List, length, IfSome, Option, None, Some, Result, Ok, Err, inl, inr, ◌⊎◌, refl, ap, sym, ◌∙◌, arith}
+use Rattle.std.proofs.Common.{◌≡◌, ◌≤◌, ◌<◌, ℕ, List, length, IfSome, Some, Result, Ok, Err, inl, inr, ◌⊎◌, refl, ap, sym, ◌∙◌, arith}
 use Rattle.vx_asm.specs.Source.{Fault, named}
 use Rattle.vx_class.specs.declared.class_file.ClassFile.{ClassFile}
-use Rattle.vx_io.specs.Call.{Reading}
 use Rattle.vx_io.specs.Held.{Held, FilesState, contents}
 use Rattle.vx_io.specs.Sink.{SinkState}
 use Rattle.vx_cli.specs.declared.status.Status.{Status}
@@ -11,7 +10,7 @@ use Rattle.vx_cli.specs.Assemble.{or_bad_source, assembled, asm_plan}
 use Rattle.vx_cli.specs.Causes.{AsmCause, Shows, IsShown, IsGood, NothingFails}
 use Rattle.vx_cli.specs.Command.{Asm}
 use Rattle.vx_cli.specs.Job.{Exactly}
-use Rattle.vx_cli.specs.Plan.{Plan, MayGive, Write, attempt}
+use Rattle.vx_cli.specs.Plan.{MayGive, Write, attempt}
 use Rattle.vx_cli.specs.Sized.{most_bytes}
 use Rattle.vx_cli.proofs.Told.{told_map, IsText, SizedShows, sized_shows, attempt_cases, ok_and_err}
 

@@ -1,5 +1,5 @@
 -- What the plan of `run` gave shows in terms of the files.
-use Rattle.std.proofs.Common.{◌≡◌, ◌≤◌, ◌<◌, ℕ, Bool, true, false, List, [], ◌∷◌, ◌++◌, length, filter, cond, IfSome, Option, None, Some, Result, Ok, Err, inl, inr, ◌⊎◌, refl, ap, sym, ◌∙◌, arith, append-nil, append_assoc, leb}
+use Rattle.std.proofs.Common.{◌≡◌, ◌≤◌, ◌<◌, ℕ, Bool, true, false, List, [], ◌∷◌, ◌++◌, length, filter, cond, IfSome, Option, None, Some, Result, Ok, Err, inl, inr, ◌⊎◌, refl, ap, sym, ◌∙◌, arith, append-nil, append_assoc, leb, option_map}
 use Rattle.std.specs.Prelude.{IsTrue}
 use Rattle.std.specs.List.{AllByRecursion}
 use Rattle.vx_io.specs.Call.{Reading}
@@ -11,12 +11,15 @@ use Rattle.vx_class.specs.Class.{class_of}
 use Rattle.vx_model.specs.declared.model.Model.{Model}
 use Rattle.vx_model.specs.Models.{is_allowed}
 use Rattle.vx_model.specs.Text.{BadLine}
+use Rattle.vx_link.specs.CoreFiles.{core_files}
+use Rattle.vx_link.specs.Faults.{link_fault}
+use Rattle.vx_link.specs.declared.fault.LinkFault.{LinkFault}
 use Rattle.vx_straight.specs.declared.program.Program.{Program}
 use Rattle.vx_cli.specs.declared.status.Status.{Status}
-use Rattle.vx_cli.specs.declared.status.Status.TheVariants.{Done, NoMemory, ReadFault, WriteFault, BadModel, NoConfiguration, BadClass, TooLarge, NotYet}
-use Rattle.vx_cli.specs.Causes.{HasClasses, IsReached, IsModelOf, IsGoodModel, IsNotTaken, AreAll, class_bytes, AreClasses, RunCause, Shows, IsShown, IsGood, NothingFails}
+use Rattle.vx_cli.specs.declared.status.Status.TheVariants.{Done, NoMemory, ReadFault, WriteFault, BadModel, NoConfiguration, BadClass, BadLink, TooLarge, NotYet}
+use Rattle.vx_cli.specs.Causes.{HasClasses, IsReached, IsModelOf, IsGoodModel, IsNotTaken, IsNotLinked, AreAll, class_bytes, AreClasses, RunCause, Shows, IsShown, IsGood, NothingFails}
 use Rattle.vx_cli.specs.Command.{Run}
-use Rattle.vx_cli.specs.Job.{is_class_path, or_not_yet, with_one_option, spelled_model, model_of, program_in, Report}
+use Rattle.vx_cli.specs.Job.{is_class_path, or_not_yet, with_one_option, spelled_model, model_of, slashed, taken_in, bad_link, unless_refused, program_in, Report}
 use Rattle.vx_cli.specs.Plan.{Plan, MayGive, Write, If_allowed, AllowsSome, AllowsNone, attempt}
 use Rattle.vx_cli.specs.Run.{read_classes, read_model, read_folder, run_classes, run_plan, class_in, or_bad_class, most_classes, place_of, class_paths}
 use Rattle.vx_cli.specs.Sized.{most_bytes, too_large}
@@ -188,12 +191,29 @@ model_shows old new folder path main next outcome g = by_file (sized_shows old n
 -- ---- the whole run
 
 -- a folder is refused as not built by its own path, or by that of its class file
-not_yet_program : (folder main : List ℕ) (model : Model) (paths : List (List ℕ)) (classes : List ClassFile) (status : Status) → program_in folder main model paths classes ≡ Err status → (path : List ℕ) × (status ≡ NotYet path)
+not_yet_program : (folder main : List ℕ) (model : Model) (paths : List (List ℕ)) (classes : List ClassFile) (status : Status) → taken_in folder main model paths classes ≡ Err status → (path : List ℕ) × (status ≡ NotYet path)
 not_yet_program folder main model (path ∷ []) (class ∷ []) status e = (path, not_yet_alone path _ status e)
 not_yet_program folder main model [] classes status e = (folder, cc)
 not_yet_program folder main model (path ∷ other ∷ paths) classes status e = (folder, cc)
 not_yet_program folder main model (path ∷ []) [] status e = (folder, cc)
 not_yet_program folder main model (path ∷ []) (class ∷ other ∷ classes) status e = (folder, cc)
+
+-- class files are refused by their first fault, or as not built
+refused_program : (folder main : List ℕ) (model : Model) (paths : List (List ℕ)) (classes : List ClassFile) (status : Status) → program_in folder main model paths classes ≡ Err status
+    → ((path : List ℕ) × (status ≡ NotYet path)) ⊎ ((fault : LinkFault) × (status ≡ BadLink fault) × (link_fault classes core_files model.options (slashed main) ≡ Some fault))
+unfolding bad_link
+refused_program folder main model paths classes status e = by_fault (link_fault classes core_files model.options (slashed main)) e
+  where
+    by_fault : (found : Option LinkFault) → unless_refused (option_map BadLink found) (taken_in folder (slashed main) model paths classes) ≡ Err status
+        → ((path : List ℕ) × (status ≡ NotYet path)) ⊎ ((fault : LinkFault) × (status ≡ BadLink fault) × (found ≡ Some fault))
+    by_fault None k = inl (not_yet_program folder (slashed main) model paths classes status k)
+    by_fault (Some fault) k = inr (fault, cc, refl)
+
+-- class files with a fault are refused
+faulty_program : (folder main : List ℕ) (model : Model) (paths : List (List ℕ)) (classes : List ClassFile) (fault : LinkFault) → link_fault classes core_files model.options (slashed main) ≡ Some fault
+    → program_in folder main model paths classes ≡ Err (BadLink fault)
+unfolding bad_link
+faulty_program folder main model paths classes fault e = ap (λ found. unless_refused (option_map BadLink found) (taken_in folder (slashed main) model paths classes)) e
 
 -- whatever the plan of `run` gave is shown by the files
 pub run_shows : (old new : FilesState) (folder path main : List ℕ) (limit version : ℕ) (outcome : Result (List ℕ) Status) → MayGive old.held old.faults new.faults (run_plan folder path main limit version) outcome → Shows old new (Run folder path main limit version) outcome
@@ -202,12 +222,19 @@ run_shows old new folder path main limit version outcome g = by_model (model_sho
     refused : (status : Status) → outcome ≡ Err status → RunCause old new folder path main status → Shows old new (Run folder path main limit version) outcome
     refused status e cause = rw e cause
 
+    by_refusal : (model : Model) (paths : List (List ℕ)) (classes : List ClassFile) → IfSome old.held (λ held. IsGoodModel held path model) → IfSome old.held (λ held. AreAll held folder paths classes)
+        → (status : Status) → program_in folder main model paths classes ≡ Err status → outcome ≡ Err status
+        → ((p : List ℕ) × (status ≡ NotYet p)) ⊎ ((fault : LinkFault) × (status ≡ BadLink fault) × (link_fault classes core_files model.options (slashed main) ≡ Some fault))
+        → Shows old new (Run folder path main limit version) outcome
+    by_refusal model paths classes modeled all status e is (inl n) =
+        refused (NotYet n.0) (is ∙ ap Err n.1) (inr (told_both old.held _ _ _ (λ held m h. record { model = model; modeled = m; paths = paths; classes = classes; all = h; not_taken = e ∙ ap Err n.1 }) modeled all))
+    by_refusal model paths classes modeled all status e is (inr n) =
+        refused (BadLink n.0) (is ∙ ap Err n.1) (told_both old.held _ _ _ (λ held m h. record { model = model; modeled = m; paths = paths; classes = classes; all = h; faulty = n.2 }) modeled all)
+
     by_program : (model : Model) (paths : List (List ℕ)) (classes : List ClassFile) → IfSome old.held (λ held. IsGoodModel held path model) → IfSome old.held (λ held. AreAll held folder paths classes)
         → ((status : Status) × (program_in folder main model paths classes ≡ Err status) × (outcome ≡ Err status)) ⊎ ((program : Program) × (program_in folder main model paths classes ≡ Ok program) × MayGive old.held old.faults new.faults (Write (Report version model limit program)) outcome)
         → Shows old new (Run folder path main limit version) outcome
-    by_program model paths classes modeled all (inl bad) =
-        let n = not_yet_program folder main model paths classes bad.0 bad.1 in
-        refused (NotYet n.0) (bad.2 ∙ ap Err n.1) (inr (told_both old.held _ _ _ (λ held m h. record { model = model; modeled = m; paths = paths; classes = classes; all = h; not_taken = bad.1 ∙ ap Err n.1 }) modeled all))
+    by_program model paths classes modeled all (inl bad) = by_refusal model paths classes modeled all bad.0 bad.1 bad.2 (refused_program folder main model paths classes bad.0 bad.1)
     by_program model paths classes modeled all (inr good) =
         rw good.2.2 (told_both old.held _ _ _ (λ held m h. record {
           model = model;
@@ -264,6 +291,13 @@ run_completes old new out out' folder model main limit version held status told 
         let classes : h.classes ≡ n.0 = same_classes held folder h.paths h.classes n.0 h.all.good n.1.good in
         ok_and_err n.2.0 (NotYet path) (program_in folder main h.model h.paths h.classes) (rw (m, classes) n.2.1) h.not_taken
 
+    not_linked : (fault : LinkFault) → IsNotLinked held folder model main fault → ⊥
+    not_linked fault h =
+        let n = good.2 h.paths h.all.listed in
+        let m : h.model ≡ good.0 = same_value h.model good.0 _ h.modeled.spelled.reads good.1.spelled.reads in
+        let classes : h.classes ≡ n.0 = same_classes held folder h.paths h.classes n.0 h.all.good n.1.good in
+        ok_and_err n.2.0 (BadLink fault) (program_in folder main h.model h.paths h.classes) (rw (m, classes) n.2.1) (faulty_program folder main h.model h.paths h.classes fault h.faulty)
+
     bad_model : (s : Status) → IfSome old.held (λ held. (length (contents held model) ≤ most_bytes) × (model_of model (contents held model) ≡ Err s)) → ⊥
     bad_model s h = ok_and_err good.0 s _ good.1.spelled.reads (here (λ held. (length (contents held model) ≤ most_bytes) × (model_of model (contents held model) ≡ Err s)) h).1
 
@@ -286,6 +320,7 @@ run_completes old new out out' folder model main limit version held status told 
         let k = here (λ held. IsReached held folder path × (class_of (class_bytes held folder path) ≡ Err (record { at = at; reason = reason }))) h.0 in
         let r = is_reached path k.0 in
         absurd (ok_and_err r.1.0 (record { at = at; reason = reason }) _ r.1.1 k.1)
+    by_status (BadLink fault) h = absurd (not_linked fault (here (λ held. IsNotLinked held folder model main fault) h.0))
     by_status (TooLarge path room) h = absurd (elim h.0 [
       | inl m ↦ (let k = here (λ held. most_bytes < length (contents held model)) m.2 in omega (arith, k, good.1.spelled.fits))
       | inr n ↦ elim n [

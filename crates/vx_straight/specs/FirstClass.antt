@@ -19,7 +19,6 @@ use Rattle.vx_straight.specs.declared.program.Located.{Located}
 use Rattle.vx_straight.specs.declared.program.Program.{Program}
 use Rattle.vx_straight.specs.declared.step.Step.{Step}
 use Rattle.vx_straight.specs.declared.step.Step.TheVariants.{Nop, Push, PushOut, PushOption, Pop, PrintLine, Return}
-use Rattle.vx_straight.specs.CoreNames.{is_core_name}
 
 -- ---- what the pool names
 
@@ -106,10 +105,10 @@ steps_of class main option code = steps_from class main option code (suc (length
 
 -- ---- the class
 
--- the class has this name, which no core class has, and directly extends Object; it implements nothing
+-- the class has this name and directly extends Object; it implements nothing
 abbrev pub is_named : ClassFile → List ℕ → Bool
 is_named class main =
-    is_given main (class_text class.pool class.this_class) && not (is_core_name main)
+    is_given main (class_text class.pool class.this_class)
     && is_given (codes "java/lang/Object") (class_text class.pool class.super_class) && length class.interfaces == 0
 
 -- a static field of type Z without a constant; a field of an interface is static

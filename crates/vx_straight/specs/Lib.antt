@@ -1,5 +1,4 @@
 pub mod Machine
 pub mod Shared
-pub mod CoreNames
 pub mod FirstClass
 pub mod Reported

@@ -5,7 +5,7 @@ ghost use Rattle.std.specs.List.{list_all};
 ghost use Rattle.std.specs.Option.{option_copied};
 ghost use Rattle.vx_straight.specs.FirstClass.{is_named, is_flag, is_main, uncaught, main_code, has_option, program_of, program_with};
 
-use crate::names::{is_core_name, is_given};
+use crate::names::is_given;
 use crate::program::Program;
 use crate::walk::{has_field, steps_of};
 use std::alloc::{AllocError, Global};
@@ -19,12 +19,11 @@ const PUBLIC: u16 = 0x0001;
 /// The most bytes that the code of a method has (JVMS 4.7.3).
 const MOST_CODE: usize = 65_535;
 
-/// Whether the class has this name, which no core class has, directly extends `java/lang/Object`, and implements nothing.
+/// Whether the class has this name, directly extends `java/lang/Object`, and implements nothing.
 fn is_named(class: &ClassFile, main: &[u8]) -> bool
     ensures { result ≡ is_named class.now main.now }
 {
     is_given(main, class_text(&class.pool, class.this_class))
-        && !is_core_name(main)
         && is_given(
             b"java/lang/Object",
             class_text(&class.pool, class.super_class),

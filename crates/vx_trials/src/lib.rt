@@ -28,7 +28,31 @@ mod tests {
     const SMALLEST_CLASS: &[u8] =
         b"\xca\xfe\xba\xbe\x00\x00\x003\x00\x05\x07\x00\x02\x01\x00\x04Main\x07\x00\x04\x01\x00\x10java/lang/Object\x00!\x00\x01\x00\x03\x00\x00\x00\x00\x00\x00\x00\x00";
 
-    const FILES: [(&str, &[u8]); 25] = [
+    /// `main` stores the number 0 in a local variable.
+    const STORES_NUMBER: &[u8] =
+        b"\xca\xfe\xba\xbe\x00\x00\x003\x00\x08\x07\x00\x02\x01\x00\x04Main\x07\x00\x04\x01\x00\x10java/lang/Object\x01\x00\x04main\x01\x00\x16([Ljava/lang/String;)V\x01\x00\x04Code\x00!\x00\x01\x00\x03\x00\x00\x00\x00\x00\x01\x00\x09\x00\x05\x00\x06\x00\x01\x00\x07\x00\x00\x00\x0f\x00\x01\x00\x02\x00\x00\x00\x03\x03<\xb1\x00\x00\x00\x00\x00\x00";
+
+    /// The class `P`, public, below `java/lang/Object` and empty.
+    const ANOTHER_CLASS: &[u8] =
+        b"\xca\xfe\xba\xbe\x00\x00\x003\x00\x05\x07\x00\x02\x01\x00\x01P\x07\x00\x04\x01\x00\x10java/lang/Object\x00!\x00\x01\x00\x03\x00\x00\x00\x00\x00\x00\x00\x00";
+
+    /// The class `P` below the class `Q`.
+    const P_BELOW_Q: &[u8] =
+        b"\xca\xfe\xba\xbe\x00\x00\x003\x00\x05\x07\x00\x02\x01\x00\x01P\x07\x00\x04\x01\x00\x01Q\x00!\x00\x01\x00\x03\x00\x00\x00\x00\x00\x00\x00\x00";
+
+    /// The class `Q` below the class `P`.
+    const Q_BELOW_P: &[u8] =
+        b"\xca\xfe\xba\xbe\x00\x00\x003\x00\x05\x07\x00\x02\x01\x00\x01Q\x07\x00\x04\x01\x00\x01P\x00!\x00\x01\x00\x03\x00\x00\x00\x00\x00\x00\x00\x00";
+
+    /// The class `Main` below a class `Gone`.
+    const BELOW_NOTHING: &[u8] =
+        b"\xca\xfe\xba\xbe\x00\x00\x003\x00\x05\x07\x00\x02\x01\x00\x04Main\x07\x00\x04\x01\x00\x04Gone\x00!\x00\x01\x00\x03\x00\x00\x00\x00\x00\x00\x00\x00";
+
+    /// The class `Main` below `java/lang/String`.
+    const BELOW_STRING: &[u8] =
+        b"\xca\xfe\xba\xbe\x00\x00\x003\x00\x05\x07\x00\x02\x01\x00\x04Main\x07\x00\x04\x01\x00\x10java/lang/String\x00!\x00\x01\x00\x03\x00\x00\x00\x00\x00\x00\x00\x00";
+
+    const FILES: [(&str, &[u8]); 35] = [
         ("m", b"option A Main A\n"),
         ("e", b""),
         ("r", b"option A Main A\nrule true\n"),
@@ -60,10 +84,20 @@ mod tests {
         ("f/2.class", PRINTS_NUMBER),
         ("f/1.class", PRINTS_NUMBER),
         ("f/readme", b"no class"),
+        ("l/Main.class", STORES_NUMBER),
+        ("g/Main.class", PRINTS_NUMBER),
+        ("g/P.class", ANOTHER_CLASS),
+        ("o/Main.class", SMALLEST_CLASS),
+        ("s/Main.class", BELOW_NOTHING),
+        ("x/Main.class", BELOW_STRING),
+        ("c/Main.class", PRINTS_NUMBER),
+        ("c/P.class", P_BELOW_Q),
+        ("c/Q.class", Q_BELOW_P),
+        ("c/readme", b"no class"),
     ];
 
     /// Words, and what has to come: the code, `out`, and `err`.
-    const CASES: [(&str, u8, &str, &str); 34] = [
+    const CASES: [(&str, u8, &str, &str); 40] = [
         (
             "run a m Main 100 1",
             0,
@@ -144,10 +178,16 @@ mod tests {
             "varexj report 1\noptions 1\noption A\nlimit 100\nrounds 4\nnode 2 0 0 1\nout 2 1\\0a\nend 2 return\ndone\n",
             "",
         ),
-        ("run n m Main 100 1", 20, "", "not yet Main.class\n"),
-        ("run n e Other 100 1", 20, "", "not yet Main.class\n"),
-        ("run f e Main 100 1", 20, "", "not yet f\n"),
-        ("run absent e Main 100 1", 20, "", "not yet absent\n"),
+        ("run f e Main 100 1", 8, "", "twice Main\n"),
+        ("run s e Main 100 1", 8, "", "no super Main\n"),
+        ("run x e Main 100 1", 8, "", "final super Main\n"),
+        ("run c e Main 100 1", 8, "", "cycle P\n"),
+        ("run n m Main 100 1", 8, "", "no option A\n"),
+        ("run o e Main 100 1", 8, "", "no main\n"),
+        ("run n e Other 100 1", 8, "", "no main\n"),
+        ("run absent e Main 100 1", 8, "", "no main\n"),
+        ("run l e Main 100 1", 20, "", "not yet Main.class\n"),
+        ("run g e Main 100 1", 20, "", "not yet g\n"),
         ("project report -", 0, "out 0\\0a\nend return\n", ""),
         ("project report A", 0, "out 1\\0a\nend return\n", ""),
         ("project report Z", 11, "", "not allowed\n"),
