@@ -61,3 +61,18 @@ pub(crate) fn swept<S: Space>(rt: &impl Abort, alloc: Global, space: &mut S) -> 
     assert_eq!(rt; callers.len(), 0);
     Ok(())
 }
+
+/// A frame that is taken off leaves its caller on top, and the tree as it was.
+pub(crate) fn popped<S: Space>(rt: &impl Abort, alloc: Global, space: &mut S) -> Result<(), Fail>
+    requires { 0 < (S.sets space.old).options }
+{
+    let on = space.option(0)?;
+    let mut callers = Callers::new(alloc);
+    let mut group = called_group(alloc, space, &mut callers, on)?;
+    assert_eq!(rt; group.depth(), 2);
+    let frame = group.pop(&mut callers, space)?;
+    assert!(rt; frame.is_some());
+    assert_eq!(rt; group.depth(), 1);
+    assert_eq!(rt; callers.len(), 1);
+    Ok(())
+}
