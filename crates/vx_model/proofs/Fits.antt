@@ -4,12 +4,12 @@ use Rattle.std.specs.Prelude.{if◌then◌else◌, codes}
 use Rattle.std.specs.Str.{bytes_eq}
 use Rattle.std.specs.List.{list_any, list_all}
 use Rattle.std.proofs.lemmas.Bool.Decides.{nat_tests}
-use Rattle.vx_words.specs.Lines.{words, behind_word}
+use Rattle.vx_words.specs.Lines.{words, is_plain, behind_word}
 use Rattle.vx_model.specs.Formula.{Formula}
 use Rattle.vx_model.specs.Tokens.{tokens}
 use Rattle.vx_words.specs.Names.{is_name}
 use Rattle.vx_model.specs.Parser.{parsed}
-use Rattle.vx_model.specs.Text.{statement_of, line_by, option_line, declared, rule_line, demanded, begins_comment, is_plain, clashes, is_unknown}
+use Rattle.vx_model.specs.Text.{statement_of, line_by, option_line, declared, rule_line, demanded, begins_comment, clashes, is_unknown}
 use Rattle.vx_model.specs.declared.token.Token.{Token}
 use Rattle.vx_model.specs.declared.model.OptionField.{OptionField}
 use Rattle.vx_model.specs.declared.model.FieldPlace.{FieldPlace}

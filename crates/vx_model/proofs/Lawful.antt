@@ -1,5 +1,5 @@
 -- What is read is a model that each call takes.
-use Rattle.std.proofs.Common.{◌≡◌, ◌≢◌, ℕ, ◌+◌, ◌≤◌, List, [], ◌∷◌, ◌++◌, length, length-append, Bool, true, false, ◌||◌, ◌&&◌, refl, subst, arith, Option, Some, None, Result, Ok, Err}
+use Rattle.std.proofs.Common.{◌≡◌, ◌≢◌, ℕ, ◌+◌, ◌≤◌, List, [], ◌∷◌, ◌++◌, length, length-append, true, false, ◌&&◌, refl, subst, arith, Option, Some, None, Result, Ok, Err}
 use Rattle.std.specs.List.{list_any}
 use Rattle.std.specs.Str.{bytes_eq}
 use Rattle.std.proofs.lemmas.Slice.Eq.{bytes_eq-Decides}
@@ -15,12 +15,8 @@ use Rattle.vx_model.specs.declared.model.FieldPlace.{FieldPlace}
 use Rattle.vx_model.specs.declared.statement.Statement.{Statement}
 use Rattle.vx_model.specs.declared.statement.Statement.TheVariants as statement
 use Rattle.vx_model.proofs.Fits.{Fits, statement_fits}
-use Rattle.vx_model.proofs.Names.{rule_names, are_known}
+use Rattle.vx_model.proofs.Names.{neither, rule_names, are_known}
 use Rattle.vx_model.proofs.Sound.{rule_sound}
-
-neither : (a b : Bool) → (a || b) ≡ false → (a ≡ false) × (b ≡ false)
-neither true b e = cc
-neither false b e = (refl, e)
 
 same_bytes : (a : List ℕ) → bytes_eq a a ≡ true
 same_bytes a = (bytes_eq-Decides a a).1 refl
@@ -40,7 +36,7 @@ apart_from : (a option : OptionField) → clashes option.name option.place a ≡
 apart_from a option e = let both = neither (bytes_eq a.name option.name) (is_same_place a.place option.place) e in
     (different a.name option.name both.0, different_places a.place option.place both.1)
 
-one_more : (a option : OptionField) (os : List OptionField) → ApartFromAll a os → AreApart a option → ApartFromAll a (os ++ option ∷ [])
+pub one_more : (a option : OptionField) (os : List OptionField) → ApartFromAll a os → AreApart a option → ApartFromAll a (os ++ option ∷ [])
 one_more a option [] h apart = (apart, tt)
 one_more a option (o ∷ os) h apart = (h.0, one_more a option os h.1 apart)
 

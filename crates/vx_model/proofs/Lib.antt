@@ -1,7 +1,7 @@
 mod Fits
-mod Lawful
+pub mod Lawful
 mod Lines
-mod Names
+pub mod Names
 mod Pieces
 mod Rules
 mod Sets

@@ -23,7 +23,7 @@ conjunction_names n [] h = tt
 conjunction_names n (f ∷ []) h = h.0
 conjunction_names n (f ∷ g ∷ fs) h = h
 
-disjunction_names : (n : ℕ) (fs : List Formula) → AllNamesBelow n (formulas fs) → NamesBelow n (disjunction fs)
+pub disjunction_names : (n : ℕ) (fs : List Formula) → AllNamesBelow n (formulas fs) → NamesBelow n (disjunction fs)
 disjunction_names n [] h = tt
 disjunction_names n (f ∷ []) h = h.0
 disjunction_names n (f ∷ g ∷ fs) h = h
@@ -54,7 +54,7 @@ mutual
   not_names n yes k = (tt, k.1)
   not_names n no k = (tt, k.1)
 
-neither : (a b : Bool) → (a || b) ≡ false → (a ≡ false) × (b ≡ false)
+pub neither : (a b : Bool) → (a || b) ≡ false → (a ≡ false) × (b ≡ false)
 neither true b e = cc
 neither false b e = (refl, e)
 

@@ -2,7 +2,7 @@
 use Rattle.std.specs.Prelude.{ℕ, ◌+◌, List, [], ◌∷◌, ◌++◌, length, map, Bool, false, not, ◌&&◌, ◌||◌, ◌==◌, nat_le, if◌then◌else◌, codes, Option, Some, None, Result, Ok, Err}
 use Rattle.std.specs.List.{list_all, list_any}
 use Rattle.std.specs.Str.{bytes_eq}
-use Rattle.vx_words.specs.Lines.{lines, words, behind_word}
+use Rattle.vx_words.specs.Lines.{lines, words, is_plain, behind_word}
 use Rattle.vx_model.specs.Formula.{Formula}
 use Rattle.vx_model.specs.Tokens.{tokens}
 use Rattle.vx_words.specs.Names.{is_name}
@@ -14,10 +14,6 @@ use Rattle.vx_model.specs.declared.model.OptionField.{OptionField}
 use Rattle.vx_model.specs.declared.model.FieldPlace.{FieldPlace}
 use Rattle.vx_model.specs.declared.statement.Statement.{Statement}
 use Rattle.vx_model.specs.declared.statement.Statement.TheVariants as statement
-
--- a tab, or a byte from the space to ~: other bytes stand only in comments
-abbrev pub is_plain : ℕ → Bool
-is_plain b = b == 9 || (nat_le 32 b && nat_le b 126)
 
 -- the first word of a comment begins with #
 abbrev pub begins_comment : List ℕ → Bool

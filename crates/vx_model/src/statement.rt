@@ -3,8 +3,8 @@
 ghost use Rattle.std.specs.Prelude.{◌≡◌, ◌≤◌, ◌<◌, length, IfOk, map, Some, None};
 ghost use Rattle.std.specs.Option.{option_map};
 ghost use Rattle.std.specs.List.{list_all, list_any};
-ghost use Rattle.vx_words.specs.Lines.{words, behind_word};
-ghost use Rattle.vx_model.specs.Text.{is_plain, begins_comment, slash, is_same_place, clashes, declared, option_line, is_unknown, rule_line, statement_of};
+ghost use Rattle.vx_words.specs.Lines.{words, is_plain, behind_word};
+ghost use Rattle.vx_model.specs.Text.{begins_comment, slash, is_same_place, clashes, declared, option_line, is_unknown, rule_line, statement_of};
 ghost use Rattle.vx_model.specs.Answers.{Judges};
 
 use crate::expr::Expr;
@@ -13,7 +13,7 @@ use crate::rule::{RuleFault, rule_of};
 use crate::token::{Token, tokens_of};
 use std::alloc::{AllocError, AllocFailed, Global};
 use vx_value::Name;
-use vx_words::{is_name, next_word};
+use vx_words::{are_plain, is_name, next_word};
 
 /// What a line says: nothing, an option, or a rule.
 #[derive(Debug, Drop)]
@@ -72,12 +72,6 @@ const MOST_OPTIONS: usize = 64;
 const OPTION: &[u8] = b"option";
 
 const RULE: &[u8] = b"rule";
-
-fn is_plain(line: &[u8]) -> bool
-    ensures { result ≡ list_all is_plain line.now }
-{
-    line.iter().all(|b| *b == b'\t' || (32 <= *b && *b <= 126))
-}
 
 fn begins_comment(word: &[u8]) -> bool
     ensures { result ≡ begins_comment word.now }
@@ -214,7 +208,7 @@ pub fn statement_of(
     if begins_comment(first) {
         return Ok(Statement::Nothing);
     }
-    if !is_plain(line) {
+    if !are_plain(line) {
         return Err(NO_FORM);
     }
     if first == OPTION {

@@ -1,5 +1,5 @@
 -- How a text is cut into lines, and a line into words.
-use Rattle.std.specs.Prelude.{ℕ, ◌-◌, List, [], ◌∷◌, length, take, map, filter, slice_index, Bool, true, false, not, ◌||◌, ◌==◌, if◌then◌else◌}
+use Rattle.std.specs.Prelude.{ℕ, ◌-◌, List, [], ◌∷◌, length, take, map, filter, slice_index, Bool, true, false, not, ◌||◌, ◌&&◌, ◌==◌, nat_le, if◌then◌else◌}
 
 -- an item in front of the first part
 abbrev pub with_first : {A : Type 0} → A → List (List A) → List (List A)
@@ -31,6 +31,10 @@ skip p (x ∷ xs) = if p x then skip p xs else x ∷ xs
 -- a space or a tab
 abbrev pub is_blank : ℕ → Bool
 is_blank b = (b == 32) || (b == 9)
+
+-- a tab, or a byte from the space to ~: what a text says outside of comments and quotes
+abbrev pub is_plain : ℕ → Bool
+is_plain b = b == 9 || (nat_le 32 b && nat_le b 126)
 
 abbrev pub is_filled : List ℕ → Bool
 is_filled [] = false

@@ -6,7 +6,7 @@ mod lines;
 mod names;
 
 pub use decimal::decimal_up_to;
-pub use lines::{is_blank, next_line, next_word, skip_blanks};
+pub use lines::{are_plain, is_blank, next_line, next_word, skip_blanks};
 pub use names::{is_name, is_word_byte};
 
 #[cfg(test)]
@@ -30,6 +30,7 @@ mod tests {
             Some((b"ab".as_slice(), b"  c".as_slice()))
         );
         assert_eq!(rt; next_word(b" "), None);
+        assert!(rt; are_plain(b"\t ~") && !are_plain(b"a\x7f"));
         assert_eq!(rt; decimal_up_to(b"64", 65), Some(64));
         assert_eq!(rt; decimal_up_to(b"99999999999999999999999", 65), Some(65));
         assert_eq!(rt; decimal_up_to(b"007", 65), None);

@@ -1,14 +1,21 @@
 //! The next line of a text, and the next word of a line.
 
 ghost use Rattle.std.specs.Prelude.{◌≡◌, ◌∷◌, [], ◌<◌, ◌≤◌, ◌+◌, length, IfSome, IsNone, ◌↔◌, drop, not, take_while};
-ghost use Rattle.std.specs.List.{prefix_len, position_or_len};
-ghost use Rattle.vx_words.specs.Lines.{lines, words, is_blank, is_line_feed, without_return, skip, behind_word};
+ghost use Rattle.std.specs.List.{list_all, prefix_len, position_or_len};
+ghost use Rattle.vx_words.specs.Lines.{lines, words, is_blank, is_plain, is_line_feed, without_return, skip, behind_word};
 
 /// Whether a byte is a blank: a space or a tab.
 pub fn is_blank(byte: u8) -> bool
     ensures { result ≡ is_blank byte }
 {
     byte == b' ' || byte == b'\t'
+}
+
+/// Whether each byte of a text is plain: a tab, or a byte from the space to `~`.
+pub fn are_plain(text: &[u8]) -> bool
+    ensures { result ≡ list_all is_plain text.now }
+{
+    text.iter().all(|b| *b == b'\t' || (32 <= *b && *b <= 126))
 }
 
 // How many bytes stand before the first line feed.
