@@ -13,6 +13,7 @@ use Rattle.vx_words.specs.Names.{is_name}
 use Rattle.vx_model.specs.Text.{clashes}
 use Rattle.vx_model.specs.declared.model.FieldPlace.{FieldPlace}
 use Rattle.vx_model.specs.declared.model.OptionField.{OptionField}
+use Rattle.vx_model.proofs.Names.{neither}
 use Rattle.vx_dimacs.specs.Dimacs.{State, behind_two, clauses_of, comment_line, front_mark, header_clauses, header_line, header_variables, is_negative, is_number, is_numbered, is_variable_name, is_visible, line_by, line_of, mark_of, marked, marks_of, named, named_as, numbered, numbers_line, numeral, told, unsigned, up_to}
 use Rattle.vx_dimacs.specs.declared.line.Header.{Header}
 use Rattle.vx_dimacs.specs.declared.line.Line.{Line}
@@ -56,10 +57,6 @@ Fits st (line.Numbers ms) = Counted st ms
 pub passed : {A : Type 0} (b : Bool) (reason : ℕ) (next : Result A ℕ) (x : A) → (if b then Err reason else next) ≡ Ok x → (b ≡ false) × (next ≡ Ok x)
 passed true reason next x e = cc
 passed false reason next x e = (refl, e)
-
-pub neither : (a b : Bool) → (a || b) ≡ false → (a ≡ false) × (b ≡ false)
-neither true b e = cc
-neither false b e = (refl, e)
 
 both : (a b : Bool) → (a && b) ≡ true → (a ≡ true) × (b ≡ true)
 both true b e = (refl, e)

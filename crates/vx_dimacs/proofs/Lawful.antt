@@ -1,29 +1,28 @@
 -- What is read is a model that each call takes.
 use Rattle.std.proofs.Common.{◌≡◌, ◌≢◌, ◌⊎◌, inl, inr, ℕ, zero, suc, ◌+◌, ◌<◌, ◌≤◌, List, [], ◌∷◌, ◌++◌, length, length-append, get_or, slice_get, unwrap_or, refl, sym, ap, ◌∙◌, subst, arith, true, false, not, ◌||◌, nat_lt, Option, Some, None, Result, Ok, Err}
 use Rattle.std.specs.Prelude.{◌==◌, position}
-use Rattle.std.specs.List.{list_any}
-use Rattle.std.specs.Str.{bytes_eq}
 use Rattle.std.proofs.lemmas.Bool.{eqb-true}
 use Rattle.std.proofs.lemmas.List.Quantifiers.{position-Some}
-use Rattle.std.proofs.lemmas.Slice.Eq.{bytes_eq-Decides}
 use Rattle.vx_words.specs.Decimal.{decimal}
 use Rattle.vx_words.specs.Lines.{lines}
 use Rattle.vx_model.specs.Formula.{Formula, formulas}
 use Rattle.vx_model.specs.Formula as tree
 use Rattle.vx_model.specs.Grammar.{disjunction}
 use Rattle.vx_model.specs.Models.{AllApart, ApartFromAll, AreApart, DifferentPlaces, IsModel}
-use Rattle.vx_model.specs.Text.{at_line, clashes, is_same_place}
+use Rattle.vx_model.specs.Text.{at_line}
 use Rattle.vx_model.specs.Truth.{AllNamesBelow, NamesBelow}
 use Rattle.vx_model.specs.declared.model.FieldPlace.{FieldPlace}
 use Rattle.vx_model.specs.declared.model.Model.{Model}
 use Rattle.vx_model.specs.declared.model.OptionField.{OptionField}
+use Rattle.vx_model.proofs.Lawful.{all_apart, all_below-append, one_more}
+use Rattle.vx_model.proofs.Names.{disjunction_names}
 use Rattle.vx_dimacs.specs.Dimacs.{State, begun, dimacs_of, end_of, ended, has_too_many, is_nothing, line_of, lines_of, nothing_yet, numeral, option_at, option_for, options_upto, plain_option, with_line, with_mark, with_marks}
 use Rattle.vx_dimacs.specs.declared.line.Header.{Header}
 use Rattle.vx_dimacs.specs.declared.line.Line.{Line}
 use Rattle.vx_dimacs.specs.declared.line.Line.TheVariants as line
 use Rattle.vx_dimacs.specs.declared.number.Mark.{Mark}
 use Rattle.vx_dimacs.specs.declared.number.Mark.TheVariants as mark
-use Rattle.vx_dimacs.proofs.Fits.{Fits, IsOwn, MarkBelow, MarksBelow, line_fits, neither, numeral_spells, passed, same_tail}
+use Rattle.vx_dimacs.proofs.Fits.{Fits, IsOwn, MarkBelow, MarksBelow, line_fits, numeral_spells, passed, same_tail}
 
 -- ---- options that are apart
 
@@ -31,36 +30,9 @@ abbrev AllApartFrom : List OptionField → OptionField → Type 0
 AllApartFrom [] a = Unit {0}
 AllApartFrom (o ∷ os) a = AreApart o a × AllApartFrom os a
 
-one_more : (a option : OptionField) (os : List OptionField) → ApartFromAll a os → AreApart a option → ApartFromAll a (os ++ option ∷ [])
-one_more a option [] h apart = (apart, tt)
-one_more a option (o ∷ os) h apart = (h.0, one_more a option os h.1 apart)
-
 apart_more : (os : List OptionField) (option : OptionField) → AllApart os → AllApartFrom os option → AllApart (os ++ option ∷ [])
 apart_more [] option h from = (tt, tt)
 apart_more (o ∷ os) option h from = (one_more o option os h.0 from.0, apart_more os option h.1 from.1)
-
-different : (a b : List ℕ) → bytes_eq a b ≡ false → a ≢ b
-different a b e same =
-    let t : bytes_eq a b ≡ true = subst (λ c. bytes_eq a c ≡ true) same ((bytes_eq-Decides a a).1 refl) in cc
-
-places_apart : (a b : Option FieldPlace) → is_same_place a b ≡ false → DifferentPlaces a b
-places_apart None b e = tt
-places_apart (Some a) None e = tt
-places_apart (Some a) (Some b) e = λ same.
-    let t : is_same_place (Some a) (Some b) ≡ true =
-    subst (λ c. is_same_place (Some a) (Some c) ≡ true) same (rw ((bytes_eq-Decides a.class a.class).1 refl, (bytes_eq-Decides a.field a.field).1 refl) refl) in
-    cc
-
-free_apart : (os : List OptionField) (option : OptionField) → list_any (clashes option.name option.place) os ≡ false → AllApartFrom os option
-free_apart [] option e = tt
-free_apart (o ∷ os) option e =
-    let rest = neither (clashes option.name option.place o) (list_any (clashes option.name option.place) os) e in
-    let parts = neither (bytes_eq o.name option.name) (is_same_place o.place option.place) rest.0 in
-    ((different o.name option.name parts.0, places_apart o.place option.place parts.1), free_apart os option rest.1)
-
-below_more_rules : (n : ℕ) (fs : List Formula) (f : Formula) → AllNamesBelow n (formulas fs) → NamesBelow n f → AllNamesBelow n (formulas (fs ++ f ∷ []))
-below_more_rules n [] f h below = (below, tt)
-below_more_rules n (g ∷ gs) f h below = (h.0, below_more_rules n gs f h.1 below)
 
 -- ---- what the lines so far keep
 
@@ -94,17 +66,12 @@ empty_before header rules literals is h = subst (λ o. Within o rules literals) 
 behind_header : (header : Option Header) (is : Header) (rules literals : List Formula) → header ≡ Some is → Within header rules literals → Within (Some is) rules literals
 behind_header header is rules literals same h = subst (λ o. Within o rules literals) same h
 
-disjunction_below : (n : ℕ) (fs : List Formula) → AllNamesBelow n (formulas fs) → NamesBelow n (disjunction fs)
-disjunction_below n [] h = tt
-disjunction_below n (f ∷ []) h = h.0
-disjunction_below n (f ∷ g ∷ fs) h = h
-
 mark_within : (header : Header) (st : State) (m : Mark) → MarkBelow header.variables m → Within (Some header) st.rules st.literals
     → Within (Some header) (with_mark st m).rules (with_mark st m).literals
 mark_within header st mark.End below h =
-    (h.0, below_more_rules header.variables st.rules (disjunction st.literals) h.1 (disjunction_below header.variables st.literals h.2), tt)
-mark_within header st (mark.On k) below h = (h.0, h.1, below_more_rules header.variables st.literals (tree.Named k) h.2 below)
-mark_within header st (mark.Off k) below h = (h.0, h.1, below_more_rules header.variables st.literals (tree.Not (tree.Named k)) h.2 below)
+    (h.0, all_below-append header.variables st.rules (disjunction st.literals) h.1 (disjunction_names header.variables st.literals h.2), tt)
+mark_within header st (mark.On k) below h = (h.0, h.1, all_below-append header.variables st.literals (tree.Named k) h.2 below)
+mark_within header st (mark.Off k) below h = (h.0, h.1, all_below-append header.variables st.literals (tree.Not (tree.Named k)) h.2 below)
 
 mark_sound : (header : Header) (st : State) (m : Mark) → st.header ≡ Some header → MarkBelow header.variables m → IsSound st → IsSound (with_mark st m)
 mark_sound header st mark.End is below h = record {
@@ -148,7 +115,7 @@ with_sound st new (line.Names naming) e h fits =
     same_sound _ new e
     (record {
       own = own_more st.variables st.names naming.variable naming.option h.own fits.own;
-      apart = apart_more st.names naming.option h.apart (free_apart st.names naming.option fits.free);
+      apart = all_apart st.names naming.option h.apart fits.free;
       within = h.within;
     })
 with_sound st new (line.Heads header) e h fits =
