@@ -4,4 +4,5 @@ pub mod Exact
 pub mod Key
 pub mod KeyLaws
 pub mod Slot
+pub mod Texts
 pub mod Words

@@ -1,5 +1,5 @@
-//! Plain values of the machine: names, slots, numbers of classes, methods and fields, keys, ends, and what arithmetic
-//! computes of plain numbers.
+//! Plain values of the machine: names, slots, texts, numbers of classes, methods and fields, keys, ends, and what
+//! arithmetic computes of plain numbers.
 #![tactic(auto)]
 
 pub mod end;
@@ -9,6 +9,7 @@ pub mod key;
 pub mod name;
 pub mod operation;
 pub mod slot;
+pub mod texts;
 
 pub use end::{End, Stream};
 pub use exact::Exact;
@@ -17,3 +18,4 @@ pub use key::{Key, KeyPart, Kind};
 pub use name::Name;
 pub use operation::{IntOp, Narrow, ShiftOp};
 pub use slot::{InitState, Slot};
+pub use texts::TextTable;
