@@ -119,6 +119,7 @@ impl TextTable {
 #[cfg(test)]
 mod tests {
     use super::*;
+    use std::process::Abort;
     use std::test::Fail;
 
     fn put_and_read(rt: &impl Abort, table: &mut TextTable, units: &[u16]) -> Result<u64, Fail> {
