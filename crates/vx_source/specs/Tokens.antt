@@ -1,9 +1,9 @@
 -- The words of a line, the text between quotes being one word where a text is expected.
-use Rattle.std.specs.Prelude.{ℕ, ◌+◌, List, [], ◌∷◌, ◌++◌, length, take, drop, slice_index, position, unwrap_or, min, Bool, false, not, nat_le, ◌==◌, ◌&&◌, ◌||◌, Ok, if◌then◌else◌, codes}
+use Rattle.std.specs.Prelude.{ℕ, ◌+◌, List, [], ◌∷◌, ◌++◌, length, take, drop, slice_index, position, unwrap_or, min, Bool, false, not, ◌==◌, ◌&&◌, ◌||◌, Ok, if◌then◌else◌, codes}
 use Rattle.std.specs.List.{list_all}
 use Rattle.std.specs.Str.{bytes_eq}
 use Rattle.vx_list.specs.Places.{item_or}
-use Rattle.vx_words.specs.Lines.{is_blank}
+use Rattle.vx_words.specs.Lines.{is_blank, is_plain}
 use Rattle.vx_source.specs.Reading.{Read, ◌>>=◌, check, steps}
 use Rattle.vx_source.specs.Texts.{quote_place}
 
@@ -34,9 +34,6 @@ word_end quoted line =
     if begins_quoted quoted line
     then (let closed = min (length line) (quote_place false (drop 1 line) + 2) in closed + blank_place (drop closed line))
     else blank_place line
-
-abbrev pub is_plain : ℕ → Bool
-is_plain b = b == 9 || (nat_le 32 b && nat_le b 126)
 
 -- the first word of what has no blank in front, behind the words before it; outside of texts its bytes are plain
 unfoldable pub first_word : List (List ℕ) → List ℕ → Read (List (List ℕ) × List ℕ)

@@ -3,16 +3,16 @@
 ghost use Rattle.std.specs.Prelude.{◌≡◌, ◌+◌, ◌≤◌, ◌++◌, ◌∷◌, [], ◌==◌, length, drop, take, position, not, slice_index, codes, ◌&&◌, ◌||◌, OnOk, IfErr};
 ghost use Rattle.std.specs.List.{list_all};
 ghost use Rattle.std.specs.Str.{bytes_eq};
-ghost use Rattle.vx_words.specs.Lines.{is_blank};
+ghost use Rattle.vx_words.specs.Lines.{is_blank, is_plain};
 ghost use Rattle.vx_source.specs.Reading.{Gives, GivesBy};
-ghost use Rattle.vx_source.specs.Tokens.{word_at, blank_place, unindented, expects_text, begins_quoted, word_end, is_plain, first_word, word_step, tokens};
+ghost use Rattle.vx_source.specs.Tokens.{word_at, blank_place, unindented, expects_text, begins_quoted, word_end, first_word, word_step, tokens};
 
 use crate::fault::{LineFault, refused};
 use crate::numbers::byte_at;
 use crate::texts::{behind, quote_place};
 use std::alloc::Global;
 use vx_value::Name;
-use vx_words::is_blank;
+use vx_words::{are_plain, is_blank};
 
 /// The word of a place, or no bytes behind the last one.
 pub fn word_at(words: &[Name], place: usize) -> &[u8]
@@ -100,18 +100,6 @@ fn word_end(quoted: bool, line: &[u8]) -> usize
     }
     let closed = line.len().min(quote_place(behind(line, 1)) + 2);
     closed + blank_place(behind(line, closed))
-}
-
-fn is_plain(byte: u8) -> bool
-    ensures { result ≡ is_plain byte }
-{
-    byte == 9 || (32..=126).contains(&byte)
-}
-
-fn are_plain(word: &[u8]) -> bool
-    ensures { result ≡ list_all is_plain word.now }
-{
-    word.iter().all(|b| is_plain(*b))
 }
 
 /// The first bytes of a line.
