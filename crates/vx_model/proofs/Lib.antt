@@ -1,3 +1,4 @@
+mod Complete
 mod Fits
 pub mod Lawful
 mod Lines

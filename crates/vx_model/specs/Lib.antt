@@ -3,6 +3,7 @@ pub mod Drafts
 pub mod Formula
 pub mod FormulaCode
 pub mod Grammar
+pub mod Law
 pub mod Models
 pub mod Parser
 pub mod Text

@@ -1,8 +1,7 @@
 -- How the text of a rule is cut into tokens.
-use Rattle.std.specs.Prelude.{ℕ, List, [], ◌∷◌, length, map, Bool, false, not, ◌&&◌, ◌||◌, ◌==◌, nat_le, if◌then◌else◌, codes}
-use Rattle.std.specs.List.{list_all, prefix_len, position_or_len}
+use Rattle.std.specs.Prelude.{ℕ, List, [], ◌∷◌, map, Bool, false, ◌&&◌, ◌||◌, ◌==◌, if◌then◌else◌, codes}
+use Rattle.std.specs.List.{prefix_len, position_or_len}
 use Rattle.std.specs.Str.{bytes_eq}
-use Rattle.std.specs.Char.{is_ascii_digit, is_ascii_alphabetic}
 use Rattle.vx_words.specs.Lines.{with_first, is_blank}
 use Rattle.vx_words.specs.Names.{is_word_byte, is_name}
 use Rattle.vx_model.specs.declared.model.OptionField.{OptionField}

@@ -4,6 +4,7 @@
 mod configurations;
 mod expr;
 mod fault;
+mod law;
 mod model;
 mod rule;
 mod statement;
@@ -13,6 +14,7 @@ mod token;
 pub use configurations::allowed;
 pub use expr::{Expr, Form};
 pub use fault::ModelFault;
+pub use law::rules_are_the_grammar;
 pub use model::{FieldPlace, Model, OptionField};
 pub use statement::{Refusal, is_taken, slashed};
 pub use text::{fault_at, read_model};
