@@ -1,6 +1,7 @@
 -- Reading from the front to the back, with the first check that fails.
-use Rattle.std.specs.Prelude.{◌≡◌, ℕ, zero, suc, List, [], ◌∷◌, ◌++◌, length, take, Bool, Result, Ok, Err, nat_le, if◌then◌else◌}
+use Rattle.std.specs.Prelude.{◌≡◌, ℕ, zero, suc, List, [], ◌∷◌, ◌++◌, length, take, Bool, Option, None, Some, Result, Ok, Err, nat_le, if◌then◌else◌}
 use Rattle.byteorder.specs.Endian.{big_number}
+use Rattle.vx_list.specs.Answers as answers
 use Rattle.vx_reading.specs.declared.fault.ClassFault.{ClassFault}
 use Rattle.vx_reading.specs.declared.fault.ClassFault.TheVariants as fault
 use Rattle.vx_reading.specs.Place.{Place, past, file_length}
@@ -59,11 +60,15 @@ item_step item front s = item s >>= λ x. Ok (front ++ x.0 ∷ [], x.1)
 abbrev pub items : {A : Type 0} → (Place → Read A) → ℕ → Place → Read (List A)
 items item n s = steps (item_step item) [] n s
 
+-- the check that failed, or none where memory ran out
+abbrev pub fault_seen : ClassFault → Option Fault
+fault_seen fault.NoMemory = None
+fault_seen (fault.Bad at reason) = Some (record { at = at; reason = reason })
+
 -- What a function returned is what reading gives, unless memory ran out: a value, and the place
 -- behind it, or the first check that fails.
 abbrev pub Fails : {A : Type 0} → ClassFault → Result A Fault → Type 0
-Fails fault.NoMemory read = Unit {0}
-Fails (fault.Bad at reason) read = read ≡ refuse at reason
+Fails e read = answers.Fails (fault_seen e) read
 
 abbrev pub GivesBy : {X A : Type 0} → (X → A) → Result X ClassFault → Place → Read A → Type 0
 GivesBy view (Ok x) new read = read ≡ Ok (view x, new)
@@ -75,12 +80,10 @@ Gives (Err e) new read = Fails e read
 
 -- the same for a check that reads nothing
 abbrev pub AnswersBy : {X A : Type 0} → (X → A) → Result X ClassFault → Result A Fault → Type 0
-AnswersBy view (Ok x) answer = answer ≡ Ok (view x)
-AnswersBy view (Err e) answer = Fails e answer
+AnswersBy view result answer = answers.AnswersBy view fault_seen result answer
 
 abbrev pub Answers : {A : Type 0} → Result A ClassFault → Result A Fault → Type 0
-Answers (Ok x) answer = answer ≡ Ok x
-Answers (Err e) answer = Fails e answer
+Answers result answer = answers.Answers fault_seen result answer
 
 -- what a function that reads returns where a value is there to be read: the value, unless memory ran out
 abbrev pub IsReadAs : {A : Type 0} → A → Result A ClassFault → Type 0
