@@ -2,6 +2,7 @@
 use Rattle.std.specs.Prelude.{◌≡◌, ℕ, ◌+◌, ◌<◌, ◌≤◌, List, length, Option, Some, None, Bool, true, false, nat_lt, nat_le, option_and_then, refl}
 use Rattle.std.proofs.Common.{arith, cond, subst}
 use Rattle.std.proofs.lemmas.Bool.{leb-true}
+use Rattle.std.proofs.lemmas.Option.{same_Some}
 use Rattle.vx_opcode.specs.declared.instruction.Operand.{Operand}
 use Rattle.vx_opcode.specs.declared.instruction.Operand.TheVariants as operand
 use Rattle.vx_opcode.specs.declared.instruction.Instruction.{Instruction}
@@ -15,9 +16,6 @@ pub record Lies (code : List ℕ) (at : ℕ) (i : Instruction) : Type 0 where
   pub some : 0 < i.length
   pub within : at + i.length ≤ length code
 
-some_is : {A : Type 0} (x y : A) → (let f : A → Option A = λ z. Some z in f x ≡ f y) → x ≡ y
-some_is x y e = cc
-
 lies_whole : (code : List ℕ) (at op len : ℕ) (o : Operand) (i : Instruction) → 0 < len → whole code at op len o ≡ Some i → Lies code at i
 lies_whole code at op len o i some e = by_test (nat_le (at + len) (length code)) refl e
   where
@@ -25,7 +23,7 @@ lies_whole code at op len o i some e = by_test (nat_le (at + len) (length code))
     made = record { opcode = op; length = len; operand = o }
 
     by_test : (b : Bool) → nat_le (at + len) (length code) ≡ b → cond b (Some made) None ≡ Some i → Lies code at i
-    by_test true t e = subst (λ (j : Instruction). Lies code at j) (some_is made i e) (record { some = some; within = leb-true (at + len) (length code) t })
+    by_test true t e = subst (λ (j : Instruction). Lies code at j) (same_Some made i e) (record { some = some; within = leb-true (at + len) (length code) t })
     by_test false t e = absurd cc
 
 pub lawful_is : (test : Bool) (o : Option Instruction) (i : Instruction) → lawful test o ≡ Some i → (test ≡ true) × (o ≡ Some i)

@@ -16,7 +16,7 @@ use Rattle.vx_reading.specs.Place.{Place, place}
 use Rattle.vx_reading.specs.Reading.{Read, ◌>>=◌, with_front, check, number, Gives, IsReadAs}
 use Rattle.vx_pool.specs.Text.{is_text}
 use Rattle.vx_pool.specs.Pool.{text_at, one_at, two_at, wide_at, body_at, entry_at, is_wide, entries_at, pool_at}
-use Rattle.vx_pool.specs.Spelling.{entry_bytes, pool_bytes, Fits, ArePlaced, IsPool}
+use Rattle.vx_pool.specs.Spelling.{entry_bytes, pool_of, pool_bytes, Fits, ArePlaced, IsPool}
 
 -- ---- entries
 
@@ -105,9 +105,6 @@ entries_again (e ∷ es) false placed at rest =
     (entry_reads e (length es) placed.0 (room_behind es e placed.1))
     (rw (entries_again es (is_wide e) placed.1 (at + length (entry_bytes e)) rest) refl)
     ∙ ap (λ (t : List ℕ). Ok (e ∷ es, place (at + length t) rest)) (sym text_is)
-
-abbrev pool_of : List Entry → Pool
-pool_of es = record { entries = es }
 
 pub pool_reads : (p : Pool) → IsPool p → Reads pool_at (pool_bytes p) p
 unfolding pool_at

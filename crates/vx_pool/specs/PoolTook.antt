@@ -4,6 +4,7 @@ use Rattle.std.proofs.Common.{sym, ap, subst, arith, cond}
 use Rattle.std.proofs.lemmas.Int.{of_z-to_z}
 use Rattle.std.proofs.Math.Facts.{sfits_to_z, Fits-of_lt}
 use Rattle.std.proofs.lemmas.Bool.{eqb-true, leb-true}
+use Rattle.std.proofs.lemmas.Option.{same_Some}
 use Rattle.std.proofs.lemmas.List.Concat.{flat_map-cons}
 use Rattle.std.specs.List.{flat_map}
 use Rattle.std.specs.Int.{w32, w64, cast_signed}
@@ -16,14 +17,8 @@ use Rattle.vx_reading.specs.Reading.{Read, ◌>>=◌, with_front, check, number,
 use Rattle.vx_pool.specs.Text.{is_text}
 use Rattle.vx_pool.specs.Pool.{Shape, Bytes, One, Wide, Two, shapes, shape_in, text_at, one_at, two_at, wide_at, shaped_at, body_at, entry_at, is_wide, entries_at, pool_at}
 use Rattle.vx_reading.specs.Place.{IsBytes}
-use Rattle.vx_pool.specs.Spelling.{entry_bytes, pool_bytes, Fits, ArePlaced, IsPool}
+use Rattle.vx_pool.specs.Spelling.{entry_bytes, pool_of, pool_bytes, Fits, ArePlaced, IsPool}
 use Rattle.vx_reading.specs.Took.{bind_ok, check_ok, ok_is, Took, Took-then, IsWidth, width1, width2, width4, width8, number_took, bytes_took}
-
-abbrev pool_of : List Entry → Pool
-pool_of es = record { entries = es }
-
-abbrev some : {A : Type 0} → A → Option A
-some x = Some x
 
 -- an entry that is made behind a tag: it is spelled so, and a file can hold it
 abbrev pub IsMade : ℕ → List ℕ → Entry → Type 0
@@ -90,9 +85,6 @@ all_spelled = (
   ),
 )
 
-some_is : {A : Type 0} (x y : A) → some x ≡ some y → x ≡ y
-some_is x y e = cc
-
 -- the row that a search finds
 spelled_in : (rows : List (ℕ × Shape)) (tag : ℕ) (shape : Shape) → AllSpelled rows → shape_in rows tag ≡ Some shape → IsSpelled tag shape
 spelled_in [] tag shape all e = absurd cc
@@ -101,7 +93,7 @@ spelled_in (row ∷ rows) tag shape all e = by_test (λ f. spelled_in rows tag s
     by_test : (shape_in rows tag ≡ Some shape → IsSpelled tag shape) → (b : Bool) → (tag == row.0) ≡ b → cond b (Some row.1) (shape_in rows tag) ≡ Some shape → IsSpelled tag shape
     by_test others true t e =
         let same : row.0 ≡ tag = sym (eqb-true tag row.0 t) in
-        subst (λ (k : ℕ). IsSpelled k shape) same (subst (IsSpelled row.0) (some_is row.1 shape e) all.0)
+        subst (λ (k : ℕ). IsSpelled k shape) same (subst (IsSpelled row.0) (same_Some row.1 shape e) all.0)
     by_test others false t e = others e
 
 -- ---- entries

@@ -27,6 +27,10 @@ entry_bytes (entry.MethodHandle kind i) = big_bytes 1 15 ++ (big_bytes 1 kind ++
 entry_bytes (entry.MethodType i) = big_bytes 1 16 ++ big_bytes 2 i
 entry_bytes (entry.InvokeDynamic i j) = big_bytes 1 18 ++ (big_bytes 2 i ++ big_bytes 2 j)
 
+-- the pool of these entries
+abbrev pub pool_of : List Entry → Pool
+pool_of es = record { entries = es }
+
 abbrev pub pool_bytes : Pool → List ℕ
 pool_bytes p = big_bytes 2 (length p.entries) ++ flat_map entry_bytes p.entries
 
