@@ -88,13 +88,16 @@ fn called(pool: &Pool, index: u16) -> Option<u16>
     }
 }
 
-fn is_callable(opcode: u8, name: &[u8]) -> bool
+/// Whether an instruction may call a method of a name: one that begins with `<` only by invokespecial, and then `<init>`
+/// (JVMS 4.9.1).
+pub fn is_callable(opcode: u8, name: &[u8]) -> bool
     ensures { result ≡ is_callable opcode name.now }
 {
     name.first() != Some(&b'<') || (opcode == 0xb7 && is_init(name))
 }
 
-fn dimensions(name: &[u8]) -> usize
+/// How many dimensions the text of a class begins with.
+pub fn dimensions(name: &[u8]) -> usize
     ensures { result ≡ dimensions name.now }
 {
     name.iter().take_while(|b| **b == b'[').count()

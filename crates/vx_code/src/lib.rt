@@ -7,6 +7,8 @@ mod jumps;
 mod lookups;
 
 pub use entries::check_entries;
-pub use instructions::starts_of;
+pub use instructions::{dimensions, is_callable, starts_of};
 pub use jumps::{check_jumps, is_start};
-pub use lookups::{class_text, entry_of, is_array, is_class, is_usable, text};
+pub use lookups::{
+    class_text, entry_of, is_array, is_class, is_usable, member_descriptor, member_name, text,
+};
