@@ -1,0 +1,9 @@
+//! The shared heap of all configurations: objects, static fields and initialisation states, each with its value at each
+//! configuration, and the table of texts.
+#![tactic(auto)]
+
+pub mod heap;
+pub mod object;
+
+pub use heap::Heap;
+pub use object::HeapObject;
