@@ -1,22 +1,15 @@
 -- Laws that the trials use.
-use Rattle.std.proofs.Common.{◌≡◌, Bool, true, false, List, [], ◌∷◌, ◌++◌, refl, sym, ◌∙◌, ap, subst, length}
+use Rattle.std.proofs.Common.{◌≡◌, Bool, true, false, [], ◌∷◌, ◌++◌, refl, sym, ◌∙◌, ap, subst, length}
 use Rattle.std.specs.Prelude.{Option, None, ◌&&◌, not, if◌then◌else◌, is_some}
 use Rattle.std.specs.declared.cmp.Ordering.{Ordering}
 use Rattle.vx_space.specs.Sets.{Sets, IsSet, Extends}
 use Rattle.vx_space.proofs.Spaces.{Extends-trans}
 use Rattle.vx_cond.specs.Leaves.{value_within}
-use Rattle.vx_cond.specs.Cond.{Conditional, cond_at, IsCond, IsCondOf, IsCondLifting, IsCondLifting2, AreDisjoint, IsInside}
+use Rattle.vx_cond.specs.Cond.{Conditional, cond_at, IsCond, IsCondOf, AreDisjoint, IsInside}
 use Rattle.vx_cond.specs.Row.{Conditionals, IsRow}
 use Rattle.vx_cond.proofs.CondLaws.{IsCond-of, IsCond-extends, AreDisjoint-extends}
+use Rattle.vx_cond.proofs.LiftingLaws.{IsCond-lifting, IsCond-lifting2}
 use Rattle.vx_cond.proofs.RowSteps.{IsRow-empty, IsRow-push}
-
-pub IsCond-lifting : {T U S I : Type 0} (cmp : U → U → Ordering) (sets : Sets I) (R : T → U → Type 0) (value : List Bool → Option T) (cond : Conditional U S I) → IsCondLifting cmp sets R value cond → IsCond cmp sets cond
-unfolding IsCondLifting
-IsCond-lifting cmp sets R value cond v = v.is_cond
-
-pub IsCond-lifting2 : {T U V S I : Type 0} (cmp : V → V → Ordering) (sets : Sets I) (R : T → U → V → Type 0) (first : List Bool → Option T) (second : List Bool → Option U) (cond : Conditional V S I) → IsCondLifting2 cmp sets R first second cond → IsCond cmp sets cond
-unfolding IsCondLifting2
-IsCond-lifting2 cmp sets R first second cond v = v.is_cond
 
 not_both : (a b : Bool) → b ≡ true → (a && not b) ≡ false
 not_both true b h = ap not h
