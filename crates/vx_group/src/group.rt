@@ -8,7 +8,7 @@ ghost use Rattle.vx_frame.specs.Frame.{IsFrame, scope_of, side_at};
 use crate::callers::{Caller, Callers};
 use crate::joins::{Reach, frame_inside, join_callers};
 use crate::parts::Parts;
-use std::alloc::AllocError;
+use std::alloc::{AllocError, Global};
 use std::marker::Model;
 use std::mem;
 use vx_cond::{Cond, Projects};
@@ -82,16 +82,15 @@ impl<S: Space> Group<S> {
     ghost use Rattle.vx_group.specs.Group.{path_of, depth_of, key_of, stack_of, shapes_of, group_at, attempts_at, group_ids, IsGroup, IsGroupIn, IsGroupOf, IsPartOf, IsPopped};
 
     /// The group of one frame. The scope of the attempts is the path, and the frame's scope too.
-    pub fn new(attempts: Cond<u64, S>, frame: Frame<S>) -> Group<S>
+    pub fn new(alloc: Global, attempts: Cond<u64, S>, frame: Frame<S>) -> Group<S>
         requires scope { scope_of frame ≡ attempts.scope }
         requires operands { length frame.stack.conds < 2 ^ 32 }
         ensures { result ≡ record { attempts = attempts; top = frame; below = []; caller = None } }
     {
-        let below = Parts::new(attempts.allocator());
         Group {
             attempts,
             top: frame,
-            below,
+            below: Parts::new(alloc),
             caller: None,
         }
     }

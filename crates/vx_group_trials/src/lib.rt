@@ -2,6 +2,10 @@
 #![tactic(auto)]
 
 #[cfg(test)]
+mod callers;
+#[cfg(test)]
 mod groups;
 #[cfg(test)]
 mod tests;
+#[cfg(test)]
+mod tops;
