@@ -1,0 +1,49 @@
+//! What runs have come to, each with the configurations that have it: the texts that a round wrote, ends, numbers of
+//! attempts.
+#![tactic(auto)]
+
+pub mod piece;
+pub mod ranked;
+pub mod shared;
+
+pub use piece::Piece;
+pub use ranked::Ranked;
+pub use shared::{Shared, add};
+
+#[cfg(test)]
+mod tests {
+    use super::*;
+    use std::test::Fail;
+    use vx_space::{MaskSpace, Space};
+    use vx_value::{End, Name, Stream};
+
+    #[test]
+    fn a_value_stands_under_its_condition(rt: HostRuntime) -> Result<(), Fail> {
+        let alloc = rt.alloc();
+        let mut space = MaskSpace::new(1);
+        let on = space.option(0)?;
+        let mut list = Vec::new(alloc);
+        add(&mut space, &mut list, 3, on)?;
+        assert_eq!(rt; list.len(), 1);
+        assert_eq!(rt; list[0].value, 3);
+        assert!(rt; list[0].condition == on);
+        Ok(())
+    }
+
+    #[test]
+    fn ends_and_pieces_go_by_their_orders(rt: HostRuntime) -> Result<(), Fail> {
+        let alloc = rt.alloc();
+        let exit = End::Exit(-1);
+        assert!(rt; Ranked::compare(&End::Return, &exit).is_lt());
+        let out = Piece {
+            stream: Stream::Out,
+            text: Name::of(alloc, b"b")?,
+        };
+        let err = Piece {
+            stream: Stream::Err,
+            text: Name::of(alloc, b"a")?,
+        };
+        assert!(rt; out.compare(&err).is_lt());
+        Ok(())
+    }
+}
