@@ -3,3 +3,4 @@ pub mod Orders
 pub mod Members
 pub mod Rounds
 pub mod Projecting
+pub mod OpcodeRanges

@@ -2,7 +2,9 @@
 //! is named here. The one call states the law that joins single runs with all runs side by side.
 #![tactic(auto)]
 
+pub mod decoding;
 mod law;
+mod operand;
 mod operation;
 mod selected;
 

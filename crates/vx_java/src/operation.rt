@@ -78,7 +78,7 @@ pub enum Operation {
     IntShift(ShiftOp),
     LongShift(ShiftOp),
     /// `iinc`: a local variable and what is added to it.
-    Increase(u16, i16),
+    Increase(u16, i32),
     IntToLong,
     LongToInt,
     IntNarrow(Narrow),
@@ -114,7 +114,7 @@ pub enum Operation {
     Invoke(Mode, u16),
     New(u16),
     /// `newarray` with the number of its type, from 4 to 11.
-    NewPrimitives(u8),
+    NewPrimitives(u32),
     /// `anewarray`.
     NewReferences(u16),
     /// `multianewarray` with the number of its dimensions.
