@@ -4,3 +4,5 @@ pub mod Members
 pub mod Rounds
 pub mod Projecting
 pub mod OpcodeRanges
+pub mod Walks
+pub mod Chains

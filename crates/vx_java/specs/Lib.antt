@@ -22,3 +22,4 @@ pub mod Natives
 pub mod Step
 pub mod Lockstep
 pub mod Report
+pub mod Ids

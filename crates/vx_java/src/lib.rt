@@ -1,13 +1,29 @@
-//! The ordinary Java machine, for one configuration at a time: its definitions stand in specs/, and what an instruction does
-//! is named here. The one call states the law that joins single runs with all runs side by side.
+//! The ordinary Java machine, for one configuration at a time. Its definitions stand in specs/, and the code answers the machine's
+//! plain questions as they say: what an instruction does, and which class, field, method or place is meant. One call states the
+//! law that joins single runs with all runs side by side.
 #![tactic(auto)]
 
+mod arrays;
+mod assignability;
 pub mod decoding;
+mod fields;
+mod handlers;
+mod hierarchy;
+mod initialisation;
 mod law;
+mod naming;
 mod operand;
 mod operation;
+mod parts;
+mod places;
 mod selected;
 
+pub use assignability::assignable;
+pub use fields::resolve_field;
+pub use handlers::handler_for;
+pub use initialisation::{blocked, init_chain, quiet_chain};
 pub use law::lockstep_is_runs;
+pub use naming::class_named;
 pub use operation::{Element, Mode, Operation, Shuffle, Sort, Test};
+pub use places::place;
 pub use selected::Selected;

@@ -1,0 +1,13 @@
+use Rattle.std.proofs.Common.{◌≡◌, ◌++◌, map}
+use Rattle.vx_java.proofs.Chains.{begins_with}
+use Rattle.vx_java.proofs.Walks.{chain_from}
+use Rattle.vx_java.specs.Ids.{as_class}
+use Rattle.vx_java.specs.Initialisation.{init_chain}
+use Rattle.vx_java.proofs.initialisation.init_chain.Given as goal
+
+abbrev pub invariant-loop-left : goal.invariant-loop-left
+invariant-loop-left l =
+    map as_class (init_chain l.program l.states l.fn.class.0) ≡ l.chain.items ++ map as_class (begins_with l.states (chain_from l.program l.left l.next))
+
+abbrev pub decreases-loop-left : goal.decreases-loop-left
+decreases-loop-left l = l.left

@@ -1,0 +1,136 @@
+//! The parts of a program by their numbers. A number that the program doesn't have is that of a part without anything.
+
+ghost use Rattle.std.specs.Prelude.{◌≡◌};
+ghost use Rattle.vx_link.specs.ClassNames.{is_array};
+ghost use Rattle.vx_link.specs.Parts.{class_at, field_at, is_interface, method_at};
+
+use bitflags::Flags;
+use vx_link::{AccessFlags, Program};
+use vx_value::{ClassId, FieldId, MethodId};
+
+/// Whether a number is that of an array class, and of no class of the program.
+pub fn is_array(program: &Program, class: ClassId) -> bool
+    ensures { result ≡ is_array program.now class.0 }
+{
+    class.0 as usize >= program.classes.len()
+}
+
+/// The superclass of a class.
+pub fn superclass_of(program: &Program, class: ClassId) -> Option<ClassId>
+    ensures { result ≡ (class_at program.now class.0).superclass }
+{
+    match program.classes.get(class.0 as usize) {
+        Some(class) => class.superclass,
+        None => None,
+    }
+}
+
+/// The direct superinterfaces of a class.
+pub fn interfaces_of(program: &Program, class: ClassId) -> &[ClassId]
+    ensures { result.now ≡ (class_at program.now class.0).interfaces }
+{
+    match program.classes.get(class.0 as usize) {
+        Some(class) => class.interfaces.as_slice(),
+        None => &[],
+    }
+}
+
+/// The fields that a class declares.
+pub fn fields_of(program: &Program, class: ClassId) -> &[FieldId]
+    ensures { result.now ≡ (class_at program.now class.0).fields }
+{
+    match program.classes.get(class.0 as usize) {
+        Some(class) => class.fields.as_slice(),
+        None => &[],
+    }
+}
+
+/// The name of a field.
+pub fn name_of_field(program: &Program, field: FieldId) -> &[u8]
+    ensures { result.now ≡ (field_at program.now field.0).name }
+{
+    match program.fields.get(field.0 as usize) {
+        Some(field) => field.name.bytes(),
+        None => &[],
+    }
+}
+
+/// The descriptor of a field.
+pub fn descriptor_of_field(program: &Program, field: FieldId) -> &[u8]
+    ensures { result.now ≡ (field_at program.now field.0).descriptor }
+{
+    match program.fields.get(field.0 as usize) {
+        Some(field) => field.descriptor.bytes(),
+        None => &[],
+    }
+}
+
+/// Whether a class is an interface.
+pub fn is_interface(program: &Program, class: ClassId) -> bool
+    ensures { result ≡ is_interface program.now class.0 }
+{
+    match program.classes.get(class.0 as usize) {
+        Some(class) => class.flags.contains(AccessFlags::INTERFACE),
+        None => false,
+    }
+}
+
+/// Whether the class file of a class has a `<clinit>`.
+pub fn has_initialiser(program: &Program, class: ClassId) -> bool
+    ensures { result ≡ (class_at program.now class.0).own_initialiser }
+{
+    match program.classes.get(class.0 as usize) {
+        Some(class) => class.own_initialiser,
+        None => false,
+    }
+}
+
+/// The name of a class that is no array.
+pub fn name_of_class(program: &Program, class: ClassId) -> &[u8]
+    ensures { result.now ≡ (class_at program.now class.0).name }
+{
+    match program.classes.get(class.0 as usize) {
+        Some(class) => class.name.bytes(),
+        None => &[],
+    }
+}
+
+/// The class of a method.
+pub fn class_of_method(program: &Program, method: MethodId) -> ClassId
+    ensures { result ≡ (method_at program.now method.0).class }
+{
+    match program.methods.get(method.0 as usize) {
+        Some(method) => method.class,
+        None => ClassId(0),
+    }
+}
+
+/// The name of a method.
+pub fn name_of_method(program: &Program, method: MethodId) -> &[u8]
+    ensures { result.now ≡ (method_at program.now method.0).name }
+{
+    match program.methods.get(method.0 as usize) {
+        Some(method) => method.name.bytes(),
+        None => &[],
+    }
+}
+
+/// The descriptor of a method.
+pub fn descriptor_of_method(program: &Program, method: MethodId) -> &[u8]
+    ensures { result.now ≡ (method_at program.now method.0).descriptor }
+{
+    match program.methods.get(method.0 as usize) {
+        Some(method) => method.descriptor.bytes(),
+        None => &[],
+    }
+}
+
+/// The flags of a method.
+pub fn flags_of_method(program: &Program, method: MethodId) -> AccessFlags
+    ensures { result ≡ (method_at program.now method.0).flags }
+{
+    match program.methods.get(method.0 as usize) {
+        Some(method) => method.flags,
+        None => AccessFlags(0),
+    }
+}
