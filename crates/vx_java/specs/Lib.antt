@@ -23,3 +23,4 @@ pub mod Step
 pub mod Lockstep
 pub mod Report
 pub mod Ids
+pub mod Named

@@ -136,12 +136,12 @@ abbrev pub method_text : Program → LinkedMethod → List ℕ
 method_text p m = (class_at p m.class.0).name ++ (codes "." ++ (m.name ++ m.descriptor))
 
 -- CLASS.NAMEDESC@POSITION
-abbrev pub place_of : Program → (method position : ℕ) → List ℕ
-place_of p method position = method_text p (method_at p method) ++ (codes "@" ++ decimal position)
+abbrev pub place_at : Program → (method position : ℕ) → List ℕ
+place_at p method position = method_text p (method_at p method) ++ (codes "@" ++ decimal position)
 
 -- that of the frame on top
 abbrev pub place : Program → State → List ℕ
-place p s = place_of p s.top.method s.top.position
+place p s = place_at p s.top.method s.top.position
 
 abbrev pub illegal_in : Program → State → Outcome
 illegal_in p s = Ended (Illegal (place p s))

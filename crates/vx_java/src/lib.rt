@@ -16,6 +16,7 @@ mod operand;
 mod operation;
 mod parts;
 mod places;
+mod references;
 mod selected;
 
 pub use assignability::assignable;
@@ -26,4 +27,5 @@ pub use law::lockstep_is_runs;
 pub use naming::class_named;
 pub use operation::{Element, Mode, Operation, Shuffle, Sort, Test};
 pub use places::place;
+pub use references::{MemberReference, member};
 pub use selected::Selected;

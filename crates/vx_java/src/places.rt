@@ -1,7 +1,7 @@
 //! The place of an instruction, as reports name it.
 
 ghost use Rattle.std.specs.Prelude.{◌≡◌, ◌++◌, IfOk, OnOk};
-ghost use Rattle.vx_java.specs.Machine.{method_text, place_of};
+ghost use Rattle.vx_java.specs.Machine.{method_text, place_at};
 ghost use Rattle.vx_link.specs.Parts.{method_at};
 
 use crate::parts::{class_of_method, descriptor_of_method, name_of_class, name_of_method};
@@ -26,7 +26,7 @@ pub fn place(
     method: MethodId,
     position: u32,
 ) -> Result<Name, AllocError>
-    ensures { IfOk result (λ place. place ≡ place_of program.now method.0 position) }
+    ensures { IfOk result (λ place. place ≡ place_at program.now method.0 position) }
 {
     let mut text = Vec::new(alloc);
     put_method(&mut text, program, method)?;

@@ -12,6 +12,7 @@ pub mod linking;
 pub mod program;
 
 pub use access_flags::AccessFlags;
+pub use class_names::class_name;
 pub use core_list::CoreList;
 pub use fault::LinkFault;
 pub use files::Files;

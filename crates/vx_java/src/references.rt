@@ -1,0 +1,44 @@
+//! What a Fieldref, a Methodref or an InterfaceMethodref of a pool names (JVMS 4.4.2).
+
+ghost use Rattle.std.specs.Prelude.{◌≡◌};
+ghost use Rattle.vx_java.specs.Named.{in_bytes};
+ghost use Rattle.vx_link.specs.Names.{member, member_of};
+
+use vx_code::{entry_of, member_descriptor, member_name};
+use vx_link::class_name;
+use vx_pool::{Entry, Pool};
+
+/// A field or a method as an entry of a pool names it.
+#[derive(Clone, Copy, Debug)]
+pub struct MemberReference<'a> {
+    /// The class that is named, or the descriptor of an array.
+    pub class: &'a [u8],
+    pub name: &'a [u8],
+    pub descriptor: &'a [u8],
+    /// Whether an InterfaceMethodref names it.
+    pub by_interface: bool,
+}
+
+fn member_of(pool: &Pool, class: u16, typed: u16, by_interface: bool) -> MemberReference<'_>
+    ensures { in_bytes result ≡ member_of pool.now class typed by_interface }
+{
+    MemberReference {
+        class: class_name(pool, class),
+        name: member_name(pool, typed).unwrap_or(&[]),
+        descriptor: member_descriptor(pool, typed).unwrap_or(&[]),
+        by_interface,
+    }
+}
+
+/// The field or method that an entry names; where the entry names none, all its parts are empty.
+pub fn member(pool: &Pool, index: u16) -> MemberReference<'_>
+    ensures { in_bytes result ≡ member pool.now index }
+{
+    match entry_of(pool, index) {
+        Some(Entry::Field(class, typed) | Entry::Method(class, typed)) => {
+            member_of(pool, *class, *typed, false)
+        }
+        Some(Entry::InterfaceMethod(class, typed)) => member_of(pool, *class, *typed, true),
+        _ => member_of(pool, 0, 0, false),
+    }
+}
