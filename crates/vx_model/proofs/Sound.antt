@@ -1,5 +1,6 @@
 -- What is read from tokens is in the grammar.
 use Rattle.std.proofs.Common.{◌≡◌, ℕ, zero, suc, List, [], ◌∷◌, length, refl, sym, ap, ◌∙◌, subst, Option, Some, None}
+use Rattle.std.proofs.lemmas.Option.{same_Some}
 use Rattle.vx_model.specs.Formula.{Formula, formulas}
 use Rattle.vx_model.specs.Formula as tree
 use Rattle.vx_model.specs.Grammar.{Imp, Or, Ands, And, Nots, Not, IsRule, conjunction, disjunction}
@@ -154,12 +155,9 @@ atom_sound d (token.Or ∷ rest) to f e = cc
 atom_sound d (token.Arrow ∷ rest) to f e = cc
 atom_sound d (token.Other ∷ rest) to f e = cc
 
-some_is : (x y : Formula × List Token) → Some x ≡ Some y → x ≡ y
-some_is x y e = cc
-
 closed_is : (f g : Formula) (from to : List Token) → closed f from ≡ Some (g, to) → (f ≡ g) × (from ≡ token.Close ∷ to)
 closed_is f g [] to e = cc
-closed_is f g (token.Close ∷ rest) to e = let same = some_is (f, rest) (g, to) e in (ap (λ x. x.0) same, ap (λ x. token.Close ∷ x.1) same)
+closed_is f g (token.Close ∷ rest) to e = let same = same_Some (f, rest) (g, to) e in (ap (λ x. x.0) same, ap (λ x. token.Close ∷ x.1) same)
 closed_is f g (token.Not ∷ rest) to e = cc
 closed_is f g (token.Open ∷ rest) to e = cc
 closed_is f g (token.And ∷ rest) to e = cc
