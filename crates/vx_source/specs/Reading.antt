@@ -1,5 +1,6 @@
 -- What a line of a source gives: a value, or the least reason for which it is refused.
-use Rattle.std.specs.Prelude.{◌≡◌, ℕ, zero, suc, Bool, Result, Ok, Err, if◌then◌else◌}
+use Rattle.std.specs.Prelude.{ℕ, zero, suc, Bool, Option, None, Some, Result, Ok, Err, if◌then◌else◌}
+use Rattle.vx_list.specs.Answers as answers
 use Rattle.vx_source.specs.declared.fault.LineFault.{LineFault}
 use Rattle.vx_source.specs.declared.fault.LineFault.TheVariants as fault
 
@@ -23,15 +24,17 @@ steps step x (suc n) = do
   y ← step x
   steps step y n
 
+-- the reason, or none where memory ran out
+abbrev pub reason_seen : LineFault → Option ℕ
+reason_seen fault.NoMemory = None
+reason_seen (fault.Refused reason) = Some reason
+
 -- What a function returned is what reading gives, unless memory ran out.
 abbrev pub Fails : {A : Type 0} → LineFault → Read A → Type 0
-Fails fault.NoMemory read = Unit {0}
-Fails (fault.Refused reason) read = read ≡ Err reason
+Fails e read = answers.Fails (reason_seen e) read
 
 abbrev pub GivesBy : {X A : Type 0} → (X → A) → Result X LineFault → Read A → Type 0
-GivesBy view (Ok x) read = read ≡ Ok (view x)
-GivesBy view (Err e) read = Fails e read
+GivesBy view result read = answers.AnswersBy view reason_seen result read
 
 abbrev pub Gives : {A : Type 0} → Result A LineFault → Read A → Type 0
-Gives (Ok x) read = read ≡ Ok x
-Gives (Err e) read = Fails e read
+Gives result read = answers.Answers reason_seen result read
