@@ -1,5 +1,5 @@
 -- The pool of an assembled class: its constants in the order in which they are first needed, each once. An entry stands before those that it refers to.
-use Rattle.std.specs.Prelude.{ℕ, ◌+◌, ◌%◌, List, [], ◌∷◌, ◌++◌, length, sum_by, Bool, true, false, nat_lt, ◌&&◌, if◌then◌else◌}
+use Rattle.std.specs.Prelude.{ℕ, ◌+◌, ◌%◌, List, [], ◌∷◌, ◌++◌, length, sum_by, Bool, true, false, nat_lt, ◌&&◌, Option, Some, None, if◌then◌else◌}
 use Rattle.std.specs.List.{list_any, flat_map}
 use Rattle.std.specs.Str.{bytes_eq}
 use Rattle.std.specs.Ordering.{int_eq}
@@ -81,6 +81,11 @@ places pool = 1 + sum_by width pool
 -- an index as it stands in the file, by its lowest two bytes
 abbrev pub in_file : List Constant → Constant → ℕ
 in_file pool c = index_of pool c % 65536
+
+-- the same of a constant that may be absent: 0 stands for none
+abbrev pub in_file_or_zero : List Constant → Option Constant → ℕ
+in_file_or_zero pool None = 0
+in_file_or_zero pool (Some c) = in_file pool c
 
 -- ---- entries
 

@@ -5,7 +5,7 @@ use Rattle.std.specs.Int.{w16, w32, cast_unsigned}
 use Rattle.byteorder.specs.Endian.{big_bytes}
 use Rattle.vx_class.specs.Spelling.{u2}
 use Rattle.vx_opcode.specs.declared.instruction.Operand.TheVariants as plain
-use Rattle.vx_code.specs.Instructions.{local_of, is_long_local, dimensions}
+use Rattle.vx_code.specs.Instructions.{local_of, is_long_local, is_callable, dimensions}
 use Rattle.vx_source.specs.Reading.{Read, check}
 use Rattle.vx_source.specs.declared.statement.Operand.{Operand}
 use Rattle.vx_source.specs.declared.statement.Operand.TheVariants as operand
@@ -13,7 +13,7 @@ use Rattle.vx_source.specs.declared.statement.Member.{Member}
 use Rattle.vx_source.specs.declared.statement.Case.{Case}
 use Rattle.vx_source.specs.declared.statement.Instruction.{Instruction}
 use Rattle.vx_draft.specs.Bodies.{find_label}
-use Rattle.vx_draft.specs.Rules.{is_lawful_class, is_plain_class, is_lawful_field, is_lawful_method, is_callable, interface_slots, has_dimensions}
+use Rattle.vx_draft.specs.Rules.{is_lawful_class, is_plain_class, is_lawful_field, is_lawful_method, interface_slots, has_dimensions}
 use Rattle.vx_draft.specs.declared.labels.Labels.{Labels}
 use Rattle.vx_draft.specs.declared.constants.Constant.{Constant}
 use Rattle.vx_draft.specs.declared.constants.Constant.TheVariants as constant

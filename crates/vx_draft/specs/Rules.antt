@@ -1,10 +1,10 @@
 -- The rules that names, descriptors and flags of a source meet (JVMS 4.2, 4.3, 4.6, 4.9.1).
-use Rattle.std.specs.Prelude.{ℕ, ◌+◌, List, length, slice_index, Bool, true, false, not, nat_le, nat_lt, ◌==◌, ◌&&◌, ◌||◌, Option, Some, None, unwrap_or, if◌then◌else◌, codes}
+use Rattle.std.specs.Prelude.{ℕ, ◌+◌, List, length, Bool, true, false, not, nat_le, nat_lt, ◌==◌, ◌&&◌, ◌||◌, Option, Some, None, unwrap_or, if◌then◌else◌, codes}
 use Rattle.std.specs.Str.{bytes_eq}
 use Rattle.vx_desc.specs.declared.java_type.Base.{Base}
 use Rattle.vx_desc.specs.declared.java_type.Base.TheVariants as base
 use Rattle.vx_desc.specs.declared.java_type.JavaType.{JavaType}
-use Rattle.vx_desc.specs.Names.{is_field_name, is_method_name, is_init}
+use Rattle.vx_desc.specs.Names.{is_field_name, is_method_name}
 use Rattle.vx_desc.specs.Descriptors.{is_field_descriptor, is_method_descriptor, field_type, method_slots}
 use Rattle.vx_code.specs.Lookups.{is_array, is_class_text}
 use Rattle.vx_code.specs.Instructions.{dimensions}
@@ -81,10 +81,6 @@ is_lawful_code flags name descriptor None = not (takes_code flags name)
 is_lawful_code flags name descriptor (Some max_locals) = takes_code flags name && nat_le (slots_of flags name descriptor) max_locals
 
 -- ---- calls and arrays
-
--- a name that begins with < is called only by invokespecial, and is then <init>
-abbrev pub is_callable : ℕ → List ℕ → Bool
-is_callable op name = if slice_index name 0 == 60 then op == 0xb7 && is_init name else true
 
 -- the argument slots of invokeinterface with the receiver
 abbrev pub interface_slots : List ℕ → ℕ

@@ -1,9 +1,9 @@
 //! The constants of a class that is assembled, in the order in which they are first needed.
 
-ghost use Rattle.std.specs.Prelude.{◌≡◌, ◌+◌, ◌%◌, ◌≤◌, ◌<◌, ◌++◌, ◌∷◌, [], length, OnOk, IfOk};
+ghost use Rattle.std.specs.Prelude.{◌≡◌, ◌+◌, ◌%◌, ◌≤◌, ◌<◌, ◌++◌, ◌∷◌, [], length, option_copied, OnOk, IfOk};
 ghost use Rattle.std.specs.List.{list_any, flat_map};
 ghost use Rattle.std.specs.Str.{bytes_eq};
-ghost use Rattle.vx_draft.specs.Constants.{is_same_kind, is_same, with, with_text, with_class, with_literal, with_name_and_type, with_member, with_constant, width, index_of, places, in_file, text_entry, member_entry, entry_of, entries_of, pool_of};
+ghost use Rattle.vx_draft.specs.Constants.{is_same_kind, is_same, with, with_text, with_class, with_literal, with_name_and_type, with_member, with_constant, width, index_of, places, in_file, in_file_or_zero, text_entry, member_entry, entry_of, entries_of, pool_of};
 
 use std::alloc::{AllocError, Global};
 use vx_list::Items;
@@ -192,6 +192,16 @@ pub fn in_file(pool: &[Constant], constant: &Constant) -> u16
     ensures { result ≡ in_file pool.now constant.now }
 {
     (index_of(pool, constant) % 65_536) as u16
+}
+
+/// The index of a constant as it stands in the file, or 0 where there is no constant.
+pub fn in_file_or_zero(pool: &[Constant], constant: Option<&Constant>) -> u16
+    ensures { result ≡ in_file_or_zero pool.now (option_copied constant.entry) }
+{
+    match constant {
+        None => 0,
+        Some(constant) => in_file(pool, constant),
+    }
 }
 
 fn text_entry(alloc: Global, text: &[u8]) -> Result<Entry, AllocError>

@@ -10,10 +10,11 @@ ghost use Rattle.vx_draft.specs.Instructions.{number_of, is_known, leads, all_la
 
 use crate::labels::{Labels, find_label};
 use crate::rules::{
-    dimensions, has_dimensions, interface_slots, is_callable, is_lawful_class, is_lawful_field,
-    is_lawful_method, is_plain_class,
+    has_dimensions, interface_slots, is_lawful_class, is_lawful_field, is_lawful_method,
+    is_plain_class,
 };
 use std::alloc::{AllocError, Global};
+use vx_code::{dimensions, is_callable};
 use vx_source::{Case, Instruction, LineFault, Member, Operand, refused};
 use vx_value::Name;
 

@@ -10,8 +10,8 @@ mod labels;
 mod rules;
 
 pub use constants::{
-    Constant, Kind, class_index, in_file, index_of, places, pool_of, put_class, put_constant,
-    put_literal, put_long, put_member, put_number, put_text, text_index,
+    Constant, Kind, class_index, in_file, in_file_or_zero, index_of, places, pool_of, put_class,
+    put_constant, put_literal, put_long, put_member, put_number, put_text, text_index,
 };
 pub use drafting::{constant_of, draft_of};
 pub use drafts::{Draft, Row, all_reach, code_bytes, next_place, place_of};

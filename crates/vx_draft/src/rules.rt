@@ -1,15 +1,14 @@
 //! The rules that names, descriptors and flags of a source meet (JVMS 4.2, 4.3, 4.6, 4.9.1).
 
-ghost use Rattle.std.specs.Prelude.{◌≡◌, ◌+◌, ◌<◌, ◌≤◌, ◌^◌, length, take_while, IfOk, ◌==◌};
+ghost use Rattle.std.specs.Prelude.{◌≡◌, ◌+◌, ◌<◌, ◌≤◌, ◌^◌, length, IfOk, ◌==◌};
 ghost use Rattle.vx_desc.specs.Descriptors.{is_method_descriptor};
 ghost use Rattle.vx_code.specs.Lookups.{is_class_text};
-ghost use Rattle.vx_code.specs.Instructions.{dimensions};
 ghost use Rattle.vx_class.specs.Members.{takes_code, slots_of, is_lawful_initialiser};
-ghost use Rattle.vx_draft.specs.Rules.{is_short, is_lawful_class, is_plain_class, is_lawful_field, is_lawful_method, is_int_base, is_long_base, is_value_of_type, is_number_for, is_value_for, is_nothing, may_have_value, receiver, is_lawful_code, is_callable, interface_slots, has_dimensions};
+ghost use Rattle.vx_draft.specs.Rules.{is_short, is_lawful_class, is_plain_class, is_lawful_field, is_lawful_method, is_int_base, is_long_base, is_value_of_type, is_number_for, is_value_for, is_nothing, may_have_value, receiver, is_lawful_code, interface_slots, has_dimensions};
 
 use std::alloc::{AllocError, Global};
 use vx_class::{ABSTRACT, INTERFACE, NATIVE, STATIC, has};
-use vx_code::is_array;
+use vx_code::{dimensions, is_array};
 use vx_desc::{
     Base, JavaType, field_type, is_class_name, is_clinit, is_field_descriptor, is_field_name,
     is_init, is_method_name, method_slots, returns_nothing,
@@ -195,16 +194,6 @@ pub fn is_lawful_code(
     }
 }
 
-/// Whether an instruction may call a method of a name.
-pub fn is_callable(opcode: u8, name: &[u8]) -> bool
-    ensures { result ≡ is_callable opcode name.now }
-{
-    match name {
-        [b'<', ..] => opcode == 0xb7 && is_init(name),
-        _ => true,
-    }
-}
-
 /// The argument slots of a method of an interface with the receiver.
 pub fn interface_slots(alloc: Global, descriptor: &[u8]) -> Result<u16, AllocError>
     ensures { IfOk result (λ n. n ≡ interface_slots descriptor.now) }
@@ -220,11 +209,4 @@ pub fn has_dimensions(count: u8, name: &[u8]) -> bool
     ensures { result ≡ has_dimensions count name.now }
 {
     count >= 1 && usize::from(count) <= dimensions(name)
-}
-
-/// How many dimensions the text of a class begins with.
-pub fn dimensions(name: &[u8]) -> usize
-    ensures { result ≡ dimensions name.now }
-{
-    name.iter().take_while(|b| **b == b'[').count()
 }
