@@ -9,7 +9,7 @@ use Rattle.vx_source.specs.declared.statement.Statement.TheVariants as statement
 use Rattle.vx_source.specs.declared.statement.Instruction.{Instruction}
 use Rattle.vx_source.specs.declared.statement.CatchLine.{CatchLine}
 use Rattle.vx_draft.specs.Bodies.{find_label}
-use Rattle.vx_draft.specs.Constants.{with_constant, with_class, index_of, in_file}
+use Rattle.vx_draft.specs.Constants.{with_constant, with_class, index_of, in_file, in_file_or_zero}
 use Rattle.vx_draft.specs.Drafts.{next_place, code_bytes, all_reach}
 use Rattle.vx_draft.specs.Instructions.{number_of, is_known, leads, instruction_checked, constant_of, draft_of}
 use Rattle.vx_draft.specs.Rules.{is_lawful_class}
@@ -28,11 +28,6 @@ abbrev pub with_needed : List Constant → Option Constant → List Constant
 with_needed pool None = pool
 with_needed pool (Some c) = with_constant pool c
 
--- the index of that constant, or 0
-abbrev pub needed_index : List Constant → Option Constant → ℕ
-needed_index pool None = 0
-needed_index pool (Some c) = in_file pool c
-
 -- ldc has one byte for the index of its constant
 abbrev pub is_index_near : List Constant → ℕ → Option Constant → Bool
 is_index_near pool op None = true
@@ -40,7 +35,7 @@ is_index_near pool op (Some c) = not (op == 0x12) || nat_lt (index_of pool c) 25
 
 abbrev pub with_draft : Body → List Constant → Option Constant → Instruction → Body
 with_draft b pool needed i = record b {
-  drafts = b.drafts ++ draft_of b.labels (needed_index pool needed) i ∷ [];
+  drafts = b.drafts ++ draft_of b.labels (in_file_or_zero pool needed) i ∷ [];
   is_near = b.is_near && is_index_near pool i.opcode needed;
 }
 

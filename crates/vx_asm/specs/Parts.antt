@@ -17,7 +17,7 @@ use Rattle.vx_source.specs.declared.statement.Room.{Room}
 use Rattle.vx_source.specs.declared.statement.Value.{Value}
 use Rattle.vx_source.specs.declared.statement.Value.TheVariants as value
 use Rattle.vx_draft.specs.Bodies.{labels_of}
-use Rattle.vx_draft.specs.Constants.{with_text, with_class, with_constant, in_file}
+use Rattle.vx_draft.specs.Constants.{with_text, with_class, with_constant, in_file, in_file_or_zero}
 use Rattle.vx_draft.specs.Instructions.{is_of_version}
 use Rattle.vx_draft.specs.Rules.{is_lawful_class, is_plain_class, is_lawful_field, is_lawful_method, may_have_value, is_lawful_code}
 use Rattle.vx_draft.specs.declared.constants.Constant.{Constant}
@@ -120,16 +120,12 @@ abbrev pub with_value : List Constant → Option Constant → List Constant
 with_value pool None = pool
 with_value pool (Some c) = with_constant (with_text pool (codes "ConstantValue")) c
 
-abbrev pub value_index : List Constant → Option Constant → ℕ
-value_index pool None = 0
-value_index pool (Some c) = in_file pool c
-
 abbrev pub field_of : List Constant → Option Constant → FieldLine → Field
 field_of pool given line = record {
   flags = line.flags;
   name = in_file pool (constant.Text line.name);
   descriptor = in_file pool (constant.Text line.descriptor);
-  constant = value_index pool given;
+  constant = in_file_or_zero pool given;
 }
 
 unfoldable pub with_field : ClassDraft → FieldLine → ClassDraft

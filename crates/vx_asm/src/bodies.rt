@@ -3,12 +3,12 @@
 ghost use Rattle.std.specs.Prelude.{◌≡◌, ◌+◌, ◌<◌, ◌^◌, ◌&&◌, length, take, min, option_copied, is_some, OnOk, IfOk};
 ghost use Rattle.vx_source.specs.Reading.{Gives};
 ghost use Rattle.vx_draft.specs.Bodies.{find_label};
-ghost use Rattle.vx_asm.specs.Bodies.{with_needed, needed_index, is_index_near, with_draft, with_instruction, instruction_said, label_said, are_known, is_caught, is_lawful_row, covered, with_row, catch_said};
+ghost use Rattle.vx_asm.specs.Bodies.{with_needed, is_index_near, with_draft, with_instruction, instruction_said, label_said, are_known, is_caught, is_lawful_row, covered, with_row, catch_said};
 
 use crate::class_draft::{Body, ClassDraft, Covered};
 use std::alloc::{AllocError, Global};
 use vx_draft::{
-    Constant, Label, Labels, check_instruction, constant_of, draft_of, find_label, in_file,
+    Constant, Label, Labels, check_instruction, constant_of, draft_of, find_label, in_file_or_zero,
     index_of, is_known, is_lawful_class, leads, number_of, pushed, put_constant,
 };
 use vx_list::Items;
@@ -26,15 +26,6 @@ fn put_needed(
     match needed {
         None => Ok(()),
         Some(constant) => put_constant(alloc, pool, constant),
-    }
-}
-
-fn needed_index(pool: &[Constant], needed: Option<&Constant>) -> u16
-    ensures { result ≡ needed_index pool.now (option_copied needed.entry) }
-{
-    match needed {
-        None => 0,
-        Some(constant) => in_file(pool, constant),
     }
 }
 
@@ -57,7 +48,7 @@ fn with_draft(
 ) -> Result<Body, AllocError>
     ensures { IfOk result (λ b. b ≡ with_draft body pool.now (option_copied needed.entry) instruction.now) }
 {
-    let index = needed_index(pool, needed);
+    let index = in_file_or_zero(pool, needed);
     let draft = draft_of(alloc, &body.labels, index, instruction)?;
     let is_near = body.is_near && is_index_near(pool, instruction.opcode, needed);
     Ok(Body {

@@ -2,14 +2,15 @@
 
 ghost use Rattle.std.specs.Prelude.{◌≡◌, ◌<◌, ◌^◌, true, length, option_copied, OnOk, IfOk};
 ghost use Rattle.vx_source.specs.Reading.{Gives};
-ghost use Rattle.vx_asm.specs.Parts.{with_signature, is_text_value, constant_of_value, with_value, value_index, field_of, with_field, is_lawful_field_line, field_said};
+ghost use Rattle.vx_asm.specs.Parts.{with_signature, is_text_value, constant_of_value, with_value, field_of, with_field, is_lawful_field_line, field_said};
 
 use crate::class_draft::{ClassDraft, Stage};
 use crate::parts::{is_taken, may_have_field, signature_of};
 use std::alloc::{AllocError, Global};
 use vx_class::Field;
 use vx_draft::{
-    Constant, in_file, is_lawful_field, may_have_value, pushed, put_constant, put_text, text_index,
+    Constant, in_file_or_zero, is_lawful_field, may_have_value, pushed, put_constant, put_text,
+    text_index,
 };
 use vx_list::Items;
 use vx_source::{FieldLine, LineFault, Value, refused};
@@ -63,15 +64,6 @@ fn put_value(
     }
 }
 
-fn value_index(pool: &[Constant], given: Option<&Constant>) -> u16
-    ensures { result ≡ value_index pool.now (option_copied given.entry) }
-{
-    match given {
-        None => 0,
-        Some(constant) => in_file(pool, constant),
-    }
-}
-
 fn field_of(
     alloc: Global,
     pool: &[Constant],
@@ -84,7 +76,7 @@ fn field_of(
         flags: line.flags,
         name: text_index(alloc, pool, line.name.bytes())?,
         descriptor: text_index(alloc, pool, line.descriptor.bytes())?,
-        constant: value_index(pool, given),
+        constant: in_file_or_zero(pool, given),
     })
 }
 
