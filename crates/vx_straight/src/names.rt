@@ -3,10 +3,10 @@
 ghost use Rattle.std.specs.Prelude.{◌≡◌};
 ghost use Rattle.std.specs.Option.{option_copied};
 ghost use Rattle.vx_class.specs.Members.{is_given};
-ghost use Rattle.vx_code.specs.Lookups.{entry_of, member_name, member_descriptor};
+ghost use Rattle.vx_code.specs.Lookups.{entry_of};
 ghost use Rattle.vx_straight.specs.FirstClass.{reference, names_member, flag_named};
 
-use vx_code::{class_text, entry_of, text};
+use vx_code::{class_text, entry_of, member_descriptor, member_name};
 use vx_pool::{Entry, Pool};
 
 /// Whether a text was found and is this one.
@@ -27,26 +27,6 @@ fn reference(pool: &Pool, index: u16) -> Option<(u16, u16)>
         Some(Entry::Field(class, member) | Entry::Method(class, member)) => {
             Some((*class, *member))
         }
-        _ => None,
-    }
-}
-
-/// The name of a name and type.
-fn member_name(pool: &Pool, index: u16) -> Option<&[u8]>
-    ensures { option_copied result ≡ member_name pool.now index }
-{
-    match entry_of(pool, index) {
-        Some(Entry::NameAndType(name, _)) => text(pool, *name),
-        _ => None,
-    }
-}
-
-/// The descriptor of a name and type.
-fn member_descriptor(pool: &Pool, index: u16) -> Option<&[u8]>
-    ensures { option_copied result ≡ member_descriptor pool.now index }
-{
-    match entry_of(pool, index) {
-        Some(Entry::NameAndType(_, descriptor)) => text(pool, *descriptor),
         _ => None,
     }
 }
