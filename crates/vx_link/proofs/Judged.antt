@@ -1,5 +1,9 @@
 -- Faults in their order.
-use Rattle.std.proofs.Common.{ℕ, List, subst, sym, ◌≡◌, refl, ap, ◌∙◌, Bool, true, Option, None, ◌&&◌}
+use Rattle.std.proofs.Common.{ℕ, List, [], ◌∷◌, subst, sym, ◌≡◌, ◌<◌, refl, ap, ◌∙◌, Bool, true, false, Option, None, Ok, ◌&&◌, length, nat_lt, suc, arith}
+use Rattle.std.proofs.lemmas.Bool.Decides.{nat_tests}
+use Rattle.std.specs.List.{All, AllByRecursion, list_all}
+use Rattle.vx_class.specs.File.{Holds}
+use Rattle.vx_link.specs.Few.{HasFewMembers}
 use Rattle.std.specs.Option.{option_or}
 use Rattle.vx_class.specs.declared.class_file.ClassFile.{ClassFile}
 use Rattle.vx_link.specs.Answers.{IsFault, Fails}
@@ -61,3 +65,56 @@ pub fails_linked : (classes core : List ClassFile) (options : List OptionField) 
 fails_linked classes core options main f e h =
     let P : List ClassFile → Type 0 = λ cs. IsFault f (link_fault classes cs options main) in
     fails f (link_fault classes core_files options main) (program_of classes core_files native_numbers options main) (subst P e h)
+
+linked : (classes core : List ClassFile) (numbers : List (List ℕ)) (options : List OptionField) (main : List ℕ) (p : Program) → core ≡ core_files → numbers ≡ native_numbers → link_fault classes core options main ≡ None → p ≡ program_of classes core numbers options main → linked_program classes options main ≡ Ok p
+linked classes core numbers options main p e n h k =
+    ap (λ cs. unless_fault (link_fault classes cs options main) (program_of classes cs native_numbers options main)) (sym e)
+    ∙ ap (λ found. unless_fault found (program_of classes core native_numbers options main)) h
+    ∙ ap Ok (ap (λ ns. program_of classes core ns options main) (sym n) ∙ sym k)
+
+-- the program that was put together is what linking comes to
+pub links : (classes core folder rest : List ClassFile) (numbers : List (List ℕ)) (options given : List OptionField) (main : List ℕ) (p : Program)
+    → core ≡ core_files → numbers ≡ native_numbers → options ≡ given → folder ≡ classes → rest ≡ core
+    → link_fault classes core options main ≡ None
+    → p ≡ program_of folder rest numbers options main
+    → linked_program classes given main ≡ Ok p
+links classes core folder rest numbers options given main p e n o f r h k =
+    let P : List OptionField → Type 0 = λ os. linked_program classes os main ≡ Ok p in
+    subst P o
+    (linked classes core numbers options main p e n h
+    (k ∙ ap (λ cs. program_of cs rest numbers options main) f ∙ ap (λ cs. program_of classes cs numbers options main) r))
+
+-- ---- few members
+
+both-true : (a b : Bool) → (a && b) ≡ true → (a ≡ true) × (b ≡ true)
+both-true true b h = (refl, h)
+both-true false b h = cc
+
+few-members : (c : ClassFile) → (nat_lt (length c.methods) 65536 && nat_lt (length c.fields) 65536) ≡ true → HasFewMembers c
+few-members c h =
+    let b = both-true (nat_lt (length c.methods) 65536) (nat_lt (length c.fields) 65536) h in
+    record { methods = grind (arith, nat_tests, b.0); fields = grind (arith, nat_tests, b.1) }
+
+tested : (cs : List ClassFile) → list_all (λ c. nat_lt (length c.methods) 65536 && nat_lt (length c.fields) 65536) cs ≡ true → AllByRecursion HasFewMembers cs
+tested [] h = tt
+tested (c ∷ cs) h =
+    let b = both-true (nat_lt (length c.methods) 65536 && nat_lt (length c.fields) 65536) (list_all (λ k. nat_lt (length k.methods) 65536 && nat_lt (length k.fields) 65536) cs) h in
+    (few-members c b.0, tested cs b.1)
+
+core_members : AllByRecursion HasFewMembers core_files
+core_members = tested core_files refl
+
+pub few_in_core : (core : List ClassFile) → core ≡ core_files → AllByRecursion HasFewMembers core
+few_in_core core e = let P : List ClassFile → Type 0 = AllByRecursion HasFewMembers in subst P (sym e) core_members
+
+core-small : nat_lt (length core_files) 1024 ≡ true
+core-small = refl
+
+pub few_core : (core : List ClassFile) → core ≡ core_files → length core < 1024
+few_core core e = let s : length core_files < 1024 = grind (arith, nat_tests, core-small) in rw e s
+
+pub few_as_read : (cs : List ClassFile) → All Holds cs → AllByRecursion HasFewMembers cs
+few_as_read [] h = tt
+few_as_read (c ∷ cs) h =
+    let first : Holds c = h 0 c (omega arith) in
+    (record { methods = first.few_methods; fields = first.few_fields }, few_as_read cs (λ k d below. h (suc k) d (omega arith)))

@@ -12,3 +12,5 @@ pub mod Faults
 pub mod Linked
 pub mod Answers
 pub mod Tables
+pub mod Cells
+pub mod Few

@@ -11,6 +11,7 @@ use Rattle.vx_link.specs.Faults.{interface_names, is_interface_file, link_fault,
 use Rattle.vx_link.specs.Hierarchy.{superclasses}
 use Rattle.vx_link.specs.Names.{utf8}
 use Rattle.vx_link.specs.Parts.{field_at, fields_of, is_static_field}
+use Rattle.vx_link.specs.Tables.{names_of}
 use Rattle.vx_link.specs.declared.fault.LinkFault.{LinkFault}
 use Rattle.vx_link.specs.declared.program.LinkedClass.{LinkedClass}
 use Rattle.vx_link.specs.declared.program.LinkedField.{LinkedField}
@@ -18,6 +19,8 @@ use Rattle.vx_link.specs.declared.program.LinkedMethod.{LinkedMethod}
 use Rattle.vx_link.specs.declared.program.Program.{Program}
 use Rattle.vx_model.specs.declared.model.FieldPlace.{FieldPlace}
 use Rattle.vx_model.specs.declared.model.OptionField.{OptionField}
+use Rattle.vx_names.specs.Names.{place_of}
+use Rattle.vx_pool.specs.declared.pool.Pool.{Pool}
 use Rattle.vx_value.specs.declared.ids.ClassId.{ClassId}
 use Rattle.vx_value.specs.declared.ids.FieldId.{FieldId}
 use Rattle.vx_value.specs.declared.ids.MethodId.{MethodId}
@@ -42,22 +45,22 @@ own_clinit c = position (is_clinit_file c) c.methods
 abbrev pub method_count : ClassFile → ℕ
 method_count c = if is_some (own_clinit c) then length c.methods else length c.methods + 1
 
-abbrev pub linked_method : ℕ → ClassFile → Method → (native : ℕ) → LinkedMethod
-linked_method class c m native =
+abbrev pub linked_method : ℕ → Pool → Method → (native : ℕ) → LinkedMethod
+linked_method class pool m native =
     record {
       class = record { 0 = class };
-      name = utf8 c.pool m.name;
-      descriptor = utf8 c.pool m.descriptor;
-      flags = record { 0 = method_flags (utf8 c.pool m.name) m.flags };
+      name = utf8 pool m.name;
+      descriptor = utf8 pool m.descriptor;
+      flags = record { 0 = method_flags (utf8 pool m.name) m.flags };
       code = m.code;
       native = native;
     }
 
 -- the methods of a class file, with the numbers of the native ones
-abbrev pub linked_methods : ℕ → ClassFile → List Method → List ℕ → List LinkedMethod
-linked_methods class c [] numbers = []
-linked_methods class c (m ∷ ms) [] = linked_method class c m 0 ∷ linked_methods class c ms []
-linked_methods class c (m ∷ ms) (n ∷ ns) = linked_method class c m n ∷ linked_methods class c ms ns
+abbrev pub linked_methods : ℕ → Pool → List Method → List ℕ → List LinkedMethod
+linked_methods class pool [] numbers = []
+linked_methods class pool (m ∷ ms) [] = linked_method class pool m 0 ∷ linked_methods class pool ms []
+linked_methods class pool (m ∷ ms) (n ∷ ns) = linked_method class pool m n ∷ linked_methods class pool ms ns
 
 -- the method of a class without <clinit>, whose code is one return
 abbrev pub empty_clinit : ℕ → LinkedMethod
@@ -73,7 +76,7 @@ empty_clinit class =
 
 abbrev pub methods_of_class : ℕ → ClassFile → List ℕ → List LinkedMethod
 methods_of_class class c numbers =
-    linked_methods class c c.methods numbers ++ (if is_some (own_clinit c) then [] else empty_clinit class ∷ [])
+    linked_methods class c.pool c.methods numbers ++ (if is_some (own_clinit c) then [] else empty_clinit class ∷ [])
 
 -- the methods of the classes from a number on, one class after the other
 abbrev pub methods_from : ℕ → List ClassFile → List (List ℕ) → List LinkedMethod
@@ -122,16 +125,17 @@ method_ids from count = map (λ m. record { 0 = m }) (range_with_len from count)
 abbrev pub field_ids : (from count : ℕ) → List FieldId
 field_ids from count = map (λ f. record { 0 = f }) (range_with_len from count)
 
-abbrev pub class_id : List ClassFile → List ℕ → ClassId
-class_id all name = record { 0 = unwrap_or (position (λ c. bytes_eq (name_of c) name) all) 0 }
+-- the number of a class: the place of its name among the names of all
+abbrev pub class_id : (names : List (List ℕ)) → List ℕ → ClassId
+class_id names name = record { 0 = unwrap_or (place_of names name) 0 }
 
 -- a class whose methods and fields are numbered from these on
-abbrev pub linked_class : List ClassFile → ClassFile → (methods fields : ℕ) → LinkedClass
-linked_class all c methods fields =
+abbrev pub linked_class : (names : List (List ℕ)) → ClassFile → (methods fields : ℕ) → LinkedClass
+linked_class names c methods fields =
     record {
       name = name_of c;
-      superclass = option_map (class_id all) (super_name c);
-      interfaces = map (class_id all) (interface_names c);
+      superclass = option_map (class_id names) (super_name c);
+      interfaces = map (class_id names) (interface_names c);
       flags = record { 0 = c.flags };
       pool = c.pool;
       methods = method_ids methods (length c.methods);
@@ -140,10 +144,10 @@ linked_class all c methods fields =
       own_initialiser = is_some (own_clinit c);
     }
 
-abbrev pub linked_classes : List ClassFile → List ClassFile → (methods fields : ℕ) → List LinkedClass
-linked_classes all [] methods fields = []
-linked_classes all (c ∷ cs) methods fields =
-    linked_class all c methods fields ∷ linked_classes all cs (methods + method_count c) (fields + length c.fields)
+abbrev pub linked_classes : (names : List (List ℕ)) → List ClassFile → (methods fields : ℕ) → List LinkedClass
+linked_classes names [] methods fields = []
+linked_classes names (c ∷ cs) methods fields =
+    linked_class names c methods fields ∷ linked_classes names cs (methods + method_count c) (fields + length c.fields)
 
 -- ---- the layout of objects
 
@@ -196,21 +200,28 @@ methods_named classes main = flat_map (λ c. map (λ m. m.0) c.methods) (filter 
 abbrev pub main_method : List LinkedClass → List LinkedMethod → List ℕ → ℕ
 main_method classes methods main = unwrap_or (find (λ m. is_main_method (slice_get methods m)) (methods_named classes main)) 0
 
+-- the parts of a program, with its main and the fields of its options
+abbrev pub program_with : List LinkedClass → List LinkedMethod → List LinkedField → List OptionField → (main : List ℕ) → Program
+program_with classes methods fields options main =
+    record {
+      classes = classes;
+      methods = methods;
+      fields = fields;
+      main = record { 0 = main_method classes methods main };
+      options = option_fields fields options;
+    }
+
 -- the program of classes that have no fault: the folder's and then the core classes
 abbrev pub program_of : (classes core : List ClassFile) → (numbers : List (List ℕ)) → List OptionField → (main : List ℕ) → Program
 program_of classes core numbers options main =
     let all = classes ++ core in
-    let numbered = linked_classes all all 0 0 in
-    let methods = methods_from 0 classes [] ++ methods_from (length classes) core numbers in
-    let fields = fields_from options 0 all in
     with_layout
-    (record {
-      classes = numbered;
-      methods = methods;
-      fields = fields;
-      main = record { 0 = main_method numbered methods main };
-      options = option_fields fields options;
-    })
+    (program_with
+    (linked_classes (names_of all) all 0 0)
+    (methods_from 0 classes [] ++ methods_from (length classes) core numbers)
+    (fields_from options 0 all)
+    options
+    main)
 
 abbrev pub unless_fault : Option LinkFault → Program → Result Program LinkFault
 unless_fault (Some fault) p = Err fault

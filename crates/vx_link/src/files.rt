@@ -8,6 +8,7 @@ ghost use Rattle.vx_link.specs.Tables.{names_of, HaveOwnNames, twice_among};
 ghost use Rattle.vx_link.specs.Answers.{IsFault, Judges};
 
 use crate::class_names::name_of;
+use crate::class_numbers::ClassNumbers;
 use crate::fault::LinkFault;
 use std::alloc::{AllocError, Global};
 use vx_class::ClassFile;
@@ -19,10 +20,9 @@ use vx_value::Name;
 pub struct Files {
     pub classes: Vec<ClassFile>,
     pub core: Vec<ClassFile>,
-    folder_names: NameTable,
-    core_names: NameTable,
-    ghost folder_named: { folder_names ≡ names_of classes.items },
-    ghost core_named: { core_names ≡ names_of core.items },
+    pub numbers: ClassNumbers,
+    ghost folder_named: { numbers.folder ≡ names_of classes.items },
+    ghost core_named: { numbers.core ≡ names_of core.items },
 }
 
 fn names_of_core(alloc: Global, core: &[ClassFile]) -> Result<NameTable, AllocError>
@@ -73,8 +73,10 @@ impl Files {
             Ok(folder_names) => Ok(Files {
                 classes,
                 core,
-                folder_names,
-                core_names,
+                numbers: ClassNumbers {
+                    folder: folder_names,
+                    core: core_names,
+                },
             }),
             Err(fault) => Err(fault),
         }
@@ -84,23 +86,7 @@ impl Files {
     pub fn place_of(&self, name: &[u8]) -> Option<usize>
         ensures { result ≡ place_of (names_of (self.now.classes.items ++ self.now.core.items)) name.now }
     {
-        match self.folder_names.place_of(name) {
-            Some(place) => Some(place),
-            None => self.place_in_core(name),
-        }
-    }
-
-    fn place_in_core(&self, name: &[u8]) -> Option<usize>
-        ensures { result ≡ option_map (λ place. length self.now.folder_names + place) (place_of self.now.core_names name.now) }
-    {
-        let (before, count) = (self.folder_names.len(), self.core_names.len());
-        match self.core_names.place_of(name) {
-            Some(place) => {
-                prove!(place < count);
-                Some(before + place)
-            }
-            None => None,
-        }
+        self.numbers.place_of(name)
     }
 
     /// The class file of a place among the folder's and then the core classes.
@@ -133,7 +119,7 @@ impl Files {
     pub fn named_in_folder(&self, name: &[u8]) -> Option<&ClassFile>
         ensures { option_copied result ≡ file_named self.now.classes.items name.now }
     {
-        match self.folder_names.place_of(name) {
+        match self.numbers.folder.place_of(name) {
             Some(place) => self.in_folder(place),
             None => None,
         }

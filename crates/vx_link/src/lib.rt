@@ -4,12 +4,20 @@
 
 pub mod access_flags;
 mod class_names;
+mod class_numbers;
+mod classes;
 pub mod core_list;
+mod entries;
 pub mod fault;
+mod fields;
 mod files;
 mod judging;
+mod layout;
 pub mod linking;
+mod methods;
+mod parts;
 pub mod program;
+mod whole;
 
 pub use access_flags::AccessFlags;
 pub use class_names::class_name;

@@ -14,6 +14,7 @@ use crate::fault::LinkFault;
 use crate::files::Files;
 use crate::judging::judge;
 use crate::program::Program;
+use crate::whole::program_of;
 use std::alloc::Global;
 use vx_class::ClassFile;
 use vx_model::{Model, OptionField};
@@ -55,8 +56,7 @@ pub fn linkable(
 }
 
 /// The program of a folder's classes with the core classes and the options of a model, whose `main` is that of the named
-/// class, or the first fault of the classes. The name has `/` between its parts. No program is built yet: where there is no
-/// fault the answer is want of memory.
+/// class, or the first fault of the classes. The name has `/` between its parts.
 pub fn link(
     alloc: Global,
     classes: Vec<ClassFile>,
@@ -71,8 +71,13 @@ pub fn link(
     requires model { IsModel model.now }
     ensures { Answers result (linked_program classes.items model.now.options main.now) }
 {
-    match linkable(alloc, classes, core, model, main) {
-        Ok(_files) => Err(LinkFault::NoMemory),
+    let CoreList {
+        classes: core,
+        natives,
+    } = core;
+    let options = model.options.as_slice();
+    match judged(alloc, classes, core.into_vec(), options, main) {
+        Ok(files) => Ok(program_of(alloc, files, natives.as_slice(), options, main)?),
         Err(fault) => Err(fault),
     }
 }
