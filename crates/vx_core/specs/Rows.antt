@@ -14,7 +14,7 @@ use Rattle.vx_core.specs.declared.row.Instruction.TheVariants.{Jump, Ldc, Naming
 use Rattle.vx_core.specs.declared.row.MethodRow.{MethodRow}
 use Rattle.vx_core.specs.declared.row.Reference.{Reference}
 use Rattle.vx_core.specs.declared.row.Reference.TheVariants as Named
-use Rattle.vx_link.specs.Written.{two_bytes}
+use Rattle.vx_link.specs.Written.{super_index, two_bytes}
 use Rattle.vx_pool.specs.declared.pool.Entry.{Entry}
 use Rattle.vx_pool.specs.declared.pool.Entry.TheVariants as Entries
 
@@ -123,10 +123,6 @@ unfoldable pub with_method_file : (start references : ℕ) → List Method → M
 with_method_file start references files m =
     let at = part_index start 2 (length files) in
     files ++ record { flags = m.flags; name = at; descriptor = low (at + 1); code = row_code references m.how } ∷ []
-
-unfoldable pub super_index : Option (Bor (List ℕ)) → ℕ
-super_index None = 0
-super_index (Some name) = 3
 
 unfoldable pub row_file : ClassRow → ClassFile
 row_file c =

@@ -1,7 +1,7 @@
 //! The class file of a row of the table.
 
 ghost use Rattle.std.specs.Prelude.{◌≡◌, [], IfOk, fold};
-ghost use Rattle.vx_core.specs.Rows.{super_index};
+ghost use Rattle.vx_link.specs.Written.{super_index};
 ghost use Rattle.vx_core.specs.Rows.{head_pool, with_interface, with_field_file, with_method_file, row_file};
 
 use crate::body::{code_of, part_index};
@@ -83,7 +83,6 @@ fn method_files(
 }
 
 /// The index of the superclass, or 0 where there is none.
-#[tactic(auto, unfolding(crate::specs::Rows::super_index))]
 fn super_index(superclass: Option<&str>) -> u16
     ensures { result ≡ super_index superclass.entry }
 {

@@ -165,7 +165,8 @@ method_files at references [] = []
 method_files at references (m ∷ ms) =
     record { flags = m.flags; name = at; descriptor = at + 1; code = code_file references m.how } ∷ method_files (at + 2) references ms
 
-abbrev pub super_index : Option String → ℕ
+-- the class has entries 1 and 2 of the pool, and its superclass, where it has one, 3 and 4
+abbrev pub super_index : {A : Type 0} → Option A → ℕ
 super_index None = 0
 super_index (Some name) = 3
 
