@@ -104,4 +104,14 @@ impl<S: Space> Outcomes<S> {
         self.items.push(outcome)?;
         Ok(())
     }
+
+    /// Appends the outcomes of another part of the path. Want of memory leaves them as they were.
+    pub fn append(&mut self, other: Outcomes<S>) -> Result<(), AllocError>
+        ensures ok { OnOk result (self.new.items.items ≡ self.old.items.items ++ other.items.items) }
+        ensures err { OnErr result (self.new.items.items ≡ self.old.items.items) }
+    {
+        let mut items = other.items;
+        self.items.append(&mut items)?;
+        Ok(())
+    }
 }

@@ -1,0 +1,9 @@
+pub mod StateLaws
+pub mod OutcomeStates
+pub mod Gathering
+pub mod EndingLaws
+pub mod Fitting
+pub mod SettleLaws
+pub mod AnswerLaws
+pub mod PartLaws
+pub mod KindLaws

@@ -1,0 +1,5 @@
+pub mod Stands
+pub mod Answering
+pub mod Answers
+pub mod Sites
+pub mod Widths

@@ -1,0 +1,15 @@
+//! What a shared state stands for at a configuration, and how an attempt ends in a part of a group: what the families of
+//! instructions share.
+#![tactic(auto)]
+
+pub mod answer;
+pub mod answering;
+pub mod endings;
+pub mod settling;
+pub mod site;
+
+pub use answer::Answer;
+pub use answering::carry_out;
+pub use endings::{illegal, pass};
+pub use settling::{settle, stack_size};
+pub use site::Site;
