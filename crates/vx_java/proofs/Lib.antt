@@ -6,3 +6,4 @@ pub mod Projecting
 pub mod OpcodeRanges
 pub mod Walks
 pub mod Chains
+pub mod Specifics

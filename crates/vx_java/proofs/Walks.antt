@@ -159,3 +159,44 @@ among_in_chain n below p count next c above is more up =
 pub numbers_back : (o : Option ℕ) → number_of (option_map as_class o) ≡ o
 numbers_back None = refl
 numbers_back (Some n) = refl
+
+-- ---- answers without a wrapper
+
+none_first : (f : ℕ → Option ℕ) (x : ℕ) (ys : List ℕ) → None ≡ f x → first_given f (x ∷ ys) ≡ first_given f ys
+none_first f x ys own = first_none f (x ∷ []) ys (by_own (f x) own)
+  where
+    by_own : (o : Option ℕ) → None ≡ o → ◌≡◌ {A = Option ℕ} (elim o [ Some m ↦ Some m | None ↦ None ]) None
+    by_own (Some m) own = absurd cc
+    by_own None own = refl
+
+pub given_at : (f : ℕ → Option ℕ) (below : ℕ → List ℕ) (classes : List ClassId) (i : ℕ) (d : ClassId) (r : ℕ) → i < length classes
+    → None ≡ f (get_or classes i d).0 → Some r ≡ first_given f (below (get_or classes i d).0)
+    → Some r ≡ first_given f (with_below below (numbers_from i classes))
+given_at f below classes i d r within own some =
+    let c = (get_or classes i d).0 in
+    sym
+    (ap (λ cs. first_given f (with_below below cs)) (numbers_step classes i d within)
+    ∙ first_some f (c ∷ below c) (with_below below (numbers_from (i + 1) classes)) r (none_first f c (below c) own ∙ sym some))
+
+pub passed_at : (f : ℕ → Option ℕ) (below : ℕ → List ℕ) (classes : List ClassId) (i : ℕ) (d : ClassId) → i < length classes
+    → None ≡ f (get_or classes i d).0 → None ≡ first_given f (below (get_or classes i d).0)
+    → first_given f (with_below below (numbers_from i classes)) ≡ first_given f (with_below below (numbers_from (i + 1) classes))
+passed_at f below classes i d within own none =
+    let c = (get_or classes i d).0 in
+    ap (λ cs. first_given f (with_below below cs)) (numbers_step classes i d within)
+    ∙ first_none f (c ∷ below c) (with_below below (numbers_from (i + 1) classes)) (none_first f c (below c) own ∙ sym none)
+
+pub given_in_chain : (f : ℕ → Option ℕ) (below : ℕ → List ℕ) (p : Program) (n : ℕ) (next : Option ClassId) (c : ClassId) (r : ℕ) → next ≡ Some c → 0 < n → Some r ≡ first_given f (below c.0)
+    → Some r ≡ first_given f (flat_map below (chain_from p n next))
+given_in_chain f below p n next c r is more some =
+    let above = (class_at p c.0).superclass in
+    sym
+    (ap (λ cs. first_given f (flat_map below cs)) (chain_row p n next c above is more refl)
+    ∙ first_some f (below c.0) (flat_map below (chain_from p (n - 1) above)) r (sym some))
+
+pub passed_in_chain : (f : ℕ → Option ℕ) (below : ℕ → List ℕ) (p : Program) (n : ℕ) (next : Option ClassId) (c : ClassId) (above : Option ClassId) → next ≡ Some c → 0 < n
+    → above ≡ (class_at p c.0).superclass → None ≡ first_given f (below c.0)
+    → first_given f (flat_map below (chain_from p n next)) ≡ first_given f (flat_map below (chain_from p (n - 1) above))
+passed_in_chain f below p n next c above is more up none =
+    ap (λ cs. first_given f (flat_map below cs)) (chain_row p n next c above is more up)
+    ∙ first_none f (below c.0) (flat_map below (chain_from p (n - 1) above)) (sym none)

@@ -24,3 +24,4 @@ pub mod Lockstep
 pub mod Report
 pub mod Ids
 pub mod Named
+pub mod Specific

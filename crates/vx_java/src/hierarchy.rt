@@ -1,7 +1,7 @@
 //! Superclasses and superinterfaces (JVMS 4.1, 5.3.5).
 
 ghost use Rattle.std.specs.Prelude.{◌≡◌};
-ghost use Rattle.vx_link.specs.Hierarchy.{interfaces_within, is_among, superclasses, superinterfaces};
+ghost use Rattle.vx_link.specs.Hierarchy.{interfaces_below, interfaces_within, is_among, superclasses, superinterfaces};
 
 use crate::parts::{interfaces_of, superclass_of};
 use vx_link::Program;
@@ -58,4 +58,11 @@ pub fn is_superclass(program: &Program, wanted: usize, class: ClassId) -> bool
         left -= 1;
     }
     false
+}
+
+/// Whether a class stands among the direct superinterfaces of another and those of these.
+pub fn is_declared_above(program: &Program, wanted: usize, class: ClassId) -> bool
+    ensures { result ≡ is_among wanted (interfaces_below program.now class.0) }
+{
+    is_below(program, wanted, class, program.classes.len())
 }

@@ -46,6 +46,17 @@ pub fn object_class(program: &Program) -> usize
     place_of_class(program, b"java/lang/Object").unwrap_or(0)
 }
 
+/// The core class Object, or class 0 where it isn't there.
+pub fn object_id(program: &Program) -> ClassId
+    requires { HasClassNumbers program.now }
+    ensures { result.0 ≡ object_class program.now }
+{
+    match place_of_class(program, b"java/lang/Object") {
+        Some(place) => ClassId(place as u32),
+        None => ClassId(0),
+    }
+}
+
 /// The place of the core interface Cloneable, or 0 where it isn't there.
 pub fn cloneable_class(program: &Program) -> usize
     ensures { result ≡ core_class program.now "java/lang/Cloneable" }

@@ -134,3 +134,13 @@ pub fn flags_of_method(program: &Program, method: MethodId) -> AccessFlags
         None => AccessFlags(0),
     }
 }
+
+/// The methods that a class declares.
+pub fn methods_of(program: &Program, class: ClassId) -> &[MethodId]
+    ensures { result.now ≡ (class_at program.now class.0).methods }
+{
+    match program.classes.get(class.0 as usize) {
+        Some(class) => class.methods.as_slice(),
+        None => &[],
+    }
+}

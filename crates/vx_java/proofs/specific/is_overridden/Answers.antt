@@ -1,0 +1,12 @@
+use Rattle.std.proofs.Common.{◌∙◌, ap}
+use Rattle.std.specs.Prelude.{is_some}
+use Rattle.vx_java.proofs.Specifics.{some_first}
+use Rattle.vx_java.specs.Specific.{overrides}
+use Rattle.vx_link.specs.Hierarchy.{superinterfaces}
+use Rattle.vx_java.proofs.specific.is_overridden.Goals as goal
+
+pub returns : goal.returns
+returns c =
+    let p = c.args.program.now in
+    let s = c.args.signature.now in
+    c.is_some.ensures ∙ ap is_some c.ask_superinterfaces.ensures ∙ some_first (overrides p s.name.now s.descriptor.now c.args.interface.0) (superinterfaces p c.args.class.0)

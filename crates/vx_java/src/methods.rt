@@ -1,0 +1,112 @@
+//! Methods by their names and descriptors, in classes and in superinterfaces.
+
+ghost use Rattle.std.specs.Prelude.{◌≡◌, ◌&&◌, bytes_eq, option_map};
+ghost use Rattle.vx_java.specs.Ids.{as_method};
+ghost use Rattle.vx_java.specs.Specific.{passes};
+ghost use Rattle.vx_link.specs.Hierarchy.{superclasses};
+ghost use Rattle.vx_link.specs.Parts.{is_inherited, method_at};
+ghost use Rattle.vx_link.specs.Resolution.{first_given, own_method};
+
+use crate::parts::{
+    descriptor_of_method, flags_of_method, methods_of, name_of_method, superclass_of,
+};
+use crate::questions::Question;
+use bitflags::Flags;
+use vx_link::{AccessFlags, Program};
+use vx_value::{ClassId, MethodId};
+
+/// The name and the descriptor of a method.
+#[derive(Clone, Copy)]
+pub struct Signature<'a> {
+    pub name: &'a [u8],
+    pub descriptor: &'a [u8],
+}
+
+/// The methods that a search takes.
+#[derive(Clone, Copy)]
+pub enum Among {
+    All,
+    /// Those that are neither private nor static.
+    Inherited,
+    /// Those that are not static.
+    Instance,
+}
+
+fn passes(program: &Program, among: Among, method: MethodId) -> bool
+    ensures { result ≡ passes among (method_at program.now method.0) }
+{
+    let flags = flags_of_method(program, method);
+    match among {
+        Among::All => true,
+        Among::Inherited => {
+            !flags.contains(AccessFlags::PRIVATE) && !flags.contains(AccessFlags::STATIC)
+        }
+        Among::Instance => !flags.contains(AccessFlags::STATIC),
+    }
+}
+
+fn is_method(program: &Program, among: Among, signature: &Signature, method: MethodId) -> bool
+    ensures { result ≡ (bytes_eq (method_at program.now method.0).name signature.now.name.now && (bytes_eq (method_at program.now method.0).descriptor signature.now.descriptor.now && passes among (method_at program.now method.0))) }
+{
+    name_of_method(program, method) == signature.name
+        && descriptor_of_method(program, method) == signature.descriptor
+        && passes(program, among, method)
+}
+
+/// The method that a class declares.
+pub fn own_method(
+    program: &Program,
+    among: Among,
+    signature: &Signature,
+    class: ClassId,
+) -> Option<MethodId>
+    ensures { result ≡ option_map as_method (own_method program.now (passes among) signature.now.name.now signature.now.descriptor.now class.0) }
+{
+    for method in methods_of(program, class) {
+        if is_method(program, among, signature, *method) {
+            return Some(*method);
+        }
+    }
+    None
+}
+
+/// The method of a class or of the first of its superclasses that declares one.
+pub fn inherited_method(
+    program: &Program,
+    among: Among,
+    signature: &Signature,
+    class: ClassId,
+) -> Option<MethodId>
+    ensures { result ≡ option_map as_method (first_given (own_method program.now (passes among) signature.now.name.now signature.now.descriptor.now) (superclasses program.now class.0)) }
+{
+    let mut left = program.classes.len();
+    let mut next = Some(class);
+    while left > 0 {
+        let Some(class) = next else {
+            return None;
+        };
+        if let Some(method) = own_method(program, among, signature, class) {
+            return Some(method);
+        }
+        next = superclass_of(program, class);
+        left -= 1;
+    }
+    None
+}
+
+/// Whether an interface declares a method that is neither private nor static.
+#[derive(Clone, Copy)]
+pub struct Declares<'a> {
+    pub signature: Signature<'a>,
+}
+
+impl<'a> Question for Declares<'a> {
+    ghost answer = { λ s p i. own_method p is_inherited s.signature.name.now s.signature.descriptor.now i };
+
+    fn ask(&self, program: &Program, class: ClassId) -> Option<u32> {
+        match own_method(program, Among::Inherited, &self.signature, class) {
+            Some(method) => Some(method.0),
+            None => None,
+        }
+    }
+}
