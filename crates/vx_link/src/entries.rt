@@ -5,14 +5,11 @@ ghost use Rattle.std.specs.List.{range_with_len};
 ghost use Rattle.vx_link.specs.Linked.{is_main_method, methods_named, main_method, is_option, option_field};
 ghost use Rattle.vx_link.specs.Cells.{main_in};
 
+use crate::judging::{MAIN, MAIN_DESCRIPTOR};
 use crate::program::{LinkedClass, LinkedField, LinkedMethod};
 use std::alloc::{AllocError, Global};
 use vx_list::Items;
 use vx_value::{FieldId, MethodId};
-
-const MAIN: &[u8] = b"main";
-
-const MAIN_DESCRIPTOR: &[u8] = b"([Ljava/lang/String;)V";
 
 fn is_main_method(methods: &[LinkedMethod], number: MethodId) -> bool
     ensures { result ≡ is_main_method (slice_get methods.now number.0) }

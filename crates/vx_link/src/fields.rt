@@ -7,13 +7,12 @@ ghost use Rattle.vx_link.specs.Linked.{is_place, option_of, field_flags, linked_
 
 use crate::access_flags::AccessFlags;
 use crate::class_names::{is_interface, name_of, utf8};
+use crate::judging::BOOLEAN;
 use crate::program::LinkedField;
 use std::alloc::{AllocError, Global};
 use vx_class::{ClassFile, Field};
 use vx_model::{FieldPlace, OptionField};
 use vx_value::{ClassId, Name};
-
-const BOOLEAN: &[u8] = b"Z";
 
 const STATIC: u16 = 0x0008;
 

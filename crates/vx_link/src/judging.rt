@@ -22,11 +22,14 @@ use vx_value::Name;
 
 const OBJECT: &[u8] = b"java/lang/Object";
 
-const BOOLEAN: &[u8] = b"Z";
+/// The descriptor of a boolean.
+pub const BOOLEAN: &[u8] = b"Z";
 
-const MAIN: &[u8] = b"main";
+/// The name of the method with which a run begins.
+pub const MAIN: &[u8] = b"main";
 
-const MAIN_DESCRIPTOR: &[u8] = b"([Ljava/lang/String;)V";
+/// Its descriptor.
+pub const MAIN_DESCRIPTOR: &[u8] = b"([Ljava/lang/String;)V";
 
 /// Whether the superclass of a class is there and no interface, and that of an interface is Object.
 fn super_fits(files: &Files, class: &ClassFile) -> bool
