@@ -8,4 +8,6 @@ mod frames;
 #[cfg(test)]
 mod rows;
 #[cfg(test)]
+mod sets;
+#[cfg(test)]
 mod tests;

@@ -1,4 +1,4 @@
-use crate::{conds, frames, rows};
+use crate::{conds, frames, rows, sets};
 use std::test::Fail;
 use vx_bdd::BddSpace;
 use vx_space::MaskSpace;
@@ -45,5 +45,23 @@ fn frames_of_a_method(rt: HostRuntime) -> Result<(), Fail> {
     let (mut masks, mut diagrams) = (MaskSpace::new(2), BddSpace::new(alloc, 2)?);
     frames::frames_joined(&rt, alloc, &mut masks)?;
     frames::frames_joined(&rt, alloc, &mut diagrams)?;
+    Ok(())
+}
+
+#[test]
+fn options_of_sets(rt: HostRuntime) -> Result<(), Fail> {
+    let alloc = rt.alloc();
+    let (mut masks, mut diagrams) = (MaskSpace::new(2), BddSpace::new(alloc, 2)?);
+    sets::supported(&rt, alloc, &mut masks)?;
+    sets::supported(&rt, alloc, &mut diagrams)?;
+    Ok(())
+}
+
+#[test]
+fn members_of_sets(rt: HostRuntime) -> Result<(), Fail> {
+    let alloc = rt.alloc();
+    let (mut masks, mut diagrams) = (MaskSpace::new(2), BddSpace::new(alloc, 2)?);
+    sets::chosen(&rt, alloc, &mut masks)?;
+    sets::chosen(&rt, alloc, &mut diagrams)?;
     Ok(())
 }
