@@ -1,0 +1,81 @@
+ghost use Rattle.std.specs.Prelude.{◌≡◌, All, IfOk, length};
+ghost use Rattle.vx_class.specs.File.{Holds};
+
+use std::test::Fail;
+use vx_class::{ClassFile, read_class};
+use vx_core::core;
+use vx_link::{Program, link};
+use vx_model::read_model;
+use vx_value::{ClassId, FieldId, MethodId};
+
+/// The class `Base`, below `java/lang/Object`, with the fields `int a`, `static int s` and `long b`, and no method.
+const BASE: &[u8] =
+    b"\xca\xfe\xba\xbe\x00\x00\x003\x00\x0a\x01\x00\x04Base\x07\x00\x01\x01\x00\x10java/lang/Object\x07\x00\x03\x01\x00\x01a\x01\x00\x01I\x01\x00\x01s\x01\x00\x01b\x01\x00\x01J\x00!\x00\x02\x00\x04\x00\x00\x00\x03\x00\x00\x00\x05\x00\x06\x00\x00\x00\x08\x00\x07\x00\x06\x00\x00\x00\x00\x00\x08\x00\x09\x00\x00\x00\x00\x00\x00";
+
+/// The class `Main`, below `Base`, with the fields `static boolean X` and `int c`, and with `main`.
+const MAIN: &[u8] =
+    b"\xca\xfe\xba\xbe\x00\x00\x003\x00\x0c\x01\x00\x04Main\x07\x00\x01\x01\x00\x04Base\x07\x00\x03\x01\x00\x01X\x01\x00\x01Z\x01\x00\x01c\x01\x00\x01I\x01\x00\x04main\x01\x00\x16([Ljava/lang/String;)V\x01\x00\x04Code\x00!\x00\x02\x00\x04\x00\x00\x00\x02\x00\x09\x00\x05\x00\x06\x00\x00\x00\x00\x00\x07\x00\x08\x00\x00\x00\x01\x00\x09\x00\x09\x00\x0a\x00\x01\x00\x0b\x00\x00\x00\x0d\x00\x00\x00\x01\x00\x00\x00\x01\xb1\x00\x00\x00\x00\x00\x00";
+
+/// The two classes in ascending path.
+fn folder(rt: &HostRuntime) -> Result<Vec<ClassFile>, Fail>
+    ensures few { IfOk result (λ classes. length classes.items ≡ 2) }
+    ensures read { IfOk result (λ classes. All Holds classes.items) }
+{
+    let base = read_class(rt.alloc(), BASE)?;
+    let main = read_class(rt.alloc(), MAIN)?;
+    let mut classes = Vec::new(rt.alloc());
+    classes.push(base)?;
+    classes.push(main)?;
+    Ok(classes)
+}
+
+/// The program of the folder, whose option `X` is the field of `Main`.
+fn program(rt: &HostRuntime) -> Result<Program, Fail> {
+    let classes = folder(rt)?;
+    let core = core(rt.alloc())?;
+    let model = read_model(rt.alloc(), b"option X Main X\noption Y\n")?;
+    Ok(link(rt.alloc(), classes, core, &model, b"Main")?)
+}
+
+fn cell_of(program: &Program, number: usize) -> Option<u32> {
+    match program.fields.get(number) {
+        Some(field) => Some(field.cell),
+        None => None,
+    }
+}
+
+#[test]
+fn main_stands_behind_the_initialiser_of_the_class_before(rt: HostRuntime) -> Result<(), Fail> {
+    let program = program(&rt)?;
+    assert!(&rt; program.main == MethodId(1));
+    Ok(())
+}
+
+#[test]
+fn cells_of_a_superclass_come_first(rt: HostRuntime) -> Result<(), Fail> {
+    let program = program(&rt)?;
+    assert!(&rt; cell_of(&program, 0) == Some(0));
+    assert!(&rt; cell_of(&program, 1) == Some(0));
+    assert!(&rt; cell_of(&program, 2) == Some(1));
+    assert!(&rt; cell_of(&program, 3) == Some(0));
+    assert!(&rt; cell_of(&program, 4) == Some(2));
+    Ok(())
+}
+
+#[test]
+fn an_option_has_its_field(rt: HostRuntime) -> Result<(), Fail> {
+    let program = program(&rt)?;
+    let options = program.options.as_slice();
+    assert!(&rt; options == [Some(FieldId(3)), None].as_slice());
+    Ok(())
+}
+
+#[test]
+fn the_core_classes_stand_behind_those_of_the_folder(rt: HostRuntime) -> Result<(), Fail> {
+    let program = program(&rt)?;
+    match program.classes.get(0) {
+        Some(base) => assert!(&rt; base.superclass == Some(ClassId(2))),
+        None => assert!(&rt; false),
+    }
+    Ok(())
+}
