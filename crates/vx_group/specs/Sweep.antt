@@ -1,6 +1,5 @@
 -- Which nodes of the tree groups reach, and what a sweep keeps.
-use Rattle.std.specs.Prelude.{◌≡◌, ℕ, Bool, true, List, [], ◌∷◌, length, Option, Some, None, ◌⊎◌, nat_eq, Contains, zero, suc}
-use Rattle.std.specs.HashSet.{HashSet, contains}
+use Rattle.std.specs.Prelude.{◌≡◌, ℕ, Bool, true, List, [], ◌∷◌, length, Option, Some, None, ◌⊎◌, Contains, zero, suc}
 use Rattle.vx_group.specs.declared.callers.Caller.{Caller}
 use Rattle.vx_group.specs.Callers.{node_at, AreNodes}
 use Rattle.vx_group.specs.Group.{GroupView}
@@ -25,10 +24,6 @@ pub record IsSwept {S I : Type 0} (old new : List (Option (Caller S I))) (groups
 abbrev pub StandIn : {S I : Type 0} → List (Option (Caller S I)) → List (GroupView S I) → Type 0
 StandIn tree [] = Unit {0}
 StandIn tree (group ∷ groups) = AreNodes tree (length group.below) group.caller × StandIn tree groups
-
--- the marks, as a test of a number
-abbrev pub has_mark : {H : Type 0} → HashSet ℕ H → ℕ → Bool
-has_mark marks n = contains nat_eq marks n
 
 abbrev pub IsMarked : (ℕ → Bool) → Option ℕ → Type 0
 IsMarked has None = Unit {0}

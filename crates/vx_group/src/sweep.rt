@@ -2,8 +2,9 @@
 
 ghost use Rattle.std.specs.Prelude.{◌≡◌, ℕ, ◌<◌, true, length, None, if◌then◌else◌, ◌&&◌, not, nat_eq, IfOk, OnOk, OnErr};
 ghost use Rattle.slab.specs.Slab.{get as slot};
+ghost use Rattle.std.specs.HashSet.{contains};
 ghost use Rattle.vx_group.specs.Callers.{node_at, AreNodes};
-ghost use Rattle.vx_group.specs.Sweep.{IsSwept, IsReached, StandIn, caller_at, has_mark, IsMarked, IsClosed, AddsReached};
+ghost use Rattle.vx_group.specs.Sweep.{IsSwept, IsReached, StandIn, caller_at, IsMarked, IsClosed, AddsReached};
 
 use crate::callers::{Caller, Callers};
 use crate::group::Group;
@@ -20,10 +21,10 @@ fn mark<S: Space>(
     depth: usize,
 ) -> Result<(), AllocError>
     requires nodes { AreNodes callers.now depth caller }
-    requires closed { IsClosed callers.now (has_mark marks.old) }
-    ensures closed { OnOk result (IsClosed callers.now (has_mark marks.new)) }
-    ensures adds { OnOk result (AddsReached callers.now caller (has_mark marks.old) (has_mark marks.new)) }
-    ensures marked { OnOk result (IsMarked (has_mark marks.new) caller) }
+    requires closed { IsClosed callers.now (contains nat_eq marks.old) }
+    ensures closed { OnOk result (IsClosed callers.now (contains nat_eq marks.new)) }
+    ensures adds { OnOk result (AddsReached callers.now caller (contains nat_eq marks.old) (contains nat_eq marks.new)) }
+    ensures marked { OnOk result (IsMarked (contains nat_eq marks.new) caller) }
 {
     let Some(number) = caller else {
         return Ok(());
@@ -46,9 +47,9 @@ fn mark_all<S: Space>(
     groups: &[Group<S>],
 ) -> Result<HashSet<usize>, AllocError>
     requires { StandIn callers.now groups.now }
-    ensures closed { IfOk result (λ marks. IsClosed callers.now (has_mark marks)) }
-    ensures marked { IfOk result (λ marks. (k : ℕ) → k < length groups.now → IsMarked (has_mark marks) (caller_at groups.now k)) }
-    ensures reached { IfOk result (λ marks. (n : ℕ) → has_mark marks n ≡ true → IsReached callers.now groups.now n) }
+    ensures closed { IfOk result (λ marks. IsClosed callers.now (contains nat_eq marks)) }
+    ensures marked { IfOk result (λ marks. (k : ℕ) → k < length groups.now → IsMarked (contains nat_eq marks) (caller_at groups.now k)) }
+    ensures reached { IfOk result (λ marks. (n : ℕ) → contains nat_eq marks n ≡ true → IsReached callers.now groups.now n) }
 {
     let mut marks = HashSet::new(alloc);
     for group in groups {
@@ -59,7 +60,7 @@ fn mark_all<S: Space>(
 
 /// Drops the node of a number, if it has no mark.
 fn drop_unmarked<S: Space>(nodes: &mut Slab<Caller<S>>, marks: &HashSet<usize>, number: usize)
-    ensures slots { (x : ℕ) → slot nodes.new x ≡ (if nat_eq x number && not (has_mark marks.now x) then None else slot nodes.old x) }
+    ensures slots { (x : ℕ) → slot nodes.new x ≡ (if nat_eq x number && not (contains nat_eq marks.now x) then None else slot nodes.old x) }
     ensures capacity { nodes.new.capacity ≡ nodes.old.capacity }
 {
     if marks.contains(&number) {
@@ -70,7 +71,7 @@ fn drop_unmarked<S: Space>(nodes: &mut Slab<Caller<S>>, marks: &HashSet<usize>, 
 
 /// Drops all nodes that have no mark.
 fn keep_marked<S: Space>(nodes: &mut Slab<Caller<S>>, marks: &HashSet<usize>)
-    ensures { (x : ℕ) → slot nodes.new x ≡ (if has_mark marks.now x then slot nodes.old x else None) }
+    ensures { (x : ℕ) → slot nodes.new x ≡ (if contains nat_eq marks.now x then slot nodes.old x else None) }
 {
     for number in 0..nodes.capacity() {
         drop_unmarked(nodes, marks, number);

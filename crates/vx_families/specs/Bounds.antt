@@ -1,0 +1,33 @@
+-- What a program keeps to, so that numbers of 32 bits name its parts: the bounds of class files (JVMS 4.4.7, 4.7.3, 4.11) over a whole program.
+use Rattle.std.specs.Prelude.{◌≡◌, ℕ, Bool, true, List, length, nat_lt, Option, Some, None}
+use Rattle.std.specs.List.{list_all}
+use Rattle.vx_class.specs.declared.class_file.Code.{Code}
+use Rattle.vx_java.specs.Ids.{HasClassNumbers}
+use Rattle.vx_link.specs.declared.program.LinkedClass.{LinkedClass}
+use Rattle.vx_link.specs.declared.program.Program.{Program}
+use Rattle.vx_pool.specs.declared.pool.Entry.{Entry}
+use Rattle.vx_pool.specs.declared.pool.Entry.TheVariants.{Utf8}
+
+-- a count that two bytes hold
+abbrev pub is_short : ℕ → Bool
+is_short n = nat_lt n 65536
+
+-- the code of a method
+abbrev pub has_short_code : Option Code → Bool
+has_short_code None = true
+has_short_code (Some code) = is_short (length code.bytes)
+
+-- a text of a pool
+abbrev pub is_short_entry : Entry → Bool
+is_short_entry (Utf8 bytes) = is_short (length bytes)
+is_short_entry _ = true
+
+abbrev pub has_short_texts : LinkedClass → Bool
+has_short_texts c = list_all is_short_entry c.pool.entries
+
+pub record IsBounded (p : Program) : Type 0 where
+  pub classes : HasClassNumbers p
+  pub texts : list_all has_short_texts p.classes ≡ true
+  pub codes : list_all (λ m. has_short_code m.code) p.methods ≡ true
+  pub signatures : list_all (λ m. is_short (length m.descriptor)) p.methods ≡ true
+  pub types : list_all (λ f. is_short (length f.descriptor)) p.fields ≡ true

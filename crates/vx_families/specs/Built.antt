@@ -1,0 +1,110 @@
+-- What of the machine is built so far: one frame, the instructions of numbers, locals, the operand stack, jumps and static fields, the return, and println of an int. A run that comes to anything else is refused by name.
+use Rattle.std.specs.Prelude.{Bool, true, false, List, [], ◌∷◌, ◌&&◌, ◌==◌, not, Option, Some, None, ℕ, bytes_eq, codes}
+use Rattle.vx_class.specs.declared.class_file.Catch.{Catch}
+use Rattle.vx_class.specs.declared.class_file.Code.{Code}
+use Rattle.vx_java.specs.Machine.{Frame, Outcome, State, Go, Raise, Throw, Begin, Native, Write, Ended, current_class}
+use Rattle.vx_java.specs.Operation.{operation_of}
+use Rattle.vx_java.specs.Row.{row}
+use Rattle.vx_java.specs.Step.{outcome_carried_out}
+use Rattle.vx_java.specs.declared.operation.Mode.{Mode}
+use Rattle.vx_java.specs.declared.operation.Mode.TheVariants.{Virtual}
+use Rattle.vx_java.specs.declared.operation.Operation.{Operation}
+use Rattle.vx_java.specs.declared.operation.Operation.TheVariants.{CheckCast, GetField, IfSame, InstanceOf, Invoke, Length, LoadElement, Monitor, New, NewGrid, NewPrimitives, NewReferences, PutField, StoreElement}
+use Rattle.vx_java.specs.declared.operation.Operation.TheVariants.{Throw as ThrowOperation}
+use Rattle.vx_link.specs.Names.{Member, member}
+use Rattle.vx_link.specs.Parts.{class_at, method_at}
+use Rattle.vx_link.specs.declared.program.Program.{Program}
+use Rattle.vx_opcode.specs.Decode.{instruction_at}
+use Rattle.vx_opcode.specs.declared.instruction.Instruction.{Instruction}
+use Rattle.vx_pool.specs.declared.pool.Pool.{Pool}
+use Rattle.vx_value.specs.declared.key.Kind.{Kind}
+use Rattle.vx_value.specs.declared.key.Kind.TheVariants.{Call}
+
+-- ---- states
+
+abbrev pub is_call : Kind → Bool
+is_call Call = true
+is_call _ = false
+
+abbrev pub has_none : {A : Type 0} → List A → Bool
+has_none [] = true
+has_none (x ∷ xs) = false
+
+-- one frame, of a call
+abbrev pub is_single : State → Bool
+is_single s = is_call s.top.kind && has_none s.callers
+
+-- ---- exceptions
+
+abbrev pub catches_of : Option Code → List Catch
+catches_of None = []
+catches_of (Some code) = code.catches
+
+-- the method on top has no catch row
+abbrev pub catches_nothing : Program → State → Bool
+catches_nothing p s = has_none (catches_of (method_at p s.top.method).code)
+
+-- ---- calls
+
+-- println of an int, by the number that its native method has
+abbrev pub println_int : ℕ
+println_int = 49
+
+abbrev pub is_virtual : Mode → Bool
+is_virtual Virtual = true
+is_virtual _ = false
+
+-- an instruction names println of an int
+abbrev pub is_println : Member → Bool
+is_println m =
+    bytes_eq m.class (codes "java/io/PrintStream") && bytes_eq m.name (codes "println") && bytes_eq m.descriptor (codes "(I)V") && not m.by_interface
+
+-- ---- instructions
+
+-- an operation, by the pool of its class
+abbrev pub is_built_operation : Pool → Operation → Bool
+is_built_operation pool (LoadElement element) = false
+is_built_operation pool (StoreElement element) = false
+is_built_operation pool (IfSame wanted offset) = false
+is_built_operation pool (GetField i) = false
+is_built_operation pool (PutField i) = false
+is_built_operation pool (Invoke mode i) = is_virtual mode && is_println (member pool i)
+is_built_operation pool (New i) = false
+is_built_operation pool (NewPrimitives code) = false
+is_built_operation pool (NewReferences i) = false
+is_built_operation pool (NewGrid i dimensions) = false
+is_built_operation pool Length = false
+is_built_operation pool ThrowOperation = false
+is_built_operation pool Monitor = false
+is_built_operation pool (CheckCast i) = false
+is_built_operation pool (InstanceOf i) = false
+is_built_operation pool _ = true
+
+-- at the end of the code there is none
+abbrev pub is_built_there : Pool → Option Instruction → Bool
+is_built_there pool None = true
+is_built_there pool (Some i) = is_built_operation pool (operation_of i)
+
+abbrev pub is_built_in : Pool → ℕ → Option Code → Bool
+is_built_in pool position None = true
+is_built_in pool position (Some code) = is_built_there pool (instruction_at code.bytes position)
+
+abbrev pub is_built_at : Program → State → Bool
+is_built_at p s = is_built_in (class_at p (current_class p s)).pool s.top.position (method_at p s.top.method).code
+
+-- ---- attempts
+
+-- what an attempt comes to
+abbrev pub is_built_outcome : Program → Outcome → Bool
+is_built_outcome p (Go s) = is_single s
+is_built_outcome p (Raise class message s) = is_single s && catches_nothing p s
+is_built_outcome p (Throw r s) = false
+is_built_outcome p (Begin c s) = false
+is_built_outcome p (Native m s) = (method_at p m).native == println_int
+is_built_outcome p (Write stream units s) = is_single s
+is_built_outcome p (Ended e) = true
+
+-- the attempt that a state makes: its frames, its instruction, what comes of it, and what a native method makes of that
+abbrev pub is_built : Program → State → Bool
+is_built p s =
+    is_single s && is_built_at p s && is_built_outcome p (row p s) && is_built_outcome p (outcome_carried_out p (row p s))

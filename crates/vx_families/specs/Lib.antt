@@ -1,0 +1,4 @@
+pub mod Bounds
+pub mod Attempts
+pub mod Pushing
+pub mod Built
