@@ -47,10 +47,10 @@ pub record IsGiven {S I : Type 0} (site : Site) (operation : Operation) (sets : 
   pub held : (c : List Bool) → sets.test (path_of group) c ≡ true → frame_held sets heap c (frame_at sets group.top c) ≡ true
   pub shaped : is_shaped site.program.now (shape_of group.top) ≡ true
 
--- an attempt by some row, over every tree in which the group stands; the tree stays
-abbrev pub AttemptsBy : {S I : Type 0} → Site → (State → PlainOutcome) → Sets I → Sets I → HeapView S I → HeapView S I → GroupView S I → List (Outcome S I) → Type 0
-AttemptsBy {S = S} {I = I} site says old new before after group outcomes =
-    (tree : List (Option (Caller S I))) → StandsIn site.program.now old before tree group → Attempts site.program.now says old new before after tree tree group outcomes
+-- an attempt by some row, over every tree in which the group stands; the tree stays, and the heap is still one of the program
+pub record AttemptsBy {S I : Type 0} (site : Site) (says : State → PlainOutcome) (old new : Sets I) (before after : HeapView S I) (group : GroupView S I) (outcomes : List (Outcome S I)) : Type 0 where
+  pub is_for : IsHeapFor site.program.now after
+  pub attempts : (tree : List (Option (Caller S I))) → StandsIn site.program.now old before tree group → Attempts site.program.now says old new before after tree tree group outcomes
 
 -- an attempt by an operation: at each configuration of the path its row at the plain state there, and nothing else changes
 abbrev pub IsAttemptBy : {S I : Type 0} → Site → Operation → Sets I → Sets I → HeapView S I → HeapView S I → GroupView S I → List (Outcome S I) → Type 0
