@@ -147,6 +147,7 @@ pub record IsState {S I : Type 0} (p : Program) (sets : Sets I) (allowed : I) (s
   pub runs : st.heap.allowed ≡ allowed
   pub groups : AreGroups sets st.tree st.groups
   pub running : AreRunning p sets st st.groups
+  pub tree : AreKnown sets (tree_ids st.tree)
   pub found : AreKnown sets (shared_ids st.found)
   pub ends : AreLeaves compare_ends sets (leaves_of st.ends)
   pub spent : AreLeaves nat_cmp sets (leaves_of st.spent)
