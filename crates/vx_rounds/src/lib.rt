@@ -2,6 +2,7 @@
 //! make an attempt.
 #![tactic(auto)]
 
+mod attempting;
 pub mod starting;
 pub mod state;
 pub mod stepping;
