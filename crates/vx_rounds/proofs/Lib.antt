@@ -1,1 +1,4 @@
-
+pub mod Waiting
+pub mod Placed
+pub mod Putting
+pub mod Ending

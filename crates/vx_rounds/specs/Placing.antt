@@ -75,11 +75,14 @@ pub record IsUnderway {S I : Type 0} (p : Program) (sets : Sets I) (heap : HeapV
   pub spent : AreLeaves nat_cmp sets (leaves_of round.spent.items)
   pub texts : AreLeaves piece_cmp sets (leaves_of round.texts.items)
 
--- nothing is under way in a set
+-- nothing waits in a set, and nothing has come to its end there
 pub record IsVacant {S I : Type 0} (sets : Sets I) (round : Round S I) (set : List Bool → Bool) : Type 0 where
   pub groups : (c : List Bool) → set c ≡ true → group_of sets round.groups.items c ≡ None
   pub ends : (c : List Bool) → set c ≡ true → value_at sets (leaves_of round.ends.items) c ≡ None
   pub spent : (c : List Bool) → set c ≡ true → value_at sets (leaves_of round.spent.items) c ≡ None
+
+-- nothing was written there
+pub record IsUnwritten {S I : Type 0} (sets : Sets I) (round : Round S I) (set : List Bool → Bool) : Type 0 where
   pub texts : (c : List Bool) → set c ≡ true → value_at sets (leaves_of round.texts.items) c ≡ None
 
 -- ---- what comes of an attempt

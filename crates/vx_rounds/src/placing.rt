@@ -20,7 +20,7 @@ ghost use Rattle.vx_stands.specs.Stands.{StandsIn, state_at};
 ghost use Rattle.vx_value.specs.Ends.{compare_ends};
 ghost use Rattle.vx_families.specs.Bounds.{IsBounded};
 ghost use Rattle.vx_value.specs.Texts.{text_at};
-ghost use Rattle.vx_rounds.specs.Placing.{AreConditionsKnown, ArePlaceable, AreWritten, HasPlace, HasUnplaced, HavePlaces, IsEnded, IsOutcomePlaced, IsPlaceable, IsPut, IsUnderway, IsUsedUp, IsVacant, has_place, leads_in, made_at, piece_if, said_by, said_in};
+ghost use Rattle.vx_rounds.specs.Placing.{AreConditionsKnown, ArePlaceable, AreWritten, HasPlace, HasUnplaced, HavePlaces, IsEnded, IsOutcomePlaced, IsPlaceable, IsPut, IsUnderway, IsUnwritten, IsUsedUp, IsVacant, has_place, leads_in, made_at, piece_if, said_by, said_in};
 
 use std::alloc::Global;
 use vx_cond::{Cond, Leaf};
@@ -219,6 +219,7 @@ fn write<S: Space>(
     requires bound { (c : List Bool) → (S.sets space.old).test (path_of group) c ≡ true → attempts_at (S.sets space.old) group c ≤ setting.now.limit }
     requires text { text < length setting.now.heap.now.texts }
     requires vacant { IsVacant (S.sets space.old) round.old ((S.sets space.old).test (path_of group)) }
+    requires unwritten { IsUnwritten (S.sets space.old) round.old ((S.sets space.old).test (path_of group)) }
     ensures extends { Extends (S.sets space.old) (S.sets space.new) }
     ensures put { OnOk result (IsPut setting.now.program.now (S.sets space.old) (S.sets space.new) setting.now.heap.now setting.now.limit (attempts_at (S.sets space.old) group) (leads_in (S.sets space.old) (path_of group) (λ c. Goes (state_at (S.sets space.old) setting.now.heap.now [] group c))) round.old round.new) }
     ensures written { OnOk result (AreWritten (S.sets space.old) (S.sets space.new) (leads_in (S.sets space.old) (path_of group) (λ c. WriteOf stream (text_at setting.now.heap.now.texts text) (state_at (S.sets space.old) setting.now.heap.now [] group c))) round.old round.new) }
@@ -311,6 +312,7 @@ fn place_outcome<S: Space>(
     requires placeable { IsPlaceable setting.now.program.now (S.sets space.old) setting.now.heap.now attempts.now outcome }
     requires place { HasPlace setting.now.program.now (S.sets space.old) outcome }
     requires vacant { IsVacant (S.sets space.old) round.old ((S.sets space.old).test (condition_of outcome)) }
+    requires unwritten { IsUnwritten (S.sets space.old) round.old ((S.sets space.old).test (condition_of outcome)) }
     ensures extends { Extends (S.sets space.old) (S.sets space.new) }
     ensures placed { OnOk result (IsOutcomePlaced setting.now.program.now (S.sets space.old) (S.sets space.new) setting.now.heap.now setting.now.limit attempts.now (said_by (S.sets space.old) setting.now.heap.now outcome) round.old round.new) }
 {
@@ -350,6 +352,7 @@ pub(crate) fn place_all<S: Space>(
     requires placeable { ArePlaceable setting.now.program.now (S.sets space.old) setting.now.heap.now attempts.now outcomes.items }
     requires places { HavePlaces setting.now.program.now (S.sets space.old) outcomes.items }
     requires vacant { IsVacant (S.sets space.old) round.old ((S.sets space.old).test attempts.now.scope) }
+    requires unwritten { IsUnwritten (S.sets space.old) round.old ((S.sets space.old).test attempts.now.scope) }
     ensures extends { Extends (S.sets space.old) (S.sets space.new) }
     ensures placed { OnOk result (IsOutcomePlaced setting.now.program.now (S.sets space.old) (S.sets space.new) setting.now.heap.now setting.now.limit attempts.now (said_in (S.sets space.old) setting.now.heap.now outcomes.items) round.old round.new) }
 {

@@ -8,7 +8,7 @@ ghost use Rattle.vx_group.specs.Sweep.{StandIn};
 ghost use Rattle.vx_families.specs.Bounds.{IsBounded};
 ghost use Rattle.vx_value.specs.declared.key.Kind.TheVariants.{Call};
 ghost use Rattle.vx_rounds.specs.Attempted.{IsUnbuiltThere, MayAttempt};
-ghost use Rattle.vx_rounds.specs.Placing.{IsUnderway, IsVacant};
+ghost use Rattle.vx_rounds.specs.Placing.{IsUnderway, IsUnwritten, IsVacant};
 ghost use Rattle.vx_rounds.specs.Rounds.{IsRound, IsStuck};
 ghost use Rattle.vx_rounds.specs.State.{IsState, state_ids};
 ghost use Rattle.vx_rounds.specs.Stepping.{IsBegun, IsClosed, IsMade, IsSpent, IsCount};
@@ -91,6 +91,7 @@ fn make<S: Space>(
     requires underway { IsUnderway program.now (S.sets space.old) heap.old limit round.old }
     requires attempts { IsCount (S.sets space.old) group limit attempts.now }
     requires vacant { IsVacant (S.sets space.old) round.old ((S.sets space.old).test (path_of group)) }
+    requires unwritten { IsUnwritten (S.sets space.old) round.old ((S.sets space.old).test (path_of group)) }
     ensures extends { Extends (S.sets space.old) (S.sets space.new) }
     ensures made { OnOk result (IsMade program.now (S.sets space.old) (S.sets space.new) heap.old heap.new limit group round.old round.new) }
     ensures not_yet { result ≡ Err AttemptFault.NotYet → IsUnbuiltThere program.now (S.sets space.old) heap.old group }
