@@ -2,3 +2,5 @@ pub mod Waiting
 pub mod Placed
 pub mod Putting
 pub mod Ending
+pub mod Going
+pub mod Raising

@@ -79,7 +79,7 @@ IsVacant-put p old new heap limit made leads before after set q n h = record {
 
 -- ---- runs that have ended
 
-some_inside : {S I : Type 0} (sets : Sets I) (attempts : Conditional ℕ S I) (c : List Bool) → IsCond nat_cmp sets attempts → sets.test attempts.scope c ≡ true → cond_at sets attempts c ≡ Some (made_at sets attempts c)
+pub some_inside : {S I : Type 0} (sets : Sets I) (attempts : Conditional ℕ S I) (c : List Bool) → IsCond nat_cmp sets attempts → sets.test attempts.scope c ≡ true → cond_at sets attempts c ≡ Some (made_at sets attempts c)
 some_inside sets attempts c v t = cases (cond_at sets attempts c) (cond_at-covers nat_cmp sets attempts v c ∙ t)
   where
     cases : (o : Option ℕ) → is_some o ≡ true → o ≡ Some (unwrap_or o 0)

@@ -1,7 +1,7 @@
 //! What an attempt came to takes its place: among the groups that wait, among the ends with their numbers of attempts, and
 //! among the texts of the round.
 
-ghost use Rattle.std.specs.Prelude.{◌≡◌, ◌≤◌, ◌<◌, ◌==◌, ℕ, Bool, List, [], Option, true, false, if◌then◌else◌, length, position, IsTrue, OnOk};
+ghost use Rattle.std.specs.Prelude.{◌≡◌, ◌≤◌, ◌<◌, ◌==◌, ℕ, Bool, List, [], Option, Some, true, false, if◌then◌else◌, length, position, IsTrue, OnOk};
 ghost use Rattle.std.specs.Ordering.{nat_cmp};
 ghost use Rattle.vx_space.specs.Sets.{Extends, IsKnown, Sets};
 ghost use Rattle.vx_cond.specs.Cond.{IsCond, IsInside};
@@ -147,8 +147,32 @@ fn wait<S: Space>(
     ensures put { OnOk result (IsPut setting.now.program.now (S.sets space.old) (S.sets space.new) setting.now.heap.now setting.now.limit (attempts_at (S.sets space.old) group) (leads_in (S.sets space.old) (path_of group) (λ c. Goes (state_at (S.sets space.old) setting.now.heap.now [] group c))) round.old round.new) }
     ensures texts { OnOk result (round.new.texts ≡ round.old.texts) }
 {
-    let _limit = setting.limit;
     place_group(&mut round.callers, space, &mut round.groups, group)?;
+    Ok(())
+}
+
+/// Runs go on, and some of them have used up their attempts: these have come to the end `Unfinished`.
+fn go_on_in_part<S: Space>(
+    setting: &Setting<S>,
+    space: &mut S,
+    round: &mut Round<S>,
+    group: Group<S>,
+    used: S::Id,
+) -> Result<(), SpaceFault>
+    requires heap { IsHeap (S.sets space.old) setting.now.heap.now }
+    requires underway { IsUnderway setting.now.program.now (S.sets space.old) setting.now.heap.now setting.now.limit round.old }
+    requires stands { StandsIn setting.now.program.now (S.sets space.old) setting.now.heap.now [] group }
+    requires kind { is_call group.top.kind ≡ true }
+    requires bound { (c : List Bool) → (S.sets space.old).test (path_of group) c ≡ true → attempts_at (S.sets space.old) group c ≤ setting.now.limit }
+    requires vacant { IsVacant (S.sets space.old) round.old ((S.sets space.old).test (path_of group)) }
+    requires used { IsUsedUp (S.sets space.old) group.attempts setting.now.limit (Some used) }
+    ensures extends { Extends (S.sets space.old) (S.sets space.new) }
+    ensures put { OnOk result (IsPut setting.now.program.now (S.sets space.old) (S.sets space.new) setting.now.heap.now setting.now.limit (attempts_at (S.sets space.old) group) (leads_in (S.sets space.old) (path_of group) (λ c. Goes (state_at (S.sets space.old) setting.now.heap.now [] group c))) round.old round.new) }
+    ensures texts { OnOk result (round.new.texts ≡ round.old.texts) }
+{
+    let (done, going) = group.split(space, used)?;
+    finish(space, round, done.attempts(), done.path(), End::Unfinished)?;
+    wait(setting, space, round, going)?;
     Ok(())
 }
 
@@ -169,12 +193,10 @@ fn go_on<S: Space>(
     ensures put { OnOk result (IsPut setting.now.program.now (S.sets space.old) (S.sets space.new) setting.now.heap.now setting.now.limit (attempts_at (S.sets space.old) group) (leads_in (S.sets space.old) (path_of group) (λ c. Goes (state_at (S.sets space.old) setting.now.heap.now [] group c))) round.old round.new) }
     ensures texts { OnOk result (round.new.texts ≡ round.old.texts) }
 {
-    let Some(used) = used_up(group.attempts(), setting.limit) else {
-        return wait(setting, space, round, group);
-    };
-    let (done, going) = group.split(space, used)?;
-    finish(space, round, done.attempts(), done.path(), End::Unfinished)?;
-    wait(setting, space, round, going)
+    match used_up(group.attempts(), setting.limit) {
+        Some(used) => go_on_in_part(setting, space, round, group, used),
+        None => wait(setting, space, round, group),
+    }
 }
 
 /// Adds a text to those of the round, unless it is empty.
