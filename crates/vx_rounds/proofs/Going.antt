@@ -1,12 +1,12 @@
 -- Runs that go on: those that have attempts left, and those that have used them up.
-use Rattle.std.proofs.Common.{◌≡◌, ℕ, ◌<◌, ◌≤◌, Bool, true, false, List, [], ◌∷◌, refl, sym, ◌∙◌, ap, subst, arith, inl, inr}
-use Rattle.std.specs.Prelude.{◌≢◌, ◌⊎◌, ◌&&◌, not, Option, Some, None, cond, if◌then◌else◌, nat_lt, unwrap_or}
+use Rattle.std.proofs.Common.{◌≡◌, ℕ, ◌<◌, ◌≤◌, Bool, true, false, List, [], ◌∷◌, refl, sym, ◌∙◌, ap, subst, arith, inl, inr, length, zero, suc}
+use Rattle.std.specs.Prelude.{◌≢◌, ◌==◌, ◌⊎◌, ◌&&◌, not, Option, Some, None, cond, if◌then◌else◌, nat_lt, unwrap_or}
 use Rattle.std.specs.Option.{option_or}
 use Rattle.std.proofs.lemmas.Bool.Decides.{nat_tests}
 use Rattle.std.specs.Ordering.{nat_cmp}
 use Rattle.vx_space.specs.Sets.{Sets, Extends}
 use Rattle.vx_space.proofs.Spaces.{Extends-trans}
-use Rattle.vx_cond.specs.Cond.{IsCond, IsInside, cond_at}
+use Rattle.vx_cond.specs.Cond.{Conditional, IsCond, IsInside, cond_at}
 use Rattle.vx_cond.specs.Leaves.{AreLeaves, AreLeavesOf, IsApart, value_at, value_under}
 use Rattle.vx_cond.proofs.LeafLaws.{AreLeaves-extends, value_at-extends}
 use Rattle.vx_group.specs.Group.{GroupView, IsPartOf, attempts_at, path_of}
@@ -256,3 +256,41 @@ AreWritten-text {S = S} {I = I} {s0 = s0} {s1 = s1} {s2 = s2} e path stream unit
     cases : (c : List Bool) (b : Bool) → (if b then piece_if stream (utf8_of units) else value_at s0 (leaves_of before.texts.items) c) ≡ put_if piece_after (if b then Some (Write stream units (state c)) else None) (value_at s0 (leaves_of before.texts.items) c)
     cases c true = refl
     cases c false = refl
+
+-- ---- what was found of the attempts that are used up
+
+pub none_used : {S I : Type 0} (p : Program) (sets : Sets I) (heap : HeapView S I) (limit : ℕ) (group : GroupView S I) (attempts : Conditional ℕ S I) → attempts ≡ group.attempts → StandsIn p sets heap [] group → (IsCond nat_cmp sets attempts → IsUsedUp sets attempts limit None) → ((c : List Bool) → sets.test (path_of group) c ≡ true → attempts_at sets group c ≤ limit) → (c : List Bool) → sets.test (path_of group) c ≡ true → attempts_at sets group c < limit
+none_used {S = S} {I = I} p sets heap limit group attempts e s u b c t =
+    let v = IsGroup-attempts sets group (IsGroupIn-group sets [] group s.is_group) in
+    at_most (attempts_at sets group c) limit (b c t) (other (some_inside sets group.attempts c v t) (subst (λ a. cond_at sets a c ≢ Some limit) e (u (rw e v) c)))
+  where
+    other : cond_at sets group.attempts c ≡ Some (attempts_at sets group c) → cond_at sets group.attempts c ≢ Some limit → attempts_at sets group c ≢ limit
+    other k f h = f (k ∙ ap Some h)
+
+pub used_found : {S I : Type 0} (p : Program) (sets : Sets I) (heap : HeapView S I) (limit : ℕ) (group : GroupView S I) (attempts : Conditional ℕ S I) (used : I) → attempts ≡ group.attempts → StandsIn p sets heap [] group → (IsCond nat_cmp sets attempts → IsUsedUp sets attempts limit (Some used)) → IsUsedUp sets group.attempts limit (Some used)
+used_found p sets heap limit group attempts used e s u =
+    let v = IsGroup-attempts sets group (IsGroupIn-group sets [] group s.is_group) in
+    subst (λ a. IsUsedUp sets a limit (Some used)) e (u (rw e v))
+
+-- ---- empty texts
+
+is_zero : (n : ℕ) → true ≡ (n == 0) → n ≡ 0
+is_zero n h = let e : (n == 0) ≡ true = sym h in grind (arith, nat_tests)
+
+not_zero : (n : ℕ) → false ≡ (n == 0) → n ≢ 0
+not_zero n h q = let e : (n == 0) ≡ false = sym h in grind (arith, nat_tests)
+
+no_items : (text : List ℕ) → length text ≡ 0 → text ≡ []
+no_items [] h = refl
+no_items (b ∷ text) h = absurd (omega (arith, h))
+
+pub empty_text : (text : List ℕ) (n : ℕ) → n ≡ length text → true ≡ (n == 0) → text ≡ []
+empty_text text n e h = no_items text (sym e ∙ is_zero n h)
+
+pub some_text : (text : List ℕ) (n : ℕ) → n ≡ length text → false ≡ (n == 0) → text ≡ [] → ⊥
+some_text text n e h q = not_zero n h (e ∙ ap length q)
+
+pub bound_later : {S I : Type 0} (p : Program) {s0 s1 : Sets I} → Extends s0 s1 → (heap : HeapView S I) (limit : ℕ) (group : GroupView S I) → StandsIn p s0 heap [] group → ((c : List Bool) → s0.test (path_of group) c ≡ true → attempts_at s0 group c ≤ limit) → (c : List Bool) → s1.test (path_of group) c ≡ true → attempts_at s1 group c ≤ limit
+bound_later p {s0 = s0} {s1 = s1} e heap limit group s b c t =
+    let is_group = IsGroupIn-group s0 [] group s.is_group in
+    subst (λ n. n ≤ limit) (sym (attempts_at-extends e group is_group c)) (b c (sym (e.test (path_of group) c (IsGroup-path_known s0 group is_group)) ∙ t))

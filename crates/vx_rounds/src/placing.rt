@@ -248,7 +248,8 @@ fn write<S: Space>(
 {
     let bytes = utf8(alloc, setting.heap.texts().text(text))?;
     put_text(space, &mut round.texts, stream, bytes, group.path())?;
-    go_on(setting, space, round, group)
+    go_on(setting, space, round, group)?;
+    Ok(())
 }
 
 /// Runs raise an exception in a method without catch rows, so they have come to its end `Uncaught` (JVMS 2.10).
@@ -342,18 +343,19 @@ fn place_outcome<S: Space>(
         return Ok(());
     }
     match outcome {
-        Outcome::Go { group } => go_on(setting, space, round, group),
+        Outcome::Go { group } => go_on(setting, space, round, group)?,
         Outcome::Write {
             group,
             stream,
             text,
-        } => write(alloc, setting, space, round, group, stream, text),
+        } => write(alloc, setting, space, round, group, stream, text)?,
         Outcome::Raise { group, class, .. } => {
-            raise(alloc, setting, space, round, attempts, &group, class)
+            raise(alloc, setting, space, round, attempts, &group, class)?;
         }
-        Outcome::Ended { condition, end } => finish(space, round, attempts, condition, end),
+        Outcome::Ended { condition, end } => finish(space, round, attempts, condition, end)?,
         Outcome::Throw { .. } | Outcome::Begin { .. } | Outcome::Native { .. } => unreachable!(),
     }
+    Ok(())
 }
 
 /// Gives each outcome its place, one after the other.
