@@ -4,3 +4,4 @@ pub mod Putting
 pub mod Ending
 pub mod Going
 pub mod Raising
+pub mod Outcomes

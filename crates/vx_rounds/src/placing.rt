@@ -318,6 +318,67 @@ pub(crate) fn have_places<S: Space>(
     true
 }
 
+/// Gives an outcome that is built its place.
+fn place_built<S: Space>(
+    alloc: Global,
+    setting: &Setting<S>,
+    space: &mut S,
+    round: &mut Round<S>,
+    attempts: &Cond<u64, S>,
+    outcome: Outcome<S>,
+) -> Result<(), SpaceFault>
+    requires bounded { IsBounded setting.now.program.now }
+    requires heap { IsHeap (S.sets space.old) setting.now.heap.now }
+    requires underway { IsUnderway setting.now.program.now (S.sets space.old) setting.now.heap.now setting.now.limit round.old }
+    requires attempts { IsCond nat_cmp (S.sets space.old) attempts.now }
+    requires bound { (c : List Bool) → (S.sets space.old).test attempts.now.scope c ≡ true → made_at (S.sets space.old) attempts.now c ≤ setting.now.limit }
+    requires placeable { IsPlaceable setting.now.program.now (S.sets space.old) setting.now.heap.now attempts.now outcome }
+    requires place { has_place setting.now.program.now outcome ≡ true }
+    requires vacant { IsVacant (S.sets space.old) round.old ((S.sets space.old).test (condition_of outcome)) }
+    requires unwritten { IsUnwritten (S.sets space.old) round.old ((S.sets space.old).test (condition_of outcome)) }
+    ensures extends { Extends (S.sets space.old) (S.sets space.new) }
+    ensures placed { OnOk result (IsOutcomePlaced setting.now.program.now (S.sets space.old) (S.sets space.new) setting.now.heap.now setting.now.limit attempts.now (said_by (S.sets space.old) setting.now.heap.now outcome) round.old round.new) }
+{
+    match outcome {
+        Outcome::Go { group } => {
+            go_on(setting, space, round, group)?;
+            Ok(())
+        }
+        Outcome::Write {
+            group,
+            stream,
+            text,
+        } => {
+            write(alloc, setting, space, round, group, stream, text)?;
+            Ok(())
+        }
+        Outcome::Raise {
+            group,
+            class,
+            message: _message,
+        } => {
+            raise(alloc, setting, space, round, attempts, &group, class)?;
+            Ok(())
+        }
+        Outcome::Ended { condition, end } => {
+            finish(space, round, attempts, condition, end)?;
+            Ok(())
+        }
+        Outcome::Throw {
+            group: _group,
+            thrown: _thrown,
+        } => unreachable!(),
+        Outcome::Begin {
+            group: _group,
+            class: _class,
+        } => unreachable!(),
+        Outcome::Native {
+            group: _group,
+            method: _method,
+        } => unreachable!(),
+    }
+}
+
 /// Gives an outcome its place. One to which no configuration comes is passed over.
 fn place_outcome<S: Space>(
     alloc: Global,
@@ -342,19 +403,7 @@ fn place_outcome<S: Space>(
     if space.is_never(outcome.condition()) {
         return Ok(());
     }
-    match outcome {
-        Outcome::Go { group } => go_on(setting, space, round, group)?,
-        Outcome::Write {
-            group,
-            stream,
-            text,
-        } => write(alloc, setting, space, round, group, stream, text)?,
-        Outcome::Raise { group, class, .. } => {
-            raise(alloc, setting, space, round, attempts, &group, class)?;
-        }
-        Outcome::Ended { condition, end } => finish(space, round, attempts, condition, end)?,
-        Outcome::Throw { .. } | Outcome::Begin { .. } | Outcome::Native { .. } => unreachable!(),
-    }
+    place_built(alloc, setting, space, round, attempts, outcome)?;
     Ok(())
 }
 
