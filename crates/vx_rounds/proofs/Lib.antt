@@ -5,3 +5,4 @@ pub mod Ending
 pub mod Going
 pub mod Raising
 pub mod Outcomes
+pub mod Places
