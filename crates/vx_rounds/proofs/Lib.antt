@@ -6,3 +6,4 @@ pub mod Going
 pub mod Raising
 pub mod Outcomes
 pub mod Places
+pub mod Sequence
