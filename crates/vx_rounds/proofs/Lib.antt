@@ -7,3 +7,5 @@ pub mod Raising
 pub mod Outcomes
 pub mod Places
 pub mod Sequence
+pub mod Spending
+pub mod Grown
