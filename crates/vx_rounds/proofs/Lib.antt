@@ -9,3 +9,5 @@ pub mod Places
 pub mod Sequence
 pub mod Spending
 pub mod Grown
+pub mod Refusals
+pub mod Making
