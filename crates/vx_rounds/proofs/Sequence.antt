@@ -50,7 +50,7 @@ HasGoing-extends p e heap v attempts a (shared.Native group method) h = tt
 HasGoing-extends p e heap v attempts a (shared.Write group stream text) h = (IsGoing-extends p e heap v attempts a group h.0, h.1)
 HasGoing-extends p e heap v attempts a (shared.Ended condition end) h = tt
 
-attempts_known : {S I : Type 0} (sets : Sets I) (attempts : Conditional ℕ S I) → IsCond nat_cmp sets attempts → sets.is_known attempts.scope ≡ true
+pub attempts_known : {S I : Type 0} (sets : Sets I) (attempts : Conditional ℕ S I) → IsCond nat_cmp sets attempts → sets.is_known attempts.scope ≡ true
 unfolding IsCond
 attempts_known sets attempts a = a.scope_known
 
@@ -95,7 +95,7 @@ said_in-append {S = S} {I = I} sets heap (x ∷ xs) y c = cases (sets.test (cond
     cases true h = refl
     cases false h = h
 
-Divide-same : {S I : Type 0} (sets : Sets I) (a b : List Bool → Bool) (xs : List (Outcome S I)) → ((c : List Bool) → a c ≡ b c) → Divide sets a xs → Divide sets b xs
+pub Divide-same : {S I : Type 0} (sets : Sets I) (a b : List Bool → Bool) (xs : List (Outcome S I)) → ((c : List Bool) → a c ≡ b c) → Divide sets a xs → Divide sets b xs
 Divide-same sets a b [] h d = λ c. sym (h c) ∙ d c
 Divide-same sets a b (x ∷ xs) h d = (λ c t. sym (h c) ∙ d.0 c t, Divide-same sets (λ c. a c && not (sets.test (condition_of x) c)) (λ c. b c && not (sets.test (condition_of x) c)) xs (λ c. ap (λ v. v && not (sets.test (condition_of x) c)) (h c)) d.1)
 
