@@ -11,3 +11,5 @@ pub mod Spending
 pub mod Grown
 pub mod Refusals
 pub mod Making
+pub mod Running
+pub mod Keeping

@@ -46,7 +46,7 @@ alone_caller : {S I : Type 0} (sets : Sets I) (tree : List (Option (Caller S I))
 alone_caller sets tree path [] caller e h = h
 alone_caller sets tree path (part ∷ below) caller e h = cc e
 
-no_below : {S I : Type 0} (tree : List (Option (Caller S I))) (below : List KeyPart) (caller : Option ℕ) → below ≡ [] → callers_of tree (length below) caller ≡ []
+pub no_below : {S I : Type 0} (tree : List (Option (Caller S I))) (below : List KeyPart) (caller : Option ℕ) → below ≡ [] → callers_of tree (length below) caller ≡ []
 no_below tree [] caller e = refl
 no_below tree (part ∷ below) caller e = cc e
 

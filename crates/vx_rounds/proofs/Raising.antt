@@ -27,7 +27,7 @@ use Rattle.vx_rounds.specs.Placing.{IsEnded, IsPut, IsUnderway, IsVacant, leads_
 use Rattle.vx_rounds.proofs.Placed.{single_below}
 use Rattle.vx_rounds.proofs.Putting.{IsPut-ended, IsPut-same}
 
-is_kind : (k : Kind) → is_call k ≡ true → k ≡ Call
+pub is_kind : (k : Kind) → is_call k ≡ true → k ≡ Call
 is_kind Call h = refl
 is_kind Wait h = cc h
 is_kind Init h = cc h
