@@ -32,7 +32,7 @@ use Rattle.vx_rounds.proofs.Waiting.{no_frame, run_by, state_by, waiting_at-stan
 
 -- ---- names and texts
 
-some_within : {A : Type 0} (xs : List A) (i : ℕ) (x : A) → slice_get xs i ≡ Some x → i < length xs
+pub some_within : {A : Type 0} (xs : List A) (i : ℕ) (x : A) → slice_get xs i ≡ Some x → i < length xs
 some_within [] i x h = cc h
 some_within (y ∷ ys) zero x h = omega arith
 some_within (y ∷ ys) (suc i) x h = omega (arith, some_within ys i x h)

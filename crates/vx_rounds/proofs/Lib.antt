@@ -13,3 +13,4 @@ pub mod Refusals
 pub mod Making
 pub mod Running
 pub mod Keeping
+pub mod Beginning
