@@ -14,3 +14,5 @@ pub mod Making
 pub mod Running
 pub mod Keeping
 pub mod Beginning
+pub mod Configurations
+pub mod Turning

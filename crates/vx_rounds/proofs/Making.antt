@@ -42,7 +42,7 @@ use Rattle.vx_rounds.proofs.Waiting.{no_group, none_waits, waiting_at-extends}
 
 -- ---- a group of one frame stands in every tree
 
-alone_caller : {S I : Type 0} (sets : Sets I) (tree : List (Option (Caller S I))) (path : I) (below : List KeyPart) (caller : Option ℕ) → below ≡ [] → AreCallers sets tree path (length below) caller → caller ≡ None
+pub alone_caller : {S I : Type 0} (sets : Sets I) (tree : List (Option (Caller S I))) (path : I) (below : List KeyPart) (caller : Option ℕ) → below ≡ [] → AreCallers sets tree path (length below) caller → caller ≡ None
 alone_caller sets tree path [] caller e h = h
 alone_caller sets tree path (part ∷ below) caller e h = cc e
 
