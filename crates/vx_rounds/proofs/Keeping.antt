@@ -61,7 +61,7 @@ state_kept old new st k =
       spent = AreKept-append_right old new (shared_ids st.ends) (shared_ids st.spent) after4;
     }
 
-AreKnown-kept : {I : Type 0} (old new : Sets I) (ids : List I) → AreKept old new ids → AreKnown new ids
+pub AreKnown-kept : {I : Type 0} (old new : Sets I) (ids : List I) → AreKept old new ids → AreKnown new ids
 AreKnown-kept old new [] k = tt
 AreKnown-kept old new (id ∷ ids) k = (k.0.known, AreKnown-kept old new ids k.1)
 
@@ -82,7 +82,7 @@ groups_known : {S I : Type 0} (sets : Sets I) (tree : List (Option (Caller S I))
 groups_known sets tree [] a = tt
 groups_known sets tree (group ∷ groups) a = AreKnown-append sets (group_ids group) (flat_map group_ids groups) (group_known sets tree group a.0.is_group) (groups_known sets tree groups a.1)
 
-findings_known : {V S I : Type 0} (cmp : V → V → Ordering) (sets : Sets I) (xs : List (Shared V S I)) → AreLeaves cmp sets (leaves_of xs) → AreKnown sets (shared_ids xs)
+pub findings_known : {V S I : Type 0} (cmp : V → V → Ordering) (sets : Sets I) (xs : List (Shared V S I)) → AreLeaves cmp sets (leaves_of xs) → AreKnown sets (shared_ids xs)
 findings_known cmp sets [] h = tt
 findings_known cmp sets (x ∷ xs) h = (h.0.known, findings_known cmp sets xs h.1)
 

@@ -16,3 +16,6 @@ pub mod Keeping
 pub mod Beginning
 pub mod Configurations
 pub mod Turning
+pub mod Trees
+pub mod Standing
+pub mod Closing
