@@ -22,6 +22,10 @@ module _ {A B : Type 0} (R : A → B → Type 0) where
       let here : R (get_or xs i x) y = subst (λ z. R z y) e r in
       rw (take_more xs i x l) (zip_push (take i xs) ys (get_or xs i x) y h here)
 
+  -- the same, where the item is read with a default
+  pub zip_read : (xs : List A) (ys : List B) (i : ℕ) (d : A) (y : B) → AllZip R (take i xs) ys → i < length xs → R (get_or xs i d) y → AllZip R (take (i + 1) xs) (ys ++ y ∷ [])
+  zip_read xs ys i d y h l r = rw (take_more xs i d l) (zip_push (take i xs) ys (get_or xs i d) y h r)
+
 module _ {A B : Type 0} {R Q : A → B → Type 0} where
   pub zip_each : ((x : A) (y : B) → R x y → Q x y) → (xs : List A) (ys : List B) → AllZip R xs ys → AllZip Q xs ys
   zip_each f [] [] h = tt

@@ -10,7 +10,7 @@ use Rattle.vx_java.specs.FirstObjects as objects
 use Rattle.vx_java.specs.Machine.{Object, Value}
 use Rattle.vx_java.specs.Machine.{Top as TopValue, Int as IntValue, Long as LongValue, Null as NullValue, Ref as RefValue, Text as TextValue}
 use Rattle.vx_java.specs.Objects.{int_of_bool}
-use Rattle.vx_java.specs.Step.{Config, first_static}
+use Rattle.vx_java.specs.Step.{Config, first_inits, first_static}
 use Rattle.vx_link.specs.declared.program.LinkedField.{LinkedField}
 use Rattle.vx_link.specs.declared.program.Program.{Program}
 use Rattle.vx_list.specs.Places.{item_or}
@@ -87,6 +87,7 @@ pub record IsFirstStatic (p : Program) (f : LinkedField) (static : FirstStatic) 
 pub record IsFirst (p : Program) (first : First) : Type 0 where
   pub objects : AreFirstObjects p first.texts.texts (first_objects p) first.objects.items
   pub statics : AllZip (IsFirstStatic p) p.fields first.statics.items
+  pub inits : first.inits.items ≡ first_inits p
   pub texts : Extends empty_text first.texts.texts
   pub literals : first.literals.items ≡ map (λ c. map (literal_object p c.pool) c.pool.entries) p.classes
   pub words : first.words ≡ first_words p

@@ -5,6 +5,7 @@
 pub mod core_classes;
 mod defaults;
 pub mod first;
+mod inits;
 pub mod literal;
 mod literals;
 pub mod objects;
@@ -13,7 +14,5 @@ mod units;
 
 pub use core_classes::CoreClasses;
 pub use first::First;
-pub use literal::Literal;
-pub use literals::Literals;
 pub use objects::FirstObject;
 pub use statics::FirstStatic;

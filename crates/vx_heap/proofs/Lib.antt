@@ -4,3 +4,4 @@ pub mod Places
 pub mod Written
 pub mod MoreTexts
 pub mod Cells
+pub mod Throughout
