@@ -5,3 +5,5 @@ pub mod Written
 pub mod MoreTexts
 pub mod Cells
 pub mod Throughout
+pub mod Present
+pub mod FirstHeap

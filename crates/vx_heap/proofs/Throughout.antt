@@ -1,7 +1,6 @@
 -- Values that are lifted to the configurations that run.
 use Rattle.std.proofs.Common.{◌≡◌, ℕ, ◌+◌, ◌<◌, Bool, true, false, List, [], ◌∷◌, ◌++◌, ◌&&◌, length, take, get_or, refl, sym, ◌∙◌, ap, if◌then◌else◌}
-use Rattle.std.specs.Prelude.{Option, Some, None, is_some, pos}
-use Rattle.std.specs.List.{AllZip}
+use Rattle.std.specs.Prelude.{Some, None, is_some, pos}
 use Rattle.std.specs.Option.{option_or}
 use Rattle.std.specs.declared.cmp.Ordering.{Ordering}
 use Rattle.vx_value.specs.declared.slot.Slot.{Slot}
@@ -10,7 +9,7 @@ use Rattle.vx_value.specs.Slot.{slot_cmp}
 use Rattle.vx_space.specs.Config.{value_of}
 use Rattle.vx_space.specs.Sets.{Sets, Extends, IsLawful, IsSet}
 use Rattle.vx_space.proofs.Spaces.{Extends-trans}
-use Rattle.vx_cond.specs.Cond.{Conditional, IsCond, IsCondOf, cond_at}
+use Rattle.vx_cond.specs.Cond.{Conditional, IsCondOf, cond_at}
 use Rattle.vx_cond.specs.Leaves.{first_of, value_within}
 use Rattle.vx_cond.proofs.CondLaws.{IsCond-extends, IsCond-of, cond_at-extends, cond_at-of}
 use Rattle.vx_cond.proofs.RowLaws.{scope_is}
@@ -66,7 +65,7 @@ option_throughout {s0 = s0} {s1 = s1} {s2 = s2} {s3 = s3} lawful e1 e2 e3 scope 
       is_cond = IsCond-of slot_cmp s3 (first_of (cond_at s2 one) (cond_at s2 zero)) value v;
       scope_is =
           scope_is slot_cmp lawful (first_of (cond_at s2 one) (cond_at s2 zero)) value scope (s3.test scope) v (record { known = e3.known scope known2; test = λ c. refl })
-              (λ c. ap is_some (at c) ∙ some_if (s3.test scope c) (option_slot option c));
+          (λ c. ap is_some (at c) ∙ some_if (s3.test scope c) (option_slot option c));
       at = λ c. cond_at-of slot_cmp s3 (first_of (cond_at s2 one) (cond_at s2 zero)) value c v ∙ at c;
     }
 
@@ -83,5 +82,5 @@ IsLiftingStatics-step {s1 = s1} {s2 = s2} scope statics i conds default cond k l
       extends = Extends-trans h.extends x;
       are =
           zip_read (IsStatic s2 scope) statics conds i default cond
-              (zip_each (λ f y r. throughout_extends slot_cmp x scope known (static_slot f) y r) (take i statics) conds h.are) l m;
+          (zip_each (λ f y r. throughout_extends slot_cmp x scope known (static_slot f) y r) (take i statics) conds h.are) l m;
     }
