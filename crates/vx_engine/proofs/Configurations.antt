@@ -1,5 +1,5 @@
 -- All configurations of so many options: each list of just so many values is one of them, each nonempty set holds one, and sums over them.
-use Rattle.std.proofs.Common.{◌≡◌, ◌≢◌, ℕ, zero, suc, ◌^◌, ◌<◌, ◌≤◌, Bool, true, false, List, [], ◌∷◌, length, length-append, map, refl, sym, subst, ap, ◌∙◌, arith}
+use Rattle.std.proofs.Common.{◌≡◌, ◌≢◌, ℕ, zero, suc, ◌<◌, ◌≤◌, Bool, true, false, List, [], ◌∷◌, length, map, refl, sym, subst, ap, ◌∙◌, arith}
 use Rattle.std.proofs.Math.ListN.{get_or-map}
 use Rattle.std.proofs.lemmas.List.{length-map}
 use Rattle.std.proofs.lemmas.List.Elements.{Contains-append_left, Contains-append_right}
@@ -36,12 +36,6 @@ of_length (true ∷ c) =
 -- each list of just so many values is one of them
 pub Contains-configurations : (n : ℕ) (c : List Bool) → length c ≡ n → Contains (configurations n) c
 Contains-configurations n c e = subst (λ m. Contains (configurations m) c) e (of_length c)
-
-pub length-configurations : (n : ℕ) → length (configurations n) ≡ 2 ^ n
-length-configurations zero = refl
-length-configurations (suc n) =
-    let half = length-configurations n in
-    simp (length-append, length-map) (omega (arith, half))
 
 -- ---- nonempty sets
 

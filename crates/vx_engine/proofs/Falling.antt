@@ -10,7 +10,8 @@ use Rattle.vx_java.specs.Lockstep.{live_progress}
 use Rattle.vx_java.specs.Step.{Progress, Run, RunResult, step}
 use Rattle.vx_link.specs.declared.program.Program.{Program}
 use Rattle.vx_rounds.specs.Rounds.{IsRound, after_round}
-use Rattle.vx_rounds.specs.State.{Came, IsState, Runs, Standing, StateView, attempts_left, came_to, configurations, group_of, left_of, progress_at, result_at, standing_at, standing_if, standing_in, standing_of}
+use Rattle.vx_rounds.specs.State.{AreRunning, Came, Runs, Standing, StateView, attempts_left, came_to, configurations, group_of, left_of, progress_at, result_at, standing_at, standing_if, standing_in, standing_of}
+use Rattle.vx_sched.specs.Groups.{AreGroups}
 use Rattle.vx_space.specs.Sets.{IsLawful, Sets}
 
 -- ---- the attempts that are left at a configuration
@@ -59,19 +60,28 @@ round_falls p n g h =
 
 -- ---- the attempts that all runs have left
 
+-- in a round of a group what stands changes at its path alone
+pub record IsStepped {S I : Type 0} (p : Program) (old new : Sets I) (before after : StateView S I) (group : GroupView S I) : Type 0 where
+  pub options : new.options ≡ old.options
+  pub limit : after.limit ≡ before.limit
+  pub standing : (c : List Bool) → standing_at new after c ≡ after_round p before.limit (old.test (path_of group) c) (standing_at old before c)
+
+pub round_steps : {S I : Type 0} (p : Program) (old new : Sets I) (allowed : I) (before after : StateView S I) (group : GroupView S I) → IsRound p old new allowed before after group → IsStepped p old new before after group
+round_steps p old new allowed before after group r = record { options = r.options; limit = r.limit; standing = r.standing }
+
 -- at each configuration
-left_after : {S I : Type 0} (p : Program) (old new : Sets I) (allowed : I) (before after : StateView S I) (group : GroupView S I) → IsRound p old new allowed before after group → (c : List Bool) → left_of new after.limit c (group_of new after.groups c) ≡ left_standing before.limit (after_round p before.limit (old.test (path_of group) c) (standing_at old before c))
-left_after p old new allowed before after group r c =
+left_after : {S I : Type 0} (p : Program) (old new : Sets I) (before after : StateView S I) (group : GroupView S I) → IsStepped p old new before after group → (c : List Bool) → left_of new after.limit c (group_of new after.groups c) ≡ left_standing before.limit (after_round p before.limit (old.test (path_of group) c) (standing_at old before c))
+left_after p old new before after group r c =
     left_is new after after.limit c
     ∙ ap (λ n. left_standing n (standing_at new after c)) r.limit
     ∙ ap (left_standing before.limit) (r.standing c)
 
-pub attempts_fall : {S I : Type 0} (p : Program) (old new : Sets I) (allowed : I) (before after : StateView S I) (place : ℕ) (group : GroupView S I) → IsLawful old → IsState p old allowed before → slice_get before.groups place ≡ Some group → IsRound p old new allowed before after group → attempts_left new after < attempts_left old before
-attempts_fall p old new allowed before after place group lawful state e r =
-    let there = group_there old before.tree before.groups place group state.groups e in
-    let running = running_there p old before before.groups place group state.running e in
+pub attempts_fall : {S I : Type 0} (p : Program) (old new : Sets I) (before after : StateView S I) (place : ℕ) (group : GroupView S I) → IsLawful old → AreGroups old before.tree before.groups → AreRunning p old before before.groups → slice_get before.groups place ≡ Some group → IsStepped p old new before after group → attempts_left new after < attempts_left old before
+attempts_fall p old new before after place group lawful groups are_running e r =
+    let there = group_there old before.tree before.groups place group groups e in
+    let running = running_there p old before before.groups place group are_running e in
     let member = member_of lawful (path_of group) there.known there.nonempty in
-    let held = same_group old before.tree before.groups place group member.config state.groups e member.holds in
+    let held = same_group old before.tree before.groups place group member.config groups e member.holds in
     let stands = standing_of_group old before member.config group held in
     let less = less_at member.config (progress_at old before group member.config) (running.left member.config member.holds) member.holds stands in
     rw r.options (sum_falls fewer earlier none_more (configurations old.options) member.config (Contains-configurations old.options member.config member.whole) less)
@@ -84,14 +94,14 @@ attempts_fall p old new allowed before after place group lawful state e r =
 
     none_more : (c : List Bool) → fewer c ≤ earlier c
     none_more c =
-        let now = left_after p old new allowed before after group r c in
+        let now = left_after p old new before after group r c in
         let was = left_is old before before.limit c in
         let fall = round_left p before.limit (old.test (path_of group) c) (standing_at old before c) in
         rw (now, was) fall
 
     less_at : (c : List Bool) (g : Progress) → g.attempts < before.limit → old.test (path_of group) c ≡ true → standing_at old before c ≡ Some (Runs g) → fewer c < earlier c
     less_at c g below holds stands =
-        let now = left_after p old new allowed before after group r c ∙ ap (λ b. left_standing before.limit (after_round p before.limit b (standing_at old before c))) holds ∙ ap (λ s. left_standing before.limit (after_round p before.limit true s)) stands in
+        let now = left_after p old new before after group r c ∙ ap (λ b. left_standing before.limit (after_round p before.limit b (standing_at old before c))) holds ∙ ap (λ s. left_standing before.limit (after_round p before.limit true s)) stands in
         let was = left_is old before before.limit c ∙ ap (left_standing before.limit) stands in
         let fall = round_falls p before.limit g below in
         rw (now, was) fall

@@ -1,7 +1,7 @@
 use Rattle.std.proofs.Common.{◌≡◌, Err, sym, ap, ◌∙◌}
 use Rattle.std.specs.Prelude.{Result}
 use Rattle.std.proofs.lemmas.Result.{err_from_is_err_and}
-use Rattle.vx_engine.proofs.Falling.{attempts_fall}
+use Rattle.vx_engine.proofs.Falling.{attempts_fall, round_steps}
 use Rattle.vx_engine.proofs.Underway.{ended, goes_on, is_last, picked_below, picked_first, reported, started, stuck}
 use Rattle.vx_families.specs.declared.fault.AttemptFault.{AttemptFault}
 use Rattle.vx_families.specs.declared.fault.AttemptFault.TheVariants.{NotYet}
@@ -31,7 +31,8 @@ returns-in_err-step_group-clause-not_yet g c =
 pub rounds-smaller : goal.rounds-smaller
 rounds-smaller g c =
     let round = c.in_ok-step_group.ensures.ok in
-    attempts_fall c.args.program.now (g.S.Space.sets c.rounds.space) (g.S.Space.sets c.step_group.new.space) c.rounds.state.heap.allowed c.rounds.state c.step_group.new.state c.pick-which.result round.0 (g.met.S.Space.lawful c.rounds.space) c.rounds.invariant.is_state round.1 round.2
+    let stepped = round_steps c.args.program.now (g.S.Space.sets c.rounds.space) (g.S.Space.sets c.step_group.new.space) c.rounds.state.heap.allowed c.rounds.state c.step_group.new.state round.0 round.2 in
+    attempts_fall c.args.program.now (g.S.Space.sets c.rounds.space) (g.S.Space.sets c.step_group.new.space) c.rounds.state c.step_group.new.state c.pick-which.result round.0 (g.met.S.Space.lawful c.rounds.space) c.rounds.invariant.is_state.groups c.rounds.invariant.is_state.running round.1 stepped
 
 pub rounds-preserved : goal.rounds-preserved
 rounds-preserved g c =
