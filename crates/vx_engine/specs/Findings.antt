@@ -1,5 +1,5 @@
 -- What all runs have come to, and that this is what the report of lockstep says (own).
-use Rattle.std.specs.Prelude.{◌≡◌, ℕ, Bool, true, false, List, map, filter, length, Contains, Option, Some, None, ◌==◌, if◌then◌else◌, []}
+use Rattle.std.specs.Prelude.{◌≡◌, ℕ, Bool, true, false, List, map, filter, length, Contains, Some, None, ◌==◌, if◌then◌else◌, []}
 use Rattle.std.specs.Ordering.{nat_cmp}
 use Rattle.vx_space.specs.Sets.{Sets, AreKnown}
 use Rattle.vx_cond.specs.Leaves.{AreLeaves, value_at}

@@ -1,0 +1,10 @@
+pub mod Configurations
+pub mod Grouped
+pub mod Runs
+pub mod FirstKeys
+pub mod Abreast
+pub mod Standings
+pub mod Falling
+pub mod LockRounds
+pub mod LockEnds
+pub mod Underway
