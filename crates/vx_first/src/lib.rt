@@ -14,5 +14,6 @@ mod units;
 
 pub use core_classes::CoreClasses;
 pub use first::First;
+pub use inits::first_inits;
 pub use objects::FirstObject;
 pub use statics::FirstStatic;
