@@ -1,10 +1,11 @@
-pub mod Configurations
-pub mod Grouped
-pub mod Runs
-pub mod FirstKeys
 pub mod Abreast
-pub mod Standings
+pub mod Apart
+pub mod Configurations
 pub mod Falling
-pub mod LockRounds
+pub mod FirstKeys
+pub mod Grouped
 pub mod LockEnds
+pub mod LockRounds
+pub mod Runs
+pub mod Standings
 pub mod Underway

@@ -3,6 +3,7 @@ use Rattle.std.proofs.Common.{arith, ◌≡◌, ◌<◌, ℕ, Bool, true, false,
 use Rattle.std.specs.Prelude.{◌==◌, None, Option, Some, slice_get}
 use Rattle.std.proofs.lemmas.Bool.{eqb-true}
 use Rattle.std.proofs.lemmas.List.{length-map, nil_from_length}
+use Rattle.vx_engine.proofs.Apart.{HoldNot, round_apart}
 use Rattle.vx_engine.proofs.Abreast.{IsAbreast, start_abreast}
 use Rattle.vx_engine.proofs.LockEnds.{is_over, report_is}
 use Rattle.vx_engine.proofs.LockRounds.{AreStanding, live_of, lock_round}
@@ -29,6 +30,7 @@ pub record IsUnderway {S I : Type 0} (p : Program) (sets : Sets I) (options : �
   pub runs : Config → Run
   pub reached : (c : Config) → IsReached p limit c (runs c)
   pub standing : AreStanding sets is_allowed limit st runs
+  pub apart : (c : Config) → is_allowed c ≡ false → HoldNot sets st.found c
   pub abreast : FirstPicked → (list : List Config) → AreAllowed options is_allowed list → IsAbreast p limit list st.rounds (map (piece_by sets list) st.found) runs
 
 own_allowed : {S I : Type 0} (p : Program) (sets : Sets I) (allowed : I) (st : StateView S I) → IsState p sets allowed st → IsState p sets st.heap.allowed st
@@ -46,6 +48,7 @@ started p old new allowed limit FirstPicked st known e h =
       runs = start p;
       reached = start_reached p limit;
       standing = record { stands = λ c is_in. h.standing c (e.test allowed c known ∙ is_in) };
+      apart = λ c out. rw h.found refl;
       abreast = λ first list are. none_found list (start_abreast p limit list);
     }
   where
@@ -72,6 +75,7 @@ goes_on p old new options is_allowed limit FirstPicked before after place group 
       runs = moved_runs p limit old (path_of group) u.runs;
       reached = λ c. moved_reached p limit c (old.test (path_of group) c) (u.runs c) (u.reached c);
       standing = record { stands = stands };
+      apart = λ c out. round_apart p old new before.heap.allowed before after group c r (u.is_state.nowhere c (u.same c ∙ out)) (u.apart c out);
       abreast = λ is_first list are.
           lock_round p old before.heap.allowed is_allowed limit before u.runs u.is_state u.standing options u.all_options lawful u.same list are place group (record { is_there = e; first = first is_first }) new after lawful_new r (u.abreast is_first list are);
     }
@@ -144,7 +148,7 @@ ended {S = S} {I = I} p sets options is_allowed limit FirstPicked st findings u 
       runs = λ c is_in.
           let over = is_over sets st limit c (u.runs c) last.none (u.standing.stands c is_in) in
           over.found ∙ ap Some (whole_run p limit c (u.runs c) (u.reached c) over.none);
-      others = λ c out. let nowhere = u.is_state.nowhere c (u.same c ∙ out) in record { output = nowhere.output; end = nowhere.end; spent = nowhere.spent };
+      others = λ c out. let nowhere = u.is_state.nowhere c (u.same c ∙ out) in record { texts = u.apart c out; end = nowhere.end; spent = nowhere.spent };
     })
 
 pub reported : {S I : Type 0} (p : Program) (sets : Sets I) (options : ℕ) (is_allowed : Config → Bool) (limit : ℕ) (FirstPicked : Type 0) (st : StateView S I) (findings : FindingsView S I) → IsLawful sets → IsUnderway p sets options is_allowed limit FirstPicked st → IsLast st findings → FirstPicked → (list : List Config) (version : ℕ) → AreAllowed options is_allowed list → lock_report p list limit version ≡ report_by sets list limit version findings

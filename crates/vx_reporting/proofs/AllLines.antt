@@ -7,6 +7,7 @@ use Rattle.vx_space.specs.Sets.{AreKnown, Sets}
 use Rattle.vx_bdd_tools.specs.declared.node.Node.{Node}
 use Rattle.vx_bdd_tools.specs.Listing.{IsListing}
 use Rattle.vx_bdd_tools.specs.Numbering.{HoldAll, IsNumbered}
+use Rattle.vx_engine.proofs.Apart.{none_holds}
 use Rattle.vx_engine.specs.Findings.{AreAllowed, AreFindings, FindingsView, IsNotFound, piece_by, report_by, shared_by}
 use Rattle.vx_findings.specs.declared.shared.Shared.{Shared}
 use Rattle.vx_findings.specs.declared.piece.Piece as written
@@ -22,7 +23,7 @@ use Rattle.vx_report_reader.specs.Rules.{roots_of}
 use Rattle.vx_rounds.specs.State.{shared_ids}
 use Rattle.vx_reporting.specs.Listed.{attempts_line, end_line, lines_with, piece_line, report_with}
 use Rattle.vx_reporting.specs.Reported.{IsReported, SaysLockstep, IsHeldNowhere, attempts_of, end_of, piece_of}
-use Rattle.vx_reporting.proofs.Matching.{AreParts, Hold, all_append, attempts_same, drop_more, end_same, held_nowhere, hold_behind, hold_first, hold_none, mapped_same, none_holds, numbers_of, output_same, parts_of}
+use Rattle.vx_reporting.proofs.Matching.{AreParts, Hold, all_append, attempts_same, drop_more, end_same, held_nowhere, hold_behind, hold_first, hold_none, mapped_same, numbers_of, output_same, parts_of}
 
 -- the sets of the numbers of attempts, which version 2 alone shows
 abbrev spent_ids : {S I : Type 0} → Bool → List (Shared ℕ S I) → List I

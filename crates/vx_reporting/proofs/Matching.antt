@@ -150,15 +150,6 @@ pub hold_none : {I : Type 0} (nodes : List Node) (sets : Sets I) (numbers : List
 hold_none nodes sets [] h = refl
 hold_none nodes sets (n ∷ numbers) h = absurd h
 
--- where a configuration has no value, no set holds it
-pub none_holds : {V S I : Type 0} (sets : Sets I) (list : List (Shared V S I)) (c : List Bool) → value_at sets (leaves_of list) c ≡ None → list_all (λ id. not (sets.test id c)) (shared_ids list) ≡ true
-none_holds sets [] c h = refl
-none_holds sets (x ∷ list) c h = by (sets.test x.condition c) h (none_holds sets list c)
-  where
-    by : (b : Bool) → cond b (Some x.value) (value_at sets (leaves_of list) c) ≡ None → (value_at sets (leaves_of list) c ≡ None → list_all (λ id. not (sets.test id c)) (shared_ids list) ≡ true) → (not b && list_all (λ id. not (sets.test id c)) (shared_ids list)) ≡ true
-    by true k rest = cc
-    by false k rest = rest k
-
 pub all_append : {A : Type 0} (p : A → Bool) (xs ys : List A) → list_all p xs ≡ true → list_all p ys ≡ true → list_all p (xs ++ ys) ≡ true
 all_append p [] ys h k = k
 all_append p (x ∷ xs) ys h k = by (p x) h (λ rest. all_append p xs ys rest k)
