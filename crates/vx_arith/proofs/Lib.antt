@@ -1,2 +1,2 @@
-pub mod LiftLaws
-pub mod PartLaws
+pub mod Pairs
+pub mod RowLaws

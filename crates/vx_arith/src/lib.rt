@@ -1,8 +1,11 @@
-//! Instructions that take operands off a frame and put others on, for all configurations of a group at once.
+//! The family of numbers and jumps: arithmetic, comparisons, narrowings, jumps and switches (JVMS 6.5).
 #![tactic(auto)]
 
-pub mod lifting;
-pub mod parts;
+pub mod family;
+pub mod jumping;
+pub mod numbers;
+pub mod spot;
 
-pub use lifting::{lift_one, lift_two, on_one, on_two, take_operand};
-pub use parts::{Part, divide};
+pub use family::{divides, is_of_numbers, takes_none, takes_one, takes_two};
+pub use numbers::{of_one, of_two};
+pub use spot::Spot;

@@ -1,0 +1,106 @@
+-- What an instruction makes of plain operands is its row.
+use Rattle.std.proofs.Common.{◌≡◌, ℕ, ◌+◌, zero, suc, ℤ, pos, ◌+ℤ◌, Bool, true, false, List, ◌∷◌, refl, sym, ◌∙◌, ap, subst, not}
+use Rattle.std.specs.Prelude.{Option, Some, None, codes}
+use Rattle.vx_value.specs.Arithmetic.{int_op_of, long_op_of, natural, same_int}
+use Rattle.vx_value.specs.declared.operation.IntOp.TheVariants.{Div, Rem}
+use Rattle.vx_value.specs.declared.slot.Slot.{Slot}
+use Rattle.vx_value.specs.declared.slot.Slot.TheVariants.{Top, Int, Long, Null, Ref, Text}
+use Rattle.vx_space.specs.Sets.{Sets}
+use Rattle.vx_heap.specs.Heap.{HeapView, value_of}
+use Rattle.vx_java.specs.Jumps.{branch, jump, pair_of}
+use Rattle.vx_java.specs.Calculation.{int_result, long_result}
+use Rattle.vx_java.specs.Machine.{Go, Here, Raise, Value, at_position, raise_with}
+use Rattle.vx_java.specs.Row.{row_of}
+use Rattle.vx_java.specs.declared.operation.Operation.{Operation}
+use Rattle.vx_java.specs.declared.operation.Operation.TheVariants.{IfInt, IfInts, IfNull, IntArithmetic, IntNarrow, IntNegate, IntShift, IntToLong, LongArithmetic, LongCompare, LongNegate, LongShift, LongToInt, SwitchLookup, SwitchTable}
+use Rattle.vx_opcode.specs.Numbers.{s4}
+use Rattle.vx_stands.specs.Answering.{answered}
+use Rattle.vx_stands.specs.declared.answer.Answer.{Answer}
+use Rattle.vx_arith.specs.Family.{divides, takes_one, takes_two}
+use Rattle.vx_arith.specs.Numbers.{branch_by, int_or, jump_by, long_or, of_one, of_two, pair_jump, table_jump}
+use Rattle.vx_arith.specs.Raising.{IsByZero}
+use Rattle.vx_arith.specs.declared.spot.Spot.{Spot}
+
+-- the spot is that of the instruction
+pub record IsSpotOf (h : Here) (spot : Spot) : Type 0 where
+  pub code : spot.code.now ≡ h.code.bytes
+  pub position : spot.position ≡ h.state.top.position
+  pub size : spot.size ≡ h.size
+
+pub jump_row : {S I : Type 0} (sets : Sets I) (heap : HeapView S I) (c : List Bool) (h : Here) (spot : Spot) (rest : List Value) (offset : ℤ) → IsSpotOf h spot → answered sets heap c h rest (jump_by spot offset) ≡ jump h offset rest
+jump_row sets heap c h spot rest offset e = ap (λ (n : ℕ). Go (at_position h.state (natural (pos n +ℤ offset)) rest)) e.position
+
+pub branch_row : {S I : Type 0} (sets : Sets I) (heap : HeapView S I) (c : List Bool) (h : Here) (spot : Spot) (rest : List Value) (taken : Bool) (offset : ℤ) → IsSpotOf h spot → answered sets heap c h rest (branch_by spot taken offset) ≡ branch h taken offset rest
+branch_row sets heap c h spot rest true offset e = jump_row sets heap c h spot rest offset e
+branch_row sets heap c h spot rest false offset e = λ i. Go (at_position h.state (e.position i + e.size i) rest)
+
+pair_row : (h : Here) (key fallback : ℤ) (pairs first : ℕ) → pair_jump h.code.bytes key fallback pairs first ≡ pair_of h key fallback pairs first
+pair_row h key fallback zero first = refl
+pair_row h key fallback (suc pairs) first =
+    ap (λ (other : ℤ). elim (same_int (s4 h.code.bytes first) key) as (λ _. ℤ) [ true ↦ s4 h.code.bytes (first + 4) | false ↦ other ]) (pair_row h key fallback pairs (first + 8))
+
+pub one_row : {S I : Type 0} (sets : Sets I) (heap : HeapView S I) (c : List Bool) (h : Here) (spot : Spot) (rest : List Value) (operation : Operation) (slot : Slot) → IsSpotOf h spot → takes_one operation ≡ true → answered sets heap c h rest (of_one spot operation slot) ≡ row_of h operation (value_of sets heap c slot ∷ rest)
+one_row sets heap c h spot rest (IfInt test offset) (Int a) e t = branch_row sets heap c h spot rest _ offset e
+one_row sets heap c h spot rest (IfNull wanted offset) Null e t = branch_row sets heap c h spot rest wanted offset e
+one_row sets heap c h spot rest (IfNull wanted offset) (Ref r) e t = branch_row sets heap c h spot rest (not wanted) offset e
+one_row sets heap c h spot rest (SwitchTable fallback low high first) (Int key) e t =
+    jump_row sets heap c h spot rest _ e ∙ ap (λ (code : List ℕ). jump h (table_jump code fallback low high first key) rest) e.code
+one_row sets heap c h spot rest (SwitchLookup fallback pairs first) (Int key) e t =
+    jump_row sets heap c h spot rest _ e ∙ ap (λ (code : List ℕ). jump h (pair_jump code key fallback pairs first) rest) e.code ∙ ap (λ (offset : ℤ). jump h offset rest) (pair_row h key fallback pairs first)
+one_row sets heap c h spot rest (IfInt test offset) _ e t = refl
+one_row sets heap c h spot rest (IfNull wanted offset) _ e t = refl
+one_row sets heap c h spot rest (SwitchTable fallback low high first) _ e t = refl
+one_row sets heap c h spot rest (SwitchLookup fallback pairs first) _ e t = refl
+one_row sets heap c h spot rest IntNegate (Int a) e t = refl
+one_row sets heap c h spot rest IntNegate _ e t = refl
+one_row sets heap c h spot rest IntToLong (Int a) e t = refl
+one_row sets heap c h spot rest IntToLong _ e t = refl
+one_row sets heap c h spot rest (IntNarrow to) (Int a) e t = refl
+one_row sets heap c h spot rest (IntNarrow to) _ e t = refl
+one_row sets heap c h spot rest LongNegate (Long a) e t = refl
+one_row sets heap c h spot rest LongNegate _ e t = refl
+one_row sets heap c h spot rest LongToInt (Long a) e t = refl
+one_row sets heap c h spot rest LongToInt _ e t = refl
+one_row sets heap c h spot rest _ slot e t = cc
+
+zero_row : {S I : Type 0} (sets : Sets I) (heap : HeapView S I) (c : List Bool) (h : Here) (rest : List Value) (by_zero : Answer) → IsByZero h.program heap by_zero → answered sets heap c h rest by_zero ≡ raise_with h "java/lang/ArithmeticException" (codes "/ by zero")
+zero_row sets heap c h rest by_zero z = ap (answered sets heap c h rest) z.is ∙ (λ i. Raise (z.named i) (Some (z.text i)) h.state)
+
+int_row : {S I : Type 0} (sets : Sets I) (heap : HeapView S I) (c : List Bool) (h : Here) (rest : List Value) (by_zero : Answer) (n : Option ℤ) → IsByZero h.program heap by_zero → answered sets heap c h rest (int_or by_zero n) ≡ int_result h rest n
+int_row sets heap c h rest by_zero (Some n) z = refl
+int_row sets heap c h rest by_zero None z = zero_row sets heap c h rest by_zero z
+
+long_row : {S I : Type 0} (sets : Sets I) (heap : HeapView S I) (c : List Bool) (h : Here) (rest : List Value) (by_zero : Answer) (n : Option ℤ) → IsByZero h.program heap by_zero → answered sets heap c h rest (long_or by_zero n) ≡ long_result h rest n
+long_row sets heap c h rest by_zero (Some n) z = refl
+long_row sets heap c h rest by_zero None z = zero_row sets heap c h rest by_zero z
+
+pub two_row : {S I : Type 0} (sets : Sets I) (heap : HeapView S I) (c : List Bool) (h : Here) (spot : Spot) (rest : List Value) (by_zero : Answer) (operation : Operation) (upper lower : Slot) → IsSpotOf h spot → (divides operation ≡ true → IsByZero h.program heap by_zero) → takes_two operation ≡ true → answered sets heap c h rest (of_two spot by_zero operation upper lower) ≡ row_of h operation (value_of sets heap c upper ∷ value_of sets heap c lower ∷ rest)
+two_row sets heap c h spot rest by_zero (IntArithmetic Div) (Int b) (Int a) e z t = int_row sets heap c h rest by_zero (int_op_of Div a b) (z refl)
+two_row sets heap c h spot rest by_zero (IntArithmetic Rem) (Int b) (Int a) e z t = int_row sets heap c h rest by_zero (int_op_of Rem a b) (z refl)
+two_row sets heap c h spot rest by_zero (LongArithmetic Div) (Long b) (Long a) e z t = long_row sets heap c h rest by_zero (long_op_of Div a b) (z refl)
+two_row sets heap c h spot rest by_zero (LongArithmetic Rem) (Long b) (Long a) e z t = long_row sets heap c h rest by_zero (long_op_of Rem a b) (z refl)
+two_row sets heap c h spot rest by_zero (IfInts test offset) (Int b) (Int a) e z t = branch_row sets heap c h spot rest _ offset e
+two_row sets heap c h spot rest by_zero (IfInts test offset) (Int b) (Long a) e z t = refl
+two_row sets heap c h spot rest by_zero (IfInts test offset) (Long b) (Long a) e z t = refl
+two_row sets heap c h spot rest by_zero (IfInts test offset) _ _ e z t = refl
+two_row sets heap c h spot rest by_zero (IntArithmetic _) (Int b) (Int a) e z t = refl
+two_row sets heap c h spot rest by_zero (IntArithmetic _) (Int b) (Long a) e z t = refl
+two_row sets heap c h spot rest by_zero (IntArithmetic _) (Long b) (Long a) e z t = refl
+two_row sets heap c h spot rest by_zero (IntArithmetic _) _ _ e z t = refl
+two_row sets heap c h spot rest by_zero (LongArithmetic _) (Int b) (Int a) e z t = refl
+two_row sets heap c h spot rest by_zero (LongArithmetic _) (Int b) (Long a) e z t = refl
+two_row sets heap c h spot rest by_zero (LongArithmetic _) (Long b) (Long a) e z t = refl
+two_row sets heap c h spot rest by_zero (LongArithmetic _) _ _ e z t = refl
+two_row sets heap c h spot rest by_zero (IntShift op) (Int b) (Int a) e z t = refl
+two_row sets heap c h spot rest by_zero (IntShift op) (Int b) (Long a) e z t = refl
+two_row sets heap c h spot rest by_zero (IntShift op) (Long b) (Long a) e z t = refl
+two_row sets heap c h spot rest by_zero (IntShift op) _ _ e z t = refl
+two_row sets heap c h spot rest by_zero (LongShift op) (Int b) (Int a) e z t = refl
+two_row sets heap c h spot rest by_zero (LongShift op) (Int b) (Long a) e z t = refl
+two_row sets heap c h spot rest by_zero (LongShift op) (Long b) (Long a) e z t = refl
+two_row sets heap c h spot rest by_zero (LongShift op) _ _ e z t = refl
+two_row sets heap c h spot rest by_zero LongCompare (Int b) (Int a) e z t = refl
+two_row sets heap c h spot rest by_zero LongCompare (Int b) (Long a) e z t = refl
+two_row sets heap c h spot rest by_zero LongCompare (Long b) (Long a) e z t = refl
+two_row sets heap c h spot rest by_zero LongCompare _ _ e z t = refl
+two_row sets heap c h spot rest by_zero _ upper lower e z t = cc
