@@ -1,10 +1,10 @@
 -- What an instruction makes of plain operands is its row.
-use Rattle.std.proofs.Common.{◌≡◌, ℕ, ◌+◌, zero, suc, ℤ, pos, ◌+ℤ◌, Bool, true, false, List, ◌∷◌, refl, sym, ◌∙◌, ap, subst, not}
+use Rattle.std.proofs.Common.{◌≡◌, ℕ, ◌+◌, zero, suc, ℤ, pos, ◌+ℤ◌, Bool, true, false, List, ◌∷◌, refl, ◌∙◌, ap, not}
 use Rattle.std.specs.Prelude.{Option, Some, None, codes}
 use Rattle.vx_value.specs.Arithmetic.{int_op_of, long_op_of, natural, same_int}
 use Rattle.vx_value.specs.declared.operation.IntOp.TheVariants.{Div, Rem}
 use Rattle.vx_value.specs.declared.slot.Slot.{Slot}
-use Rattle.vx_value.specs.declared.slot.Slot.TheVariants.{Top, Int, Long, Null, Ref, Text}
+use Rattle.vx_value.specs.declared.slot.Slot.TheVariants.{Int, Long, Null, Ref}
 use Rattle.vx_space.specs.Sets.{Sets}
 use Rattle.vx_heap.specs.Heap.{HeapView, value_of}
 use Rattle.vx_java.specs.Jumps.{branch, jump, pair_of}
