@@ -1,0 +1,6 @@
+//! Whole runs of all configurations at once.
+#![tactic(auto)]
+
+pub mod running;
+
+pub use running::{Findings, run_with};

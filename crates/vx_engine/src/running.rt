@@ -1,0 +1,74 @@
+//! Rounds until no run goes on.
+
+ghost use Rattle.std.specs.Prelude.{◌≡◌, ◌≢◌, ◌<◌, ◌≤◌, Err, IfOk, List, ℕ, true};
+ghost use Rattle.vx_space.specs.Sets.{IsKnown};
+ghost use Rattle.vx_engine.specs.Findings.{AreAllowed, AreFindings, report_by};
+ghost use Rattle.vx_families.specs.Bounds.{IsBounded};
+ghost use Rattle.vx_heap.specs.Heap.{has_options};
+ghost use Rattle.vx_java.specs.Report.{lock_report};
+ghost use Rattle.vx_java.specs.Step.{Config};
+ghost use Rattle.vx_rounds.specs.Rounds.{MeetsUnbuilt};
+ghost use Rattle.vx_rounds.specs.State.{most_attempts};
+ghost use Rattle.vx_sched.specs.Picks.{IsFirstKey};
+ghost use Rattle.vx_value.specs.declared.key.KeyPart.{KeyPart};
+
+use std::alloc::Global;
+use std::marker::Model;
+use vx_families::AttemptFault;
+use vx_findings::{Piece, Shared};
+use vx_link::Program;
+use vx_sched::Picker;
+use vx_space::Space;
+use vx_value::End;
+
+/// What all runs have come to.
+#[derive(Drop)]
+pub struct Findings<S: Space> {
+    /// How many rounds were made.
+    pub rounds: u128,
+    /// The texts in the order in which they were written.
+    pub found: Vec<Shared<Piece, S>>,
+    /// The ends, ascending.
+    pub ends: Vec<Shared<End, S>>,
+    /// The numbers of attempts, ascending.
+    pub spent: Vec<Shared<u64, S>>,
+}
+
+impl<S: Space> Model for Findings<S> {
+    ghost use Rattle.vx_engine.specs.Findings.{FindingsView};
+
+    ghost Value = { FindingsView S S.Id };
+
+    ghost view = { λ f. record { rounds = f.rounds; found = f.found.items; ends = f.ends.items; spent = f.spent.items } };
+}
+
+/// Runs a program in all of some configurations at once, each with at most `limit` attempts, where the picker says which
+/// group makes the next attempt. Afterwards only the ids of the findings are sure to be known. `NotYet` comes only where
+/// one of the runs comes to what isn't built.
+pub fn run_with<S: Space, K: Picker>(
+    alloc: Global,
+    program: &Program,
+    space: &mut S,
+    allowed: S::Id,
+    limit: u64,
+    picker: &mut K,
+) -> Result<Findings<S>, AttemptFault>
+    requires bounded { IsBounded program.now }
+    requires options { has_options (S.sets space.old).options program.now.fields ≡ true }
+    requires known { IsKnown (S.sets space.old) allowed }
+    requires some { allowed ≢ (S.sets space.old).never }
+    requires least { 0 < limit }
+    requires most { limit ≤ most_attempts }
+
+    // Whatever the picker, each allowed configuration has its own run.
+    ensures findings { IfOk result (AreFindings program.now (S.sets space.new) ((S.sets space.old).test allowed) limit) }
+
+    // Where the first key is picked, the findings are just the report of lockstep.
+    ensures lockstep { ((keys : List (List KeyPart)) (place : ℕ) → K.picks keys place → IsFirstKey keys place) →
+        IfOk result (λ f. (list : List Config) (version : ℕ) → AreAllowed (S.sets space.old).options ((S.sets space.old).test allowed) list →
+        lock_report program.now list limit version ≡ report_by (S.sets space.new) list limit version f) }
+
+    ensures not_yet { result ≡ Err AttemptFault.NotYet → MeetsUnbuilt program.now ((S.sets space.old).test allowed) limit }
+{
+    Err(AttemptFault::NoMemory)
+}

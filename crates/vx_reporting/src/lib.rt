@@ -1,0 +1,6 @@
+//! The report of whole runs: each set of configurations as a node of one list, and the text.
+#![tactic(auto)]
+
+pub mod reporting;
+
+pub use reporting::report_findings;

@@ -1,0 +1,12 @@
+//! The runs of all configurations side by side: the state with which they begin, and a round, in which the runs of one group
+//! make an attempt.
+#![tactic(auto)]
+
+mod attempting;
+pub mod starting;
+pub mod state;
+pub mod stepping;
+
+pub use starting::start;
+pub use state::State;
+pub use stepping::step_group;

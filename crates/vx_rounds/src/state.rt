@@ -1,0 +1,65 @@
+//! The state of all runs.
+
+ghost use Rattle.std.specs.Prelude.{◌≡◌, ◌++◌, OnOk};
+ghost use Rattle.vx_rounds.specs.State.{state_ids};
+
+use std::alloc::AllocError;
+use std::marker::Model;
+use vx_findings::{Piece, Shared};
+use vx_group::{Callers, Group};
+use vx_heap::Heap;
+use vx_space::Space;
+use vx_value::End;
+
+/// The state of all runs side by side. It doesn't hold its space.
+#[derive(Drop)]
+pub struct State<S: Space> {
+    pub(crate) heap: Heap<S>,
+    pub(crate) callers: Callers<S>,
+    pub(crate) groups: Vec<Group<S>>,
+    pub(crate) limit: u64,
+    pub(crate) rounds: u128,
+    pub(crate) found: Vec<Shared<Piece, S>>,
+    pub(crate) ends: Vec<Shared<End, S>>,
+    pub(crate) spent: Vec<Shared<u64, S>>,
+}
+
+impl<S: Space> Model for State<S> {
+    ghost use Rattle.vx_rounds.specs.State.{StateView};
+
+    ghost Value = { StateView S S.Id };
+
+    ghost view = { λ s. record { heap = s.heap; tree = s.callers; groups = s.groups.items; limit = s.limit; rounds = s.rounds; found = s.found.items; ends = s.ends.items; spent = s.spent.items } };
+}
+
+impl<S: Space> State<S> {
+    /// The groups that go on.
+    pub fn groups(&self) -> &[Group<S>]
+        ensures { result.now ≡ self.now.groups }
+    {
+        self.groups.as_slice()
+    }
+
+    /// How many rounds were made.
+    pub fn rounds(&self) -> u128
+        ensures { result ≡ self.now.rounds }
+    {
+        self.rounds
+    }
+
+    /// What was found, by a move: the texts in the order in which they were written, the ends, and the numbers of attempts.
+    pub fn into_found(self) -> (Vec<Shared<Piece, S>>, Vec<Shared<End, S>>, Vec<Shared<u64, S>>)
+        ensures found { result.0.items ≡ self.found }
+        ensures ends { result.1.items ≡ self.ends }
+        ensures spent { result.2.items ≡ self.spent }
+    {
+        (self.found, self.ends, self.spent)
+    }
+
+    /// Appends just the ids that the state holds.
+    pub fn ids_out(&self, ids: &mut Vec<S::Id>) -> Result<(), AllocError>
+        ensures { OnOk result (ids.new.items ≡ ids.old.items ++ state_ids self.now) }
+    {
+        Err(AllocError)
+    }
+}
