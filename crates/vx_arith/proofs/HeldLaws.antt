@@ -1,5 +1,5 @@
 -- What an instruction of numbers makes of its operands names what is there.
-use Rattle.std.proofs.Common.{◌≡◌, ℤ, Bool, true, false, List, refl}
+use Rattle.std.proofs.Common.{[], ◌∷◌, ◌∙◌, ap, length, ◌≡◌, ℤ, Bool, true, false, List, refl}
 use Rattle.std.specs.Prelude.{Option, Some, None}
 use Rattle.vx_value.specs.declared.slot.Slot.{Slot}
 use Rattle.vx_value.specs.declared.slot.Slot.TheVariants.{Int, Long, Null, Ref}
@@ -8,9 +8,12 @@ use Rattle.vx_space.specs.Sets.{Sets}
 use Rattle.vx_heap.specs.Heap.{HeapView}
 use Rattle.vx_java.specs.declared.operation.Operation.{Operation}
 use Rattle.vx_java.specs.declared.operation.Operation.TheVariants.{IfInt, IfInts, IfNull, IntArithmetic, LongArithmetic, LongNegate, LongShift}
+use Rattle.vx_link.specs.declared.program.Program.{Program}
+use Rattle.std.proofs.lemmas.Bool.{lt-ltb}
 use Rattle.vx_stands.specs.Answering.{is_answer_held}
 use Rattle.vx_stands.specs.declared.answer.Answer.{Answer}
-use Rattle.vx_arith.specs.Numbers.{branch_by, int_or, long_or, of_int, of_ints, of_long, of_longs, of_mixed, of_one, of_reference, of_two}
+use Rattle.vx_arith.specs.Numbers.{branch_by, int_or, long_or, of_int, of_ints, of_long, of_longs, of_mixed, of_one, of_reference, of_top, of_top_two, of_two}
+use Rattle.vx_arith.specs.Raising.{IsByZero, IsForZero}
 use Rattle.vx_arith.specs.declared.spot.Spot.{Spot}
 
 branch_held : {S I : Type 0} (sets : Sets I) (heap : HeapView S I) (c : List Bool) (spot : Spot) (taken : Bool) (offset : ℤ) → is_answer_held sets heap c (branch_by spot taken offset) ≡ true
@@ -63,3 +66,24 @@ two_held sets heap c spot by_zero operation (Int b) (Int a) z = ints_held sets h
 two_held sets heap c spot by_zero operation (Long b) (Long a) z = longs_held sets heap c by_zero operation a b z
 two_held sets heap c spot by_zero operation (Int n) (Long a) z = mixed_held sets heap c operation a n
 two_held sets heap c spot by_zero operation _ _ z = refl
+
+-- ---- the operands that stand there
+
+pub top_held : {S I : Type 0} (sets : Sets I) (heap : HeapView S I) (c : List Bool) (spot : Spot) (operation : Operation) (operands : List Slot) → is_answer_held sets heap c (of_top spot operation operands) ≡ true
+top_held sets heap c spot operation [] = refl
+top_held sets heap c spot operation (operand ∷ rest) = one_held sets heap c spot operation operand
+
+pub top_two_held : {S I : Type 0} (sets : Sets I) (heap : HeapView S I) (c : List Bool) (spot : Spot) (by_zero : Answer) (operation : Operation) (operands : List Slot) → is_answer_held sets heap c by_zero ≡ true → is_answer_held sets heap c (of_top_two spot by_zero operation operands) ≡ true
+top_two_held sets heap c spot by_zero operation [] z = refl
+top_two_held sets heap c spot by_zero operation (upper ∷ []) z = refl
+top_two_held sets heap c spot by_zero operation (upper ∷ lower ∷ rest) z = two_held sets heap c spot by_zero operation upper lower z
+
+-- ---- what comes of a zero divisor
+
+pub zero_held : {S I : Type 0} (sets : Sets I) (heap : HeapView S I) (c : List Bool) (p : Program) (divides : Bool) (by_zero : Answer) → IsForZero divides p heap by_zero → is_answer_held sets heap c by_zero ≡ true
+zero_held sets heap c p true by_zero z = ap (is_answer_held sets heap c) z.is ∙ lt-ltb z.message (length heap.texts) z.text.known
+zero_held sets heap c p false by_zero z = ap (is_answer_held sets heap c) z
+
+pub zero_raises : {S I : Type 0} (heap : HeapView S I) (p : Program) (divides : Bool) (by_zero : Answer) → IsForZero divides p heap by_zero → divides ≡ true → IsByZero p heap by_zero
+zero_raises heap p true by_zero z t = z
+zero_raises heap p false by_zero z t = cc

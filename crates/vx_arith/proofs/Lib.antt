@@ -1,3 +1,6 @@
+pub mod AttemptLaws
+pub mod Ends
 pub mod HeldLaws
+pub mod OperandLaws
 pub mod Pairs
 pub mod RowLaws

@@ -1,6 +1,6 @@
 -- What the instructions of numbers and the jumps make of plain operands.
 use Rattle.std.specs.Int.{w32, w64}
-use Rattle.std.specs.Prelude.{Bool, true, false, List, None, Option, Some, if◌then◌else◌, int_le, nat_abs, not, pos, suc, zero, ℕ, ℤ, ◌&&◌, ◌*◌, ◌+ℤ◌, ◌+◌, ◌-ℤ◌}
+use Rattle.std.specs.Prelude.{Bool, true, false, List, None, Option, Some, if◌then◌else◌, int_le, nat_abs, not, pos, suc, zero, ℕ, ℤ, ◌&&◌, ◌*◌, ◌+ℤ◌, ◌+◌, ◌-ℤ◌, [], ◌∷◌}
 use Rattle.vx_java.specs.Jumps.{passes}
 use Rattle.vx_java.specs.declared.operation.Operation.{Operation}
 use Rattle.vx_java.specs.declared.operation.Operation.TheVariants.{IfInt, IfInts, IfNull, IntArithmetic, IntNarrow, IntNegate, IntShift, IntToLong, LongArithmetic, LongCompare, LongNegate, LongShift, LongToInt, SwitchLookup, SwitchTable}
@@ -15,8 +15,11 @@ use Rattle.vx_arith.specs.declared.spot.Spot.{Spot}
 -- ---- positions
 
 -- a jump is relative to the opcode
+abbrev pub target_of : Spot → ℤ → ℕ
+target_of spot offset = natural (pos spot.position +ℤ offset)
+
 abbrev pub jump_by : Spot → ℤ → Answer
-jump_by spot offset = Jump (natural (pos spot.position +ℤ offset))
+jump_by spot offset = Jump (target_of spot offset)
 
 -- the jump, or on past the instruction
 abbrev pub branch_by : Spot → Bool → ℤ → Answer
@@ -63,6 +66,11 @@ of_one spot operation Null = of_reference spot operation true
 of_one spot operation (Ref r) = of_reference spot operation false
 of_one spot operation _ = Illegal
 
+-- the one on top
+abbrev pub of_top : Spot → Operation → List Slot → Answer
+of_top spot operation (operand ∷ rest) = of_one spot operation operand
+of_top spot operation [] = Illegal
+
 -- ---- two operands
 
 -- the value, or what comes of a zero divisor
@@ -96,3 +104,8 @@ of_two spot by_zero operation (Int b) (Int a) = of_ints spot by_zero operation a
 of_two spot by_zero operation (Long b) (Long a) = of_longs by_zero operation a b
 of_two spot by_zero operation (Int n) (Long a) = of_mixed operation a n
 of_two spot by_zero operation _ _ = Illegal
+
+-- the two on top
+abbrev pub of_top_two : Spot → (by_zero : Answer) → Operation → List Slot → Answer
+of_top_two spot by_zero operation (upper ∷ lower ∷ rest) = of_two spot by_zero operation upper lower
+of_top_two spot by_zero operation _ = Illegal

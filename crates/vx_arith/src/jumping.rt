@@ -1,22 +1,26 @@
 //! The positions to which jumps and switches lead (JVMS 6.5). The jumps of a switch stand in the code.
 
 ghost use Rattle.std.specs.Prelude.{◌≡◌, ◌<◌, ◌^◌, slice_index};
-ghost use Rattle.vx_arith.specs.Numbers.{branch_by, jump_by, pair_jump, table_jump};
+ghost use Rattle.vx_arith.specs.Numbers.{branch_by, jump_by, pair_jump, table_jump, target_of};
 ghost use Rattle.vx_opcode.specs.Numbers.{s4};
 ghost use Rattle.vx_value.specs.Arithmetic.{same_int};
 
 use crate::spot::Spot;
 use vx_stands::Answer;
 
+/// The position that is so far from the opcode, or 0 before the code.
+pub fn target_of(spot: &Spot, offset: i32) -> u32
+    ensures { result ≡ target_of spot.now offset }
+{
+    let target = i64::from(spot.position) + i64::from(offset);
+    if target < 0 { 0 } else { target as u32 }
+}
+
 /// Goes to the position that is so far from the opcode.
 pub fn jump_by(spot: &Spot, offset: i32) -> Answer
     ensures { result ≡ jump_by spot.now offset }
 {
-    let target = i64::from(spot.position) + i64::from(offset);
-    if target < 0 {
-        return Answer::Jump(0);
-    }
-    Answer::Jump(target as u32)
+    Answer::Jump(target_of(spot, offset))
 }
 
 /// Goes there, or past the instruction.
