@@ -12,6 +12,7 @@ use Rattle.vx_link.specs.declared.program.Program.{Program}
 use Rattle.std.proofs.lemmas.Bool.{lt-ltb}
 use Rattle.vx_stands.specs.Answering.{is_answer_held}
 use Rattle.vx_stands.specs.declared.answer.Answer.{Answer}
+use Rattle.vx_stands.specs.declared.answer.Answer.TheVariants.{Illegal}
 use Rattle.vx_arith.specs.Numbers.{branch_by, int_or, long_or, of_int, of_ints, of_long, of_longs, of_mixed, of_one, of_reference, of_top, of_top_two, of_two}
 use Rattle.vx_arith.specs.Raising.{IsByZero, IsForZero}
 use Rattle.vx_arith.specs.declared.spot.Spot.{Spot}
@@ -87,3 +88,11 @@ zero_held sets heap c p false by_zero z = ap (is_answer_held sets heap c) z
 pub zero_raises : {S I : Type 0} (heap : HeapView S I) (p : Program) (divides : Bool) (by_zero : Answer) → IsForZero divides p heap by_zero → divides ≡ true → IsByZero p heap by_zero
 zero_raises heap p true by_zero z t = z
 zero_raises heap p false by_zero z t = cc
+
+pub divides_zero : {S I : Type 0} (heap : HeapView S I) (p : Program) (divides : Bool) (by_zero : Answer) → divides ≡ true → IsByZero p heap by_zero → IsForZero divides p heap by_zero
+divides_zero heap p true by_zero t z = z
+divides_zero heap p false by_zero t z = cc
+
+pub passes_zero : {S I : Type 0} (heap : HeapView S I) (p : Program) (divides : Bool) → divides ≡ false → IsForZero divides p heap Illegal
+passes_zero heap p true t = cc
+passes_zero heap p false t = refl

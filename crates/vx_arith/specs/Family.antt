@@ -5,6 +5,12 @@ use Rattle.vx_java.specs.declared.operation.Operation.TheVariants.{Goto, IfInt, 
 use Rattle.vx_value.specs.declared.operation.IntOp.{IntOp}
 use Rattle.vx_value.specs.declared.operation.IntOp.TheVariants.{Div, Rem}
 
+-- goto, goto_w
+abbrev pub is_goto : Operation → Bool
+is_goto (Goto offset) = true
+is_goto _ = false
+
+-- a jump to one position, or an instruction that is left out
 abbrev pub takes_none : Operation → Bool
 takes_none (Goto offset) = true
 takes_none (Refuse word) = true

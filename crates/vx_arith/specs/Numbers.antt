@@ -3,7 +3,7 @@ use Rattle.std.specs.Int.{w32, w64}
 use Rattle.std.specs.Prelude.{Bool, true, false, List, None, Option, Some, if◌then◌else◌, int_le, nat_abs, not, pos, suc, zero, ℕ, ℤ, ◌&&◌, ◌*◌, ◌+ℤ◌, ◌+◌, ◌-ℤ◌, [], ◌∷◌}
 use Rattle.vx_java.specs.Jumps.{passes}
 use Rattle.vx_java.specs.declared.operation.Operation.{Operation}
-use Rattle.vx_java.specs.declared.operation.Operation.TheVariants.{IfInt, IfInts, IfNull, IntArithmetic, IntNarrow, IntNegate, IntShift, IntToLong, LongArithmetic, LongCompare, LongNegate, LongShift, LongToInt, SwitchLookup, SwitchTable}
+use Rattle.vx_java.specs.declared.operation.Operation.TheVariants.{Goto, IfInt, IfInts, IfNull, IntArithmetic, IntNarrow, IntNegate, IntShift, IntToLong, LongArithmetic, LongCompare, LongNegate, LongShift, LongToInt, SwitchLookup, SwitchTable}
 use Rattle.vx_opcode.specs.Numbers.{s4}
 use Rattle.vx_stands.specs.declared.answer.Answer.{Answer}
 use Rattle.vx_stands.specs.declared.answer.Answer.TheVariants.{Illegal, Jump, Push}
@@ -17,6 +17,11 @@ use Rattle.vx_arith.specs.declared.spot.Spot.{Spot}
 -- a jump is relative to the opcode
 abbrev pub target_of : Spot → ℤ → ℕ
 target_of spot offset = natural (pos spot.position +ℤ offset)
+
+-- the position to which a jump leads that takes no operand
+abbrev pub goto_target : Spot → Operation → ℕ
+goto_target spot (Goto offset) = target_of spot offset
+goto_target spot _ = 0
 
 abbrev pub jump_by : Spot → ℤ → Answer
 jump_by spot offset = Jump (target_of spot offset)

@@ -1,7 +1,7 @@
 //! The attempts of the family.
 
 ghost use Rattle.std.specs.Prelude.{◌≡◌, ◌+◌, ◌<◌, IfOk, true};
-ghost use Rattle.vx_arith.specs.Family.{is_of_numbers, takes_none, takes_two};
+ghost use Rattle.vx_arith.specs.Family.{is_goto, is_of_numbers, takes_none, takes_two};
 ghost use Rattle.vx_arith.specs.Raising.{IsByZero};
 ghost use Rattle.vx_families.specs.Attempts.{IsAttemptBy, IsGiven, row_by};
 ghost use Rattle.vx_group.specs.Group.{IsGroup};
@@ -9,10 +9,9 @@ ghost use Rattle.vx_java.specs.Ids.{HasClassNumbers};
 ghost use Rattle.vx_space.specs.Sets.{Extends};
 ghost use Rattle.vx_stands.specs.Sites.{Gives};
 ghost use Rattle.vx_value.specs.Texts.{Extends as TextsExtend};
-ghost use Rattle.vx_java.specs.declared.operation.Operation.TheVariants.{Goto};
 
 use crate::family::{divides, takes_one, takes_two};
-use crate::jumping::target_of;
+use crate::jumping::goto_target;
 use crate::operands::{on_top, on_top_two};
 use crate::spot::spot_at;
 use std::alloc::{AllocError, Global};
@@ -49,21 +48,22 @@ fn division_by_zero<S: Space>(
     Ok(Answer::Raise(core_class(program, ARITHMETIC), Some(message)))
 }
 
-/// Goes to the position that is so far from the opcode, at each configuration of a group.
+/// Goes to the one position of a jump that takes no operand, at each configuration of a group.
 fn goto<S: Space>(
     alloc: Global,
     site: &Site,
     space: &S,
-    offset: i32,
+    operation: Operation,
     group: Group<S>,
 ) -> Result<Outcomes<S>, AllocError>
+    requires goto { is_goto operation ≡ true }
     requires group { IsGroup (S.sets space.now) group }
     requires short { group.top.position + site.now.size < 65536 }
-    ensures { IfOk result (λ r. Gives site.now.program.now (row_by site.now (Goto offset)) (S.sets space.now) (S.sets space.now) group r.items.items) }
+    ensures { IfOk result (λ r. Gives site.now.program.now (row_by site.now operation) (S.sets space.now) (S.sets space.now) group r.items.items) }
 {
     let (below, mut frame) = group.take_top();
     let spot = spot_at(site, frame.position);
-    frame.position = target_of(&spot, offset);
+    frame.position = goto_target(&spot, operation);
     let outcomes = Outcomes::go(alloc, below.put_top(frame))?;
     Ok(outcomes)
 }
@@ -82,8 +82,8 @@ fn with_none<S: Space>(
     ensures { IfOk result (λ r. Gives site.now.program.now (row_by site.now operation) (S.sets space.now) (S.sets space.now) group r.items.items) }
 {
     match operation {
-        Operation::Goto(offset) => {
-            let went = goto(alloc, site, space, offset, group)?;
+        Operation::Goto(_) => {
+            let went = goto(alloc, site, space, operation, group)?;
             Ok(went)
         }
         Operation::Refuse(word) => {

@@ -1,11 +1,12 @@
 //! The positions to which jumps and switches lead (JVMS 6.5). The jumps of a switch stand in the code.
 
 ghost use Rattle.std.specs.Prelude.{◌≡◌, ◌<◌, ◌^◌, slice_index};
-ghost use Rattle.vx_arith.specs.Numbers.{branch_by, jump_by, pair_jump, table_jump, target_of};
+ghost use Rattle.vx_arith.specs.Numbers.{branch_by, goto_target, jump_by, pair_jump, table_jump, target_of};
 ghost use Rattle.vx_opcode.specs.Numbers.{s4};
 ghost use Rattle.vx_value.specs.Arithmetic.{same_int};
 
 use crate::spot::Spot;
+use vx_java::Operation;
 use vx_stands::Answer;
 
 /// The position that is so far from the opcode, or 0 before the code.
@@ -14,6 +15,16 @@ pub fn target_of(spot: &Spot, offset: i32) -> u32
 {
     let target = i64::from(spot.position) + i64::from(offset);
     if target < 0 { 0 } else { target as u32 }
+}
+
+/// The position to which a jump that takes no operand leads, or 0 for any other instruction.
+pub fn goto_target(spot: &Spot, operation: Operation) -> u32
+    ensures { result ≡ goto_target spot.now operation }
+{
+    match operation {
+        Operation::Goto(offset) => target_of(spot, offset),
+        _ => 0,
+    }
 }
 
 /// Goes to the position that is so far from the opcode.

@@ -1,13 +1,12 @@
-use Rattle.std.proofs.Common.{◌≡◌, ◌+◌, ℕ, pos, ◌+ℤ◌, ◌∷◌, [], ◌∙◌, ap, refl}
+use Rattle.std.proofs.Common.{◌≡◌, ◌∷◌, [], ◌∙◌, ap, refl}
 use Rattle.vx_group.proofs.GroupLaws.{IsGroup-one_scope}
 use Rattle.vx_outcome.specs.declared.outcome.Outcome.TheVariants.{Go}
 use Rattle.vx_stands.proofs.EndingLaws.{moved-gives}
-use Rattle.vx_value.specs.Arithmetic.{natural}
 use Rattle.vx_arith.proofs.AttemptLaws.{goto-gives}
 use Rattle.vx_arith.proofs.attempting.goto.Goals as goal
 
-pub spot_at-requires : goal.spot_at-requires
-spot_at-requires g c = rw c.take_top-below.ensures c.requires.short
+pub spot_at-spot-requires : goal.spot_at-spot-requires
+spot_at-spot-requires g c = rw c.take_top-below.ensures c.requires.short
 
 pub put_top-requires-clause-scope : goal.put_top-requires-clause-scope
 put_top-requires-clause-scope g c = rw c.take_top-below.ensures (IsGroup-one_scope _ c.args.group c.requires.group)
@@ -15,7 +14,7 @@ put_top-requires-clause-scope g c = rw c.take_top-below.ensures (IsGroup-one_sco
 pub returns : goal.returns
 returns g c =
     let group = c.args.group in
-    let position = c.target_of.result in
+    let position = c.goto_target.result in
     let at = rw c.take_top-below.ensures at c.spot_at-spot.ensures.position in
     let moved : c.put_top.result ≡ record group { top = record (group.top) { position = position } } = rw (c.put_top.ensures, c.take_top-below.ensures) refl in
-    goto-gives c.args.site.now _ group position c.args.offset _ (c.target_of.ensures ∙ ap (λ (n : ℕ). natural (pos n +ℤ c.args.offset)) at) (moved-gives c.args.site.now.program.now _ group position _ (c.in_ok-outcomes.ensures.one ∙ ap (λ r. Go r ∷ []) moved))
+    goto-gives c.args.site.now c.args.operation _ group c.spot_at-spot.result position _ c.requires.goto at c.goto_target.ensures (moved-gives c.args.site.now.program.now _ group position _ (c.in_ok-outcomes.ensures.one ∙ ap (λ r. Go r ∷ []) moved))
