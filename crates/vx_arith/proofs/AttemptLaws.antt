@@ -1,5 +1,5 @@
 -- From a part of the family to the attempt.
-use Rattle.std.proofs.Common.{◌≡◌, ℕ, ◌+◌, ◌<◌, ◌≤◌, ℤ, pos, ◌+ℤ◌, Bool, true, false, ◌||◌, List, refl, sym, ◌∙◌, subst, ap, arith}
+use Rattle.std.proofs.Common.{◌≡◌, ℕ, ◌+◌, ◌<◌, ℤ, pos, ◌+ℤ◌, Bool, true, false, ◌||◌, List, refl, sym, ◌∙◌, subst, ap, arith}
 use Rattle.std.specs.Prelude.{codes}
 use Rattle.vx_space.specs.Sets.{Sets, Extends}
 use Rattle.vx_space.proofs.Spaces.{Extends-refl}
@@ -36,8 +36,8 @@ goto_row site _ spot s t e = cc
 pub goto-gives : {S I : Type 0} (site : Site) (operation : Operation) (sets : Sets I) (group : GroupView S I) (spot : Spot) (position : ℕ) (outcomes : List (Outcome S I)) → is_goto operation ≡ true → spot.position ≡ group.top.position → position ≡ goto_target spot operation → Gives site.program.now (λ s. Go (at_position s position s.top.operands)) sets sets group outcomes → Gives site.program.now (row_by site operation) sets sets group outcomes
 goto-gives site operation sets group spot position outcomes t e f gives heap =
     GivesAt-before site.program.now sets group heap (λ _ _ s. Go (at_position s position s.top.operands)) (λ _ _. row_by site operation) outcomes (Extends-refl sets) (λ tree h s c u.
-      let state = state_at sets heap tree group c in
-      ap (λ (n : ℕ). Go (at_position state n state.top.operands)) f ∙ goto_row site operation spot state t e)
+    let state = state_at sets heap tree group c in
+    ap (λ (n : ℕ). Go (at_position state n state.top.operands)) f ∙ goto_row site operation spot state t e)
     (gives heap)
 
 -- texts may have been put before

@@ -1,5 +1,5 @@
 -- From what is made of the operands of a group to the row at each configuration.
-use Rattle.std.proofs.Common.{◌≡◌, ℕ, ◌+◌, ◌^◌, ◌<◌, ◌≤◌, Bool, true, List, ◌∷◌, refl, sym, ◌∙◌, ap, subst, drop, map, length, arith}
+use Rattle.std.proofs.Common.{◌≡◌, ℕ, ◌+◌, ◌^◌, ◌<◌, ◌≤◌, Bool, true, List, refl, sym, ◌∙◌, ap, subst, drop, map, length, arith}
 use Rattle.std.proofs.lemmas.List.{length-map, length-reverse}
 use Rattle.std.specs.Prelude.{Option}
 use Rattle.vx_space.specs.Sets.{Sets, Extends}
@@ -12,7 +12,7 @@ use Rattle.vx_group.specs.Group.{GroupView, IsGroup, path_of}
 use Rattle.vx_group.proofs.GroupLaws.{IsGroup-path_known}
 use Rattle.vx_heap.specs.Heap.{HeapView, IsHeap, value_of}
 use Rattle.vx_heap.proofs.HeapLaws.{value_of-extends}
-use Rattle.vx_java.specs.Machine.{Here, State, Value, illegal, illegal_in, push}
+use Rattle.vx_java.specs.Machine.{Here, Value, illegal_in, push}
 use Rattle.vx_java.specs.declared.operation.Operation.{Operation}
 use Rattle.vx_outcome.specs.declared.outcome.Outcome.{Outcome}
 use Rattle.vx_stands.specs.Answering.{AreHeld, IsReady, answer_at, answered, answered_by, is_answer_held, operands_at}
@@ -86,19 +86,19 @@ top-gives site {s0 = s0} {s1 = s1} s2 group top spot operation answers outcomes 
     let at = asked_at s0 s1 site group spot answers (of_top spot operation) 1 v there_asked in
     let later : (c : List Bool) → s1.test (path_of group) c ≡ s0.test (path_of group) c = λ c. e.test (path_of group) c (IsGroup-path_known s0 group v) in
     GivesAt-before site.program.now s2 group heap (answered_by site 1 s1 answers) (λ _ _. row_by site operation) outcomes e (λ tree h s c t.
-      let operands = operands_at s0 group.top.stack c in
-      let there = here site (state_at s0 heap tree group c) in
-      let rest = drop 1 (map (value_of s0 heap c) operands) in
-      let P : ℕ → Type 0 = λ n. 1 ≤ n in
-      ap (answered s1 heap c there rest) (at c t) ∙ answered-extends e heap h c there rest (of_top spot operation operands) ∙ top_row s0 heap c there spot operation operands (spot_there site s0 heap tree group c spot there_asked.is_spot) takes (subst P (sym (operand_count s0 group c)) there_asked.enough))
+    let operands = operands_at s0 group.top.stack c in
+    let there = here site (state_at s0 heap tree group c) in
+    let rest = drop 1 (map (value_of s0 heap c) operands) in
+    let P : ℕ → Type 0 = λ n. 1 ≤ n in
+    ap (answered s1 heap c there rest) (at c t) ∙ answered-extends e heap h c there rest (of_top spot operation operands) ∙ top_row s0 heap c there spot operation operands (spot_there site s0 heap tree group c spot there_asked.is_spot) takes (subst P (sym (operand_count s0 group c)) there_asked.enough))
     (gives heap (record { held = λ c t. ap (is_answer_held s1 heap c) (at c (sym (later c) ∙ t)) ∙ top_held s1 heap c spot operation (operands_at s0 group.top.stack c) }))
 
 pub none-gives : {S I : Type 0} (site : Site) (sets : Sets I) (group : GroupView S I) (top : Frame S I) (operation : Operation) (outcomes : List (Outcome S I)) → takes_one operation ≡ true → top ≡ group.top → length top.stack.conds < 1 → Gives site.program.now (illegal_in site.program.now) sets sets group outcomes → Gives site.program.now (row_by site operation) sets sets group outcomes
 none-gives {S = S} {I = I} site sets group top operation outcomes takes same few gives heap =
     let F : Frame S I → Type 0 = λ top. length top.stack.conds < 1 in
     GivesAt-before site.program.now sets group heap (λ _ _. illegal_in site.program.now) (λ _ _. row_by site operation) outcomes (Extends-refl sets) (λ tree h s c t.
-      let P : ℕ → Type 0 = λ n. n < 1 in
-      none_row (here site (state_at sets heap tree group c)) operation (map (value_of sets heap c) (operands_at sets group.top.stack c)) takes (subst P (sym (value_count sets heap group c)) (subst F same few)))
+    let P : ℕ → Type 0 = λ n. n < 1 in
+    none_row (here site (state_at sets heap tree group c)) operation (map (value_of sets heap c) (operands_at sets group.top.stack c)) takes (subst P (sym (value_count sets heap group c)) (subst F same few)))
     (gives heap)
 
 -- ---- two operands
@@ -110,17 +110,17 @@ top_two-gives site {s0 = s0} {s1 = s1} s2 group top spot by_zero operation answe
     let p = site.program.now in
     let later : (c : List Bool) → s1.test (path_of group) c ≡ s0.test (path_of group) c = λ c. e.test (path_of group) c (IsGroup-path_known s0 group v) in
     GivesAt-before p s2 group heap (answered_by site 2 s1 answers) (λ _ _. row_by site operation) outcomes e (λ tree h s c t.
-      let operands = operands_at s0 group.top.stack c in
-      let there = here site (state_at s0 heap tree group c) in
-      let rest = drop 2 (map (value_of s0 heap c) operands) in
-      let P : ℕ → Type 0 = λ n. 2 ≤ n in
-      ap (answered s1 heap c there rest) (at c t) ∙ answered-extends e heap h c there rest (of_top_two spot by_zero operation operands) ∙ top_two_row s0 heap c there spot by_zero operation operands (spot_there site s0 heap tree group c spot there_asked.is_spot) (zero_raises heap p (divides operation) by_zero zero) takes (subst P (sym (operand_count s0 group c)) there_asked.enough))
+    let operands = operands_at s0 group.top.stack c in
+    let there = here site (state_at s0 heap tree group c) in
+    let rest = drop 2 (map (value_of s0 heap c) operands) in
+    let P : ℕ → Type 0 = λ n. 2 ≤ n in
+    ap (answered s1 heap c there rest) (at c t) ∙ answered-extends e heap h c there rest (of_top_two spot by_zero operation operands) ∙ top_two_row s0 heap c there spot by_zero operation operands (spot_there site s0 heap tree group c spot there_asked.is_spot) (zero_raises heap p (divides operation) by_zero zero) takes (subst P (sym (operand_count s0 group c)) there_asked.enough))
     (gives heap (record { held = λ c t. ap (is_answer_held s1 heap c) (at c (sym (later c) ∙ t)) ∙ top_two_held s1 heap c spot by_zero operation (operands_at s0 group.top.stack c) (zero_held s1 heap c p (divides operation) by_zero zero) }))
 
 pub few-gives : {S I : Type 0} (site : Site) (sets : Sets I) (group : GroupView S I) (top : Frame S I) (operation : Operation) (outcomes : List (Outcome S I)) → takes_two operation ≡ true → top ≡ group.top → length top.stack.conds < 2 → Gives site.program.now (illegal_in site.program.now) sets sets group outcomes → (heap : HeapView S I) → GivesAt site.program.now (λ _ _. row_by site operation) sets sets group outcomes heap
 few-gives {S = S} {I = I} site sets group top operation outcomes takes same few gives heap =
     let F : Frame S I → Type 0 = λ top. length top.stack.conds < 2 in
     GivesAt-before site.program.now sets group heap (λ _ _. illegal_in site.program.now) (λ _ _. row_by site operation) outcomes (Extends-refl sets) (λ tree h s c t.
-      let P : ℕ → Type 0 = λ n. n < 2 in
-      few_row (here site (state_at sets heap tree group c)) operation (map (value_of sets heap c) (operands_at sets group.top.stack c)) takes (subst P (sym (value_count sets heap group c)) (subst F same few)))
+    let P : ℕ → Type 0 = λ n. n < 2 in
+    few_row (here site (state_at sets heap tree group c)) operation (map (value_of sets heap c) (operands_at sets group.top.stack c)) takes (subst P (sym (value_count sets heap group c)) (subst F same few)))
     (gives heap)

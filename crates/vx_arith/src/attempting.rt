@@ -35,10 +35,7 @@ const BY_ZERO: &[u16] = &[47, 32, 98, 121, 32, 122, 101, 114, 111];
 const NOTHING: &[u8] = b"-";
 
 /// What a zero divisor comes to. The text of the message is in the heap then.
-fn division_by_zero<S: Space>(
-    program: &Program,
-    heap: &mut Heap<S>,
-) -> Result<Answer, AllocError>
+fn division_by_zero<S: Space>(program: &Program, heap: &mut Heap<S>) -> Result<Answer, AllocError>
     requires { HasClassNumbers program.now }
     ensures raises { IfOk result (IsByZero program.now heap.new) }
     ensures same { IfOk result (λ _. heap.new ≡ record heap.old { texts = heap.new.texts }) }

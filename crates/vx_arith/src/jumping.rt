@@ -69,14 +69,7 @@ fn number_at(code: &[u8], at: usize) -> i32
 }
 
 /// The jump of a key in a table of jumps for the keys from `low` to `high`, which stand from the place `first` on.
-pub fn table_jump(
-    code: &[u8],
-    fallback: i32,
-    low: i32,
-    high: i32,
-    first: u32,
-    key: i32,
-) -> i32
+pub fn table_jump(code: &[u8], fallback: i32, low: i32, high: i32, first: u32, key: i32) -> i32
     ensures { result ≡ table_jump code.now fallback low high first key }
 {
     if low <= key && key <= high {

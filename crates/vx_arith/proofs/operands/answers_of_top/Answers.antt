@@ -16,4 +16,4 @@ pub returns-clause-scope : goal.returns-clause-scope
 returns-clause-scope g c = c.in_ok-answers.ensures.scope ∙ (IsRow-get slot_cmp _ c.args.stack.now _ c.get-top.result.now c.requires.row c.get-top.ensures).1
 
 pub returns-clause-at : goal.returns-clause-at
-returns-clause-at g c = top_answers _ _ c.args.stack.now (c.len.result - 1) c.get-top.result.now c.args.spot.now c.args.operation _ c.in_ok-answers.answers (λ s a h. h) c.requires.row c.get-top.ensures (omega arith) c.in_ok-answers.ensures.ok
+returns-clause-at g c = top_answers (g.S.Space.sets c.args.space.now) (g.S.Space.sets c.map.new.space) c.args.stack.now (c.len.result - 1) c.get-top.result.now c.args.spot.now c.args.operation _ c.in_ok-answers.answers (λ s a h. h) c.requires.row c.get-top.ensures (omega arith) c.in_ok-answers.ensures.ok

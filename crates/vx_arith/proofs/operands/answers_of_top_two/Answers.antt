@@ -25,4 +25,4 @@ pub returns-clause-at : goal.returns-clause-at
 returns-clause-at g c =
     let n = c.len-count.result - 2 in
     let above : c.len-count.result - 1 ≡ suc n = omega arith in
-    top_two_answers _ _ c.args.stack.now n c.get-below.result.now c.get-top.result.now c.args.spot.now c.args.by_zero c.args.operation _ c.in_ok-answers.answers (λ s r a h. h) c.requires.row c.get-below.ensures (c.get-top.ensures ∙ ap (slice_get c.args.stack.now.conds) above) (omega arith) c.in_ok-answers.ensures.ok
+    top_two_answers (g.S.Space.sets c.args.space.now) (g.S.Space.sets c.zip.new.space) c.args.stack.now n c.get-below.result.now c.get-top.result.now c.args.spot.now c.args.by_zero c.args.operation _ c.in_ok-answers.answers (λ s r a h. h) c.requires.row c.get-below.ensures (c.get-top.ensures ∙ ap (slice_get c.args.stack.now.conds) above) (omega arith) c.in_ok-answers.ensures.ok

@@ -1,4 +1,4 @@
-use Rattle.std.proofs.Common.{◌≡◌, ◌∙◌, ◌≤◌, ◌<◌, arith, length}
+use Rattle.std.proofs.Common.{◌∙◌, ◌≤◌, ◌<◌, arith, length}
 use Rattle.vx_space.proofs.Spaces.{Extends-trans}
 use Rattle.vx_frame.proofs.FrameLaws.{IsFrame-stack}
 use Rattle.vx_group.proofs.GroupLaws.{IsGroup-extends, IsGroup-top}
