@@ -1,0 +1,5 @@
+pub mod Values
+pub mod Lifts
+pub mod Rows
+pub mod Written
+pub mod Loads

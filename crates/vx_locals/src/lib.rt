@@ -1,0 +1,15 @@
+//! The instructions of constants and local variables (JVMS 2.6.1, 6.5): nop, constants, those of the pool too, loads, stores
+//! and iinc.
+#![tactic(auto)]
+
+mod constants;
+// mod entries;
+pub mod family;
+mod increasing;
+mod loading;
+mod passing;
+mod sorts;
+mod storing;
+mod writing;
+
+pub use family::is_of_locals;
