@@ -136,3 +136,8 @@ load-gives site {s0 = s0} {s1 = s1} s2 group sort n cond answers outcomes e v go
     ∙ loaded_as s1 heap c (here site state) state.top.operands sort slot
     ∙ ap (λ b. when b (push (here site state) (value_of s1 heap c slot) state.top.operands) (illegal (here site state))) (sym (same_sort s1 heap c sort slot))
     ∙ ap (λ v. when (is_of sort v) (push (here site state) v state.top.operands) (illegal (here site state))) value) (gives heap are_held) tree h s
+
+-- ---- an earlier space
+
+pub Gives-before : {S I : Type 0} (site : Site) {s0 s1 : Sets I} (s2 : Sets I) (group : GroupView S I) (says : State → PlainOutcome) (outcomes : List (Outcome S I)) → Extends s0 s1 → Gives site.program.now says s1 s2 group outcomes → Gives site.program.now says s0 s2 group outcomes
+Gives-before site s2 group says outcomes e gives heap = GivesAt-before site.program.now s2 group heap (λ _ _. says) (λ _ _. says) outcomes e (λ tree h s c t. refl) (gives heap)

@@ -14,11 +14,12 @@ use Rattle.vx_cond.specs.Leaves.{value_at}
 use Rattle.vx_cond.specs.Row.{Conditionals, IsRow}
 use Rattle.vx_cond.specs.Slots.{slot_at, slots_at}
 use Rattle.vx_cond.proofs.CondLaws.{IsCond-extends, cond_at-extends}
+use Rattle.vx_cond.proofs.RowSteps.{IsRow-popped}
 use Rattle.vx_frame.specs.Frame.{PlainFrame, frame_at, shape_of}
-use Rattle.vx_frame.proofs.FrameLaws.{IsFrame-rows}
+use Rattle.vx_frame.proofs.FrameLaws.{IsFrame-rows, IsFrame-stack}
 use Rattle.vx_group.specs.declared.callers.Caller.{Caller}
 use Rattle.vx_group.specs.Group.{GroupView, IsGroup, path_of}
-use Rattle.vx_group.proofs.GroupLaws.{IsGroupIn-group, IsGroup-attempts, IsGroup-of_parts, IsGroup-one_scope, IsGroup-path_known, attempts_at-extends}
+use Rattle.vx_group.proofs.GroupLaws.{IsGroupIn-group, IsGroup-attempts, IsGroup-of_parts, IsGroup-one_scope, IsGroup-path_known, IsGroup-top, attempts_at-extends}
 use Rattle.vx_heap.specs.Heap.{HeapView, IsHeap, are_held, is_held, value_of}
 use Rattle.vx_heap.proofs.HeapLaws.{IsHeap-extends}
 use Rattle.vx_java.specs.Initialisation.{max_locals}
@@ -38,6 +39,7 @@ use Rattle.vx_stands.specs.Stands.{Continues, StandsIn, frame_held, is_shaped, p
 use Rattle.vx_stands.specs.declared.site.Site.{Site}
 use Rattle.vx_stands.proofs.AnswerLaws.{operands_at-push}
 use Rattle.vx_stands.proofs.OutcomeStates.{CameTo-through}
+use Rattle.vx_stands.proofs.SettleLaws.{stack_scope}
 use Rattle.vx_stands.proofs.StateLaws.{StandsIn-same_callers, both, both_first, both_second, state_at-same_callers, top_held, top_shaped}
 use Rattle.vx_locals.specs.Slots.{AreLocals, increased, slot_is_of, stored, top_at}
 use Rattle.vx_locals.proofs.Values.{increased_held, item_held, item_value, same_sort, set_held, stored_held, stored_values}
@@ -148,3 +150,18 @@ increase-gives {S = S} {I = I} site {s0 = s0} {s1 = s1} s2 group after locals fi
         ∙ increase_law site s0 heap c s n by (slots c) (slot c) refl
         ∙ ap (increase (here site s) n by) (sym (item_value s0 heap c (slots c) n)))
     (subst P made gives)
+
+-- ---- the operand that was taken off
+
+pub record IsTopOf {S I : Type 0} (sets : Sets I) (group : GroupView S I) (below : Conditionals Slot S I) (value : Conditional Slot S I) : Type 0 where
+  pub below_row : IsRow slot_cmp sets below
+  pub is_cond : IsCond slot_cmp sets value
+  pub scope : value.scope ≡ path_of group
+  pub below_scope : below.scope ≡ path_of group
+
+pub top_taken : {S I : Type 0} (sets : Sets I) (group : GroupView S I) (below : Conditionals Slot S I) (value : Conditional Slot S I) → IsGroup sets group → group.top.stack ≡ record below { conds = below.conds ++ value ∷ [] } → IsTopOf sets group below value
+top_taken {S = S} {I = I} sets group below value v e =
+    let P : Conditionals Slot S I → Type 0 = λ row. IsRow slot_cmp sets row in
+    let parts = IsRow-popped slot_cmp sets below value (subst P e (IsFrame-stack sets group.top (IsGroup-top sets group v))) in
+    let scope : below.scope ≡ path_of group = sym (ap (λ (row : Conditionals Slot S I). row.scope) e) ∙ stack_scope sets group v in
+    record { below_row = parts.0; is_cond = parts.1; scope = parts.2 ∙ scope; below_scope = scope }

@@ -3,7 +3,7 @@
 #![tactic(auto)]
 
 mod constants;
-// mod entries;
+mod entries;
 pub mod family;
 mod increasing;
 mod loading;
@@ -12,4 +12,4 @@ mod sorts;
 mod storing;
 mod writing;
 
-pub use family::is_of_locals;
+pub use family::{attempt, is_of_locals};
