@@ -1,4 +1,7 @@
-use Rattle.std.proofs.Common.{refl}
+use Rattle.std.proofs.Common.{refl, rules}
+use Rattle.std.proofs.Math.Facts.{to_z-of_z}
+use Rattle.std.specs.Int.{w32, w64}
+use mir.Val.{SFits}
 use Rattle.vx_space.proofs.Spaces.{Extends-refl}
 use Rattle.vx_java.specs.declared.operation.Operation.TheVariants.{Increase, Load, Nop, PushEntry, PushInt, PushLong, PushNull, Store}
 use Rattle.vx_families.specs.Attempts.{row_by}
@@ -18,12 +21,16 @@ returns-in_ok-pushed-in-PushNull-clause-ok g c =
 pub returns-in_ok-pushed-in-PushInt-clause-ok : goal.returns-in_ok-pushed-in-PushInt-clause-ok
 returns-in_ok-pushed-in-PushInt-clause-ok g c =
     let heap = c.args.heap.now in
-    IsAttemptBy-is c.args.site.now c.args.operation (PushInt c.in-PushInt.n) _ _ heap heap c.args.group _ c.in-PushInt.is (AttemptsBy-gives c.args.site.now c.args.operation (row_by c.args.site.now (PushInt c.in-PushInt.n)) heap c.args.group _ (c.in_ok-pushed-in-PushInt.ensures.extends) c.requires.given (c.in_ok-pushed-in-PushInt.ensures.gives heap (λ d t. refl)))
+    let fits : SFits w32 c.in-PushInt.n = search rules in
+    let same = to_z-of_z {w = w32} {z = c.in-PushInt.n} fits in
+    IsAttemptBy-is c.args.site.now c.args.operation (PushInt c.in-PushInt.n) _ _ heap heap c.args.group _ c.in-PushInt.is (AttemptsBy-gives c.args.site.now c.args.operation (row_by c.args.site.now (PushInt c.in-PushInt.n)) heap c.args.group _ (c.in_ok-pushed-in-PushInt.ensures.extends) c.requires.given (rw same at (c.in_ok-pushed-in-PushInt.ensures.gives heap (λ d t. refl))))
 
 pub returns-in_ok-pushed-in-PushLong-clause-ok : goal.returns-in_ok-pushed-in-PushLong-clause-ok
 returns-in_ok-pushed-in-PushLong-clause-ok g c =
     let heap = c.args.heap.now in
-    IsAttemptBy-is c.args.site.now c.args.operation (PushLong c.in-PushLong.n) _ _ heap heap c.args.group _ c.in-PushLong.is (AttemptsBy-gives c.args.site.now c.args.operation (row_by c.args.site.now (PushLong c.in-PushLong.n)) heap c.args.group _ (c.in_ok-pushed-in-PushLong.ensures.extends) c.requires.given (c.in_ok-pushed-in-PushLong.ensures.gives heap (λ d t. refl)))
+    let fits : SFits w64 c.in-PushLong.n = search rules in
+    let same = to_z-of_z {w = w64} {z = c.in-PushLong.n} fits in
+    IsAttemptBy-is c.args.site.now c.args.operation (PushLong c.in-PushLong.n) _ _ heap heap c.args.group _ c.in-PushLong.is (AttemptsBy-gives c.args.site.now c.args.operation (row_by c.args.site.now (PushLong c.in-PushLong.n)) heap c.args.group _ (c.in_ok-pushed-in-PushLong.ensures.extends) c.requires.given (rw same at (c.in_ok-pushed-in-PushLong.ensures.gives heap (λ d t. refl))))
 
 pub returns-in_ok-pushed-in-PushEntry-clause-ok : goal.returns-in_ok-pushed-in-PushEntry-clause-ok
 returns-in_ok-pushed-in-PushEntry-clause-ok g c =
@@ -43,4 +50,6 @@ returns-in_ok-stored-in-Store-clause-ok g c =
 pub returns-in_ok-increased-in-Increase-clause-ok : goal.returns-in_ok-increased-in-Increase-clause-ok
 returns-in_ok-increased-in-Increase-clause-ok g c =
     let heap = c.args.heap.now in
-    IsAttemptBy-is c.args.site.now c.args.operation (Increase c.in-Increase.place c.in-Increase.by) _ _ heap heap c.args.group _ c.in-Increase.is (AttemptsBy-gives c.args.site.now c.args.operation (row_by c.args.site.now (Increase c.in-Increase.place c.in-Increase.by)) heap c.args.group _ (c.in_ok-increased-in-Increase.ensures.extends) c.requires.given (c.in_ok-increased-in-Increase.ensures.gives heap))
+    let fits : SFits w32 c.in-Increase.by = search rules in
+    let same = to_z-of_z {w = w32} {z = c.in-Increase.by} fits in
+    IsAttemptBy-is c.args.site.now c.args.operation (Increase c.in-Increase.place c.in-Increase.by) _ _ heap heap c.args.group _ c.in-Increase.is (AttemptsBy-gives c.args.site.now c.args.operation (row_by c.args.site.now (Increase c.in-Increase.place c.in-Increase.by)) heap c.args.group _ (c.in_ok-increased-in-Increase.ensures.extends) c.requires.given (rw same at (c.in_ok-increased-in-Increase.ensures.gives heap)))
