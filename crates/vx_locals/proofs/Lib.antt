@@ -3,3 +3,5 @@ pub mod Lifts
 pub mod Rows
 pub mod Written
 pub mod Loads
+pub mod Literals
+pub mod Loaded

@@ -1,6 +1,6 @@
 -- What functions of slots give at a configuration, where they are lifted.
 use Rattle.std.proofs.Common.{◌≡◌, Bool, true, List, refl, ◌∙◌, ap}
-use Rattle.std.specs.Prelude.{Option, Some, None, is_some, unwrap_or, if◌then◌else◌}
+use Rattle.std.specs.Prelude.{Option, Some, None, is_some, if◌then◌else◌}
 use Rattle.std.specs.declared.cmp.Ordering.{Ordering}
 use Rattle.vx_value.specs.declared.slot.Slot.{Slot}
 use Rattle.vx_value.specs.Slot.{slot_cmp}

@@ -1,8 +1,7 @@
 -- Constants and locals that are pushed, and places without a local or an operand.
-use Rattle.std.proofs.Common.{◌≡◌, ℕ, ℤ, ◌≤◌, ◌<◌, Bool, true, false, List, [], ◌∷◌, refl, sym, ◌∙◌, ap, subst, map, length, reverse, arith}
+use Rattle.std.proofs.Common.{◌≡◌, ℕ, ℤ, ◌≤◌, Bool, true, false, List, [], ◌∷◌, refl, sym, ◌∙◌, ap, subst, map, length, arith}
 use Rattle.std.proofs.lemmas.List.{length-map, length-reverse}
 use Rattle.std.specs.Prelude.{Option, Some, slice_get, unwrap_or, if◌then◌else◌}
-use Rattle.std.specs.declared.cmp.Ordering.{Ordering}
 use Rattle.vx_list.specs.Places.{item_or}
 use Rattle.vx_value.specs.declared.slot.Slot.{Slot}
 use Rattle.vx_value.specs.declared.slot.Slot.TheVariants.{Top}
@@ -12,13 +11,12 @@ use Rattle.vx_space.proofs.Spaces.{Extends-refl}
 use Rattle.vx_cond.specs.Cond.{Conditional, IsCond, IsCondLifting, IsCondOf, cond_at}
 use Rattle.vx_cond.specs.Leaves.{value_within}
 use Rattle.vx_cond.specs.Slots.{slot_at, slots_at}
-use Rattle.vx_cond.proofs.RowSteps.{IsRow-get, slots_at-get}
+use Rattle.vx_cond.proofs.RowSteps.{slots_at-get}
 use Rattle.vx_frame.specs.Frame.{frame_at}
-use Rattle.vx_frame.proofs.FrameLaws.{IsFrame-locals}
 use Rattle.vx_group.specs.declared.callers.Caller.{Caller}
 use Rattle.vx_group.specs.Group.{GroupView, IsGroup, path_of}
-use Rattle.vx_group.proofs.GroupLaws.{IsGroup-one_scope, IsGroup-path_known, IsGroup-top}
-use Rattle.vx_heap.specs.Heap.{HeapView, IsHeap, is_held, value_of}
+use Rattle.vx_group.proofs.GroupLaws.{IsGroup-path_known}
+use Rattle.vx_heap.specs.Heap.{HeapView, is_held, value_of}
 use Rattle.vx_heap.proofs.HeapLaws.{is_held-extends, value_of-extends}
 use Rattle.vx_java.specs.Checks.{is_of}
 use Rattle.vx_java.specs.Locals.{increase, load, store}
@@ -31,7 +29,7 @@ use Rattle.vx_outcome.specs.declared.outcome.Outcome.{Outcome}
 use Rattle.vx_stands.specs.Answering.{AreHeld, answer_at, answered, answered_by, is_answer_held}
 use Rattle.vx_stands.specs.Answers.{answer_cmp}
 use Rattle.vx_stands.specs.Sites.{Gives, GivesAt, here}
-use Rattle.vx_stands.specs.Stands.{StandsIn, state_at}
+use Rattle.vx_stands.specs.Stands.{state_at}
 use Rattle.vx_stands.specs.declared.answer.Answer.{Answer}
 use Rattle.vx_stands.specs.declared.answer.Answer.TheVariants.{Illegal, Push}
 use Rattle.vx_stands.specs.declared.site.Site.{Site}

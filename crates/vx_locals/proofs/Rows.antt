@@ -1,10 +1,10 @@
 -- Locals that are written at every configuration of their scope.
-use Rattle.std.proofs.Common.{◌≡◌, ℕ, ◌+◌, ◌-◌, ◌<◌, ◌≤◌, zero, suc, Bool, true, false, List, [], ◌∷◌, refl, sym, ◌∙◌, ap, subst, map, length, reverse, get_or, arith}
+use Rattle.std.proofs.Common.{◌≡◌, ℕ, ◌-◌, ◌<◌, zero, suc, Bool, true, false, List, [], ◌∷◌, refl, sym, ◌∙◌, ap, subst, map, length, reverse, get_or, arith}
 use Rattle.std.proofs.lemmas.List.{get_or-reverse, length-map, length-set}
 use Rattle.std.proofs.lemmas.Option.{unwrap_or-slice_get}
 use Rattle.std.specs.Ordering.{bool_cmp}
 use Rattle.std.specs.List.{list_any}
-use Rattle.std.specs.Prelude.{Option, Some, None, slice_get, slice_set, if◌then◌else◌}
+use Rattle.std.specs.Prelude.{Some, slice_get, slice_set, if◌then◌else◌}
 use Rattle.vx_list.specs.Places.{item_or}
 use Rattle.vx_value.specs.declared.slot.Slot.{Slot}
 use Rattle.vx_value.specs.declared.slot.Slot.TheVariants.{Top, Int, Long, Null, Ref, Text}

@@ -1,8 +1,8 @@
 -- The rules of slots are those of their plain values.
-use Rattle.std.proofs.Common.{◌≡◌, ℕ, ℤ, ◌+◌, ◌<◌, ◌≤◌, zero, suc, Bool, true, false, List, [], ◌∷◌, refl, sym, ◌∙◌, ap, map, length, arith}
+use Rattle.std.proofs.Common.{◌≡◌, ℕ, ℤ, ◌+◌, ◌≤◌, zero, suc, Bool, true, List, [], ◌∷◌, refl, sym, ◌∙◌, ap, map, length, arith}
 use Rattle.std.proofs.lemmas.List.{map-set}
 use Rattle.std.proofs.lemmas.Option.{slice_get_past}
-use Rattle.std.specs.Prelude.{Option, Some, slice_get, slice_set, unwrap_or}
+use Rattle.std.specs.Prelude.{Some, slice_get, slice_set, unwrap_or}
 use Rattle.vx_list.specs.Places.{item_or}
 use Rattle.vx_value.specs.declared.slot.Slot.{Slot}
 use Rattle.vx_value.specs.declared.slot.Slot.TheVariants.{Top, Int, Long, Null, Ref, Text}
@@ -11,7 +11,6 @@ use Rattle.vx_heap.specs.Heap.{HeapView, are_held, is_held, value_of}
 use Rattle.vx_java.specs.Checks.{is_of}
 use Rattle.vx_java.specs.Locals.{locals_with}
 use Rattle.vx_java.specs.Locals.{unless_long as value_unless_long, without_half as values_without_half}
-use Rattle.vx_java.specs.Machine.{Value}
 use Rattle.vx_java.specs.Machine.{Top as TopValue}
 use Rattle.vx_java.specs.declared.operation.Sort.{Sort}
 use Rattle.vx_java.specs.declared.operation.Sort.TheVariants.{Int as IntSort, Long as LongSort, Reference}

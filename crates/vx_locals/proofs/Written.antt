@@ -1,8 +1,8 @@
 -- What a group comes to whose locals and operands were written, and which then goes past the instruction where a test holds.
-use Rattle.std.proofs.Common.{◌≡◌, ℕ, ℤ, ◌+◌, ◌<◌, ◌^◌, Bool, true, false, List, [], ◌∷◌, ◌++◌, refl, sym, ◌∙◌, ap, subst, map, length, reverse}
+use Rattle.std.proofs.Common.{◌≡◌, ℕ, ℤ, Bool, true, false, List, [], ◌∷◌, ◌++◌, refl, sym, ◌∙◌, ap, subst, map}
 use Rattle.std.proofs.lemmas.List.{map-set}
 use Rattle.std.specs.Ordering.{bool_cmp, nat_cmp}
-use Rattle.std.specs.Prelude.{Option, Some, None, ◌==◌, slice_set, unwrap_or}
+use Rattle.std.specs.Prelude.{Option, Some, ◌==◌, slice_set, unwrap_or}
 use Rattle.vx_list.specs.Places.{item_or}
 use Rattle.vx_value.specs.declared.slot.Slot.{Slot}
 use Rattle.vx_value.specs.declared.slot.Slot.TheVariants.{Top, Int, Long, Null, Ref, Text}
@@ -24,14 +24,12 @@ use Rattle.vx_heap.specs.Heap.{HeapView, IsHeap, are_held, is_held, value_of}
 use Rattle.vx_heap.proofs.HeapLaws.{IsHeap-extends}
 use Rattle.vx_java.specs.Initialisation.{max_locals}
 use Rattle.vx_java.specs.Locals.{increase, locals_with, store, with_locals}
-use Rattle.vx_java.specs.Machine.{Here, State, Value, go, illegal, past, when}
+use Rattle.vx_java.specs.Machine.{State, go, illegal, past, when}
 use Rattle.vx_java.specs.Machine.{Outcome as PlainOutcome, Go}
 use Rattle.vx_java.specs.Machine.{Top as TopValue}
-use Rattle.vx_java.specs.Checks.{is_of}
 use Rattle.vx_java.specs.declared.operation.Sort.{Sort}
 use Rattle.vx_java.specs.declared.operation.Sort.TheVariants.{Int as IntSort}
 use Rattle.vx_link.specs.Parts.{method_at}
-use Rattle.vx_link.specs.declared.program.Program.{Program}
 use Rattle.vx_outcome.specs.declared.outcome.Outcome.{Outcome}
 use Rattle.vx_stands.specs.Answering.{operands_at}
 use Rattle.vx_stands.specs.Sites.{Gives, GivesAt, here, settled_by}
@@ -120,8 +118,8 @@ store-gives {S = S} {I = I} site {s0 = s0} {s1 = s1} s2 group after below locals
     let P : GroupView S I → Type 0 = λ g. (heap : HeapView S I) → GivesAt site.program.now (λ _. settled_by site s1 fits.leaves) s1 s2 g outcomes heap in
     written-gives site group locals below (λ c. stored sort (slots_at s0 group.top.locals c) n (slot_at s0 value c)) operands e a r scope (λ c t. same c) s2 fits.leaves (λ s. store (here site s) sort n s.top.operands) outcomes
     (λ heap c t h.
-        let held = ap (are_held s0 heap c) (sym (taken c)) ∙ both_second (are_held s0 heap c (slots_at s0 group.top.locals c)) _ h in
-        both _ _ (stored_held s0 heap c sort (slots_at s0 group.top.locals c) n (slot_at s0 value c) (both_first (are_held s0 heap c (slots_at s0 group.top.locals c)) _ h) (both_first (is_held s0 heap c (slot_at s0 value c)) (are_held s0 heap c (operands c)) held)) (both_second (is_held s0 heap c (slot_at s0 value c)) (are_held s0 heap c (operands c)) held))
+    let held = ap (are_held s0 heap c) (sym (taken c)) ∙ both_second (are_held s0 heap c (slots_at s0 group.top.locals c)) _ h in
+    both _ _ (stored_held s0 heap c sort (slots_at s0 group.top.locals c) n (slot_at s0 value c) (both_first (are_held s0 heap c (slots_at s0 group.top.locals c)) _ h) (both_first (is_held s0 heap c (slot_at s0 value c)) (are_held s0 heap c (operands c)) held)) (both_second (is_held s0 heap c (slot_at s0 value c)) (are_held s0 heap c (operands c)) held))
     (λ heap tree c t. stored_as site s0 heap c (state_at s0 heap tree group c) sort n (slots_at s0 group.top.locals c) (operands c) (slot_at s0 value c) (unwrap_or (value_at s1 fits.leaves c) false) (test_at fits c _ e v (fit c t) ∙ ap (λ xs. slot_is_of sort (item_or xs 0 Top)) (taken c)) refl (ap (map (value_of s0 heap c)) (taken c)))
     (subst P made gives)
 
@@ -142,13 +140,13 @@ increase-gives {S = S} {I = I} site {s0 = s0} {s1 = s1} s2 group after locals fi
     let P : GroupView S I → Type 0 = λ g. (heap : HeapView S I) → GivesAt site.program.now (λ _. settled_by site s1 fits.leaves) s1 s2 g outcomes heap in
     written-gives site group locals group.top.stack (λ c. slice_set (slots c) n (increased by (slot c))) (λ c. operands_at s0 group.top.stack c) e a r scope (λ c t. same c) s2 fits.leaves (λ s. increase (here site s) n by (item_or s.top.locals n TopValue)) outcomes
     (λ heap c t h.
-        let locals_held = both_first (are_held s0 heap c (slots c)) _ h in
-        both _ _ (set_held s0 heap c (slots c) n (increased by (slot c)) locals_held (increased_held s0 heap c by (slot c) (item_held s0 heap c (slots c) n locals_held))) (both_second (are_held s0 heap c (slots c)) _ h))
+    let locals_held = both_first (are_held s0 heap c (slots c)) _ h in
+    both _ _ (set_held s0 heap c (slots c) n (increased by (slot c)) locals_held (increased_held s0 heap c by (slot c) (item_held s0 heap c (slots c) n locals_held))) (both_second (are_held s0 heap c (slots c)) _ h))
     (λ heap tree c t.
-        let s = state_at s0 heap tree group c in
-        ap (λ b. when b (go (here site (record s { top = record (s.top) { locals = map (value_of s0 heap c) (slice_set (slots c) n (increased by (slot c))) } })) s.top.operands) (illegal (here site (record s { top = record (s.top) { locals = map (value_of s0 heap c) (slice_set (slots c) n (increased by (slot c))) } })))) (test_at fits c _ e v (fit c t))
-        ∙ increase_law site s0 heap c s n by (slots c) (slot c) refl
-        ∙ ap (increase (here site s) n by) (sym (item_value s0 heap c (slots c) n)))
+    let s = state_at s0 heap tree group c in
+    ap (λ b. when b (go (here site (record s { top = record (s.top) { locals = map (value_of s0 heap c) (slice_set (slots c) n (increased by (slot c))) } })) s.top.operands) (illegal (here site (record s { top = record (s.top) { locals = map (value_of s0 heap c) (slice_set (slots c) n (increased by (slot c))) } })))) (test_at fits c _ e v (fit c t))
+    ∙ increase_law site s0 heap c s n by (slots c) (slot c) refl
+    ∙ ap (increase (here site s) n by) (sym (item_value s0 heap c (slots c) n)))
     (subst P made gives)
 
 -- ---- the operand that was taken off

@@ -2,6 +2,7 @@
 //! and iinc.
 #![tactic(auto)]
 
+pub mod constant;
 mod constants;
 mod entries;
 pub mod family;

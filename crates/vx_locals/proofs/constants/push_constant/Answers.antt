@@ -1,4 +1,4 @@
-use Rattle.std.proofs.Common.{ap, refl}
+use Rattle.std.proofs.Common.{ap}
 use Rattle.vx_cond.proofs.CondLaws.{IsCond-of}
 use Rattle.vx_group.proofs.GroupLaws.{IsGroup-path_known}
 use Rattle.vx_families.specs.Pushing.{is_push}

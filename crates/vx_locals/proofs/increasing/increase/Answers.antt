@@ -1,4 +1,4 @@
-use Rattle.std.proofs.Common.{◌≡◌, ◌≤◌, Bool, List, true, ◌∙◌, ap, sym, length}
+use Rattle.std.proofs.Common.{◌≤◌, ◌∙◌, ap, sym, length}
 use Rattle.std.proofs.Math.Facts.{to_z-of_z}
 use Rattle.std.specs.Int.{w32}
 use Rattle.std.specs.Ordering.{bool_cmp}

@@ -25,7 +25,7 @@ pub put_top-requires-clause-scope : goal.put_top-requires-clause-scope
 put_top-requires-clause-scope g c = rw (c.set.ensures, c.take_top-below.ensures) (IsGroup-one_scope _ c.args.group c.requires.group)
 
 pub pass_where-requires-clause-group : goal.pass_where-requires-clause-group
-pass_where-requires-clause-group g c = 
+pass_where-requires-clause-group g c =
     let start = g.S.Space.sets c.args.space.now in
     let group = c.args.group in
     let e = c.in_ok-value.ensures.extends in
@@ -48,7 +48,7 @@ pub returns-clause-extends : goal.returns-clause-extends
 returns-clause-extends g c = Extends-trans c.in_ok-value.ensures.extends c.in_ok-outcomes.ensures.extends
 
 pub returns-clause-gives : goal.returns-clause-gives
-returns-clause-gives g c = 
+returns-clause-gives g c =
     let start = g.S.Space.sets c.args.space.now in
     let group = c.args.group in
     let e = c.in_ok-value.ensures.extends in

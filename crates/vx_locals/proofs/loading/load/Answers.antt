@@ -13,7 +13,7 @@ use Rattle.vx_locals.proofs.Loads.{load-gives, load_none, loaded_at, loaded_push
 use Rattle.vx_locals.proofs.loading.load.Goals as goal
 
 pub returns-then-len-from-clause-gives : goal.returns-then-len-from-clause-gives
-returns-then-len-from-clause-gives g c = 
+returns-then-len-from-clause-gives g c =
     let past : length c.args.group.top.locals.conds ≤ c.args.place = rw (← c.top_frame.ensures, ← c.len.ensures, ← c.from.ensures) c.if-len-from.true in
     load_none c.args.site.now _ c.args.group c.args.sort c.args.place _ past (c.in_ok-ended.ensures _)
 
@@ -30,7 +30,7 @@ pub push_answers-requires-clause-scope : goal.push_answers-requires-clause-scope
 push_answers-requires-clause-scope g c = c.in_ok-answers.ensures.scope ∙ (IsRow-get slot_cmp _ c.args.group.top.locals c.args.place c.get.result.now (IsFrame-locals _ c.args.group.top (IsGroup-top _ c.args.group c.requires.group)) (rw (c.top_frame.ensures, c.from-2.ensures) at c.get.ensures)).1 ∙ IsGroup-one_scope _ c.args.group c.requires.group
 
 pub push_answers-requires-clause-pushes : goal.push_answers-requires-clause-pushes
-push_answers-requires-clause-pushes g c = 
+push_answers-requires-clause-pushes g c =
     let start = g.S.Space.sets c.args.space.now in
     let local = IsRow-get slot_cmp _ c.args.group.top.locals c.args.place c.get.result.now (IsFrame-locals _ c.args.group.top (IsGroup-top _ c.args.group c.requires.group)) (rw (c.top_frame.ensures, c.from-2.ensures) at c.get.ensures) in
     let in_path : (d : List Bool) → start.test (path_of c.args.group) d ≡ true → start.test c.get.result.now.scope d ≡ true = λ d t. ap (λ i. start.test i d) (local.1 ∙ IsGroup-one_scope _ c.args.group c.requires.group) ∙ t in
@@ -40,7 +40,7 @@ pub returns-clause-extends : goal.returns-clause-extends
 returns-clause-extends g c = Extends-trans c.in_ok-answers.ensures.extends c.in_ok-outcomes.ensures.extends
 
 pub returns-clause-gives : goal.returns-clause-gives
-returns-clause-gives g c = 
+returns-clause-gives g c =
     let start = g.S.Space.sets c.args.space.now in
     let local = IsRow-get slot_cmp _ c.args.group.top.locals c.args.place c.get.result.now (IsFrame-locals _ c.args.group.top (IsGroup-top _ c.args.group c.requires.group)) (rw (c.top_frame.ensures, c.from-2.ensures) at c.get.ensures) in
     let in_path : (d : List Bool) → start.test (path_of c.args.group) d ≡ true → start.test c.get.result.now.scope d ≡ true = λ d t. ap (λ i. start.test i d) (local.1 ∙ IsGroup-one_scope _ c.args.group c.requires.group) ∙ t in

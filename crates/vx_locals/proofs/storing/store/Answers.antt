@@ -15,7 +15,7 @@ use Rattle.vx_locals.proofs.Rows.{last_is_top, tested_at}
 use Rattle.vx_locals.proofs.storing.store.Goals as goal
 
 pub returns-then-len-eq0-clause-gives : goal.returns-then-len-eq0-clause-gives
-returns-then-len-eq0-clause-gives g c = 
+returns-then-len-eq0-clause-gives g c =
     let none : length c.args.group.top.stack.conds ≡ 0 = rw (← c.top_frame.ensures, ← c.len.ensures) c.if-len-eq0.true in
     store_none c.args.site.now _ c.args.group c.args.sort c.args.place _ none (c.in_ok-ended.ensures _)
 
@@ -32,7 +32,7 @@ pub store_where-requires-clause-scope : goal.store_where-requires-clause-scope
 store_where-requires-clause-scope g c = c.in_ok-fits.ensures.scope ∙ (IsRow-get slot_cmp _ c.args.group.top.stack _ c.get.result.now (IsFrame-stack _ c.args.group.top (IsGroup-top _ c.args.group c.requires.group)) (rw c.top_frame.ensures at c.get.ensures)).1 ∙ stack_scope _ c.args.group c.requires.group
 
 pub store_where-requires-clause-at : goal.store_where-requires-clause-at
-store_where-requires-clause-at g c = 
+store_where-requires-clause-at g c =
     let start = g.S.Space.sets c.args.space.now in
     let group = c.args.group in
     let e = c.in_ok-fits.ensures.extends in

@@ -24,7 +24,7 @@ pub put_top-requires-clause-scope : goal.put_top-requires-clause-scope
 put_top-requires-clause-scope g c = rw c.take_top-below.ensures ((rw c.take_top-below.ensures at c.in_ok-write_local.ensures.ok).scope ∙ IsGroup-one_scope _ c.args.group c.requires.group)
 
 pub pass_where-requires-clause-group : goal.pass_where-requires-clause-group
-pass_where-requires-clause-group g c = 
+pass_where-requires-clause-group g c =
     let group = c.args.group in
     let e = c.in_ok-write_local.ensures.extends in
     let top = top_taken _ group c.pop.new.self c.in-Some.value c.requires.group (rw c.take_top-below.ensures at c.in-Some.ensures.some) in
@@ -45,7 +45,7 @@ pub returns-clause-extends : goal.returns-clause-extends
 returns-clause-extends g c = Extends-trans c.in_ok-write_local.ensures.extends c.in_ok-outcomes.ensures.extends
 
 pub returns-clause-gives : goal.returns-clause-gives
-returns-clause-gives g c = 
+returns-clause-gives g c =
     let group = c.args.group in
     let e = c.in_ok-write_local.ensures.extends in
     let top = top_taken _ group c.pop.new.self c.in-Some.value c.requires.group (rw c.take_top-below.ensures at c.in-Some.ensures.some) in

@@ -1,4 +1,4 @@
-use Rattle.std.proofs.Common.{◌<◌, sym, ◌∙◌, arith}
+use Rattle.std.proofs.Common.{sym, ◌∙◌, arith}
 use Rattle.vx_locals.proofs.Rows.{half_none}
 use Rattle.vx_locals.proofs.writing.is_behind_long.Goals as goal
 

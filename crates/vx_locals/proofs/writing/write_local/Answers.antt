@@ -1,4 +1,4 @@
-use Rattle.std.proofs.Common.{◌≡◌, ◌+◌, ◌∙◌, ap, sym}
+use Rattle.std.proofs.Common.{◌+◌, ap, sym}
 use Rattle.std.specs.Prelude.{slice_set}
 use Rattle.vx_cond.specs.Slots.{slot_at, slots_at}
 use Rattle.vx_cond.proofs.SideLaws.{IsRow-scope_known}
