@@ -1,0 +1,2 @@
+-- Operands in another order.
+use Rattle.std.proofs.Common.{◌≡◌}
