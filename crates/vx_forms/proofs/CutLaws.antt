@@ -13,7 +13,7 @@ use Rattle.vx_stands.specs.Sites.{here}
 use Rattle.vx_stands.specs.declared.site.Site.{Site}
 use Rattle.vx_stands.proofs.AnswerLaws.{map_drop}
 use Rattle.vx_forms.specs.Cuts.{both_counts, count_of, counts_of, cut_by, first_cut, grown, is_found, lower_grown, next, part_of_words, upper_grown}
-use Rattle.vx_forms.specs.Forms.{formed_as, formed_by}
+use Rattle.vx_forms.specs.Forms.{formed_as, formed_by, order_of, reordered}
 use Rattle.vx_forms.specs.declared.cut.Part.{Part}
 use Rattle.vx_forms.specs.declared.cut.Part.TheVariants.{Zero, One, Two, Word, Words, Second}
 use Rattle.vx_forms.specs.declared.cut.Cut.{Cut}
@@ -144,22 +144,28 @@ words_counted sets heap c (suc zero) (Long a ∷ slots) = refl
 words_counted sets heap c (suc (suc n)) (Long a ∷ slots) = taken_more (value_of sets heap c (Long a)) (map (value_of sets heap c) slots) (words n (map (value_of sets heap c) slots)) (values_in n slots) (words_counted sets heap c n slots)
 words_counted sets heap c (suc n) (s ∷ slots) = taken_more (value_of sets heap c s) (map (value_of sets heap c) slots) (words n (map (value_of sets heap c) slots)) (values_in n slots) (words_counted sets heap c n slots)
 
--- a stack form, where so many values stand in its words
-words_formed : {S I : Type 0} (sets : Sets I) (heap : HeapView S I) (c : List Bool) (site : Site) (form : Shuffle) (s : State) (p q : Part) (slots : List Slot) → left p ≡ upper form → left q ≡ lower form → ((n : ℕ) → more p n ≡ n) → ((n : ℕ) → more q n ≡ n) → s.top.operands ≡ map (value_of sets heap c) slots → stack (here site s) form ≡ formed_as site form (counts_of (cut_by (Parts p q) slots)) s
-words_formed sets heap c site form s p q slots a b f g e = uppers (values_in (left p) slots) (ap (words (upper form)) e ∙ words_counted sets heap c (upper form) slots ∙ ap (λ n. option_map (λ k. divided_at k (map (value_of sets heap c) slots)) (values_in n slots)) (sym a)) ∙ ap (λ o. formed_as site form o s) (sym (cut_counts p q slots))
-  where
-    lowers : (u : ℕ) (o : Option ℕ) → words (lower form) (drop u s.top.operands) ≡ option_map (λ k. divided_at k (drop u s.top.operands)) o → lower_taken (here site s) form (take u s.top.operands) (words (lower form) (drop u s.top.operands)) ≡ formed_as site form (lower_counted p q u o) s
-    lowers u None h = ap (lower_taken (here site s) form (take u s.top.operands)) h
-    lowers u (Some l) h = ap (lower_taken (here site s) form (take u s.top.operands)) h ∙ (λ i. formed_by site form (sym (f u) i) (sym (g l) i) s)
+in_order : (form : Shuffle) (a b rest : List Value) → values_reordered form a b rest ≡ reordered (order_of form) a b rest
+in_order Pop a b rest = refl
+in_order Pop2 a b rest = refl
+in_order Swap a b rest = refl
+in_order form a b rest = refl
 
-    uppers : (o : Option ℕ) → words (upper form) s.top.operands ≡ option_map (λ k. divided_at k (map (value_of sets heap c) slots)) o → upper_taken (here site s) form (words (upper form) s.top.operands) ≡ formed_as site form (counted p q slots o) s
+-- a stack form, where so many values stand in its words
+words_formed : {S I : Type 0} (sets : Sets I) (heap : HeapView S I) (c : List Bool) (site : Site) (form : Shuffle) (s : State) (p q : Part) (slots : List Slot) → left p ≡ upper form → left q ≡ lower form → ((n : ℕ) → more p n ≡ n) → ((n : ℕ) → more q n ≡ n) → s.top.operands ≡ map (value_of sets heap c) slots → stack (here site s) form ≡ formed_as site (order_of form) (counts_of (cut_by (Parts p q) slots)) s
+words_formed sets heap c site form s p q slots a b f g e = uppers (values_in (left p) slots) (ap (words (upper form)) e ∙ words_counted sets heap c (upper form) slots ∙ ap (λ n. option_map (λ k. divided_at k (map (value_of sets heap c) slots)) (values_in n slots)) (sym a)) ∙ ap (λ o. formed_as site (order_of form) o s) (sym (cut_counts p q slots))
+  where
+    lowers : (u : ℕ) (o : Option ℕ) → words (lower form) (drop u s.top.operands) ≡ option_map (λ k. divided_at k (drop u s.top.operands)) o → lower_taken (here site s) form (take u s.top.operands) (words (lower form) (drop u s.top.operands)) ≡ formed_as site (order_of form) (lower_counted p q u o) s
+    lowers u None h = ap (lower_taken (here site s) form (take u s.top.operands)) h
+    lowers u (Some l) h = ap (lower_taken (here site s) form (take u s.top.operands)) h ∙ ap (settle (here site s)) (in_order form (take u s.top.operands) (take l (drop u s.top.operands)) (drop l (drop u s.top.operands))) ∙ (λ i. formed_by site (order_of form) (sym (f u) i) (sym (g l) i) s)
+
+    uppers : (o : Option ℕ) → words (upper form) s.top.operands ≡ option_map (λ k. divided_at k (map (value_of sets heap c) slots)) o → upper_taken (here site s) form (words (upper form) s.top.operands) ≡ formed_as site (order_of form) (counted p q slots o) s
     uppers None h = ap (upper_taken (here site s) form) h
     uppers (Some u) h =
         let under : drop u s.top.operands ≡ map (value_of sets heap c) (drop u slots) = ap (drop u) e ∙ sym (map_drop (value_of sets heap c) u slots) in
         let found = ap (words (lower form)) under ∙ words_counted sets heap c (lower form) (drop u slots) ∙ (λ i. option_map (λ k. divided_at k (sym under i)) (values_in (sym b i) (drop u slots))) in
         ap (upper_taken (here site s) form) (h ∙ ap (λ values. Some (divided_at u values)) (sym e)) ∙ lowers u (values_in (left q) (drop u slots)) found
 
-pub stack-formed : {S I : Type 0} (sets : Sets I) (heap : HeapView S I) (c : List Bool) (site : Site) (form : Shuffle) (s : State) (slots : List Slot) → s.top.operands ≡ map (value_of sets heap c) slots → stack (here site s) form ≡ formed_as site form (counts_of (cut_by (first_cut form) slots)) s
+pub stack-formed : {S I : Type 0} (sets : Sets I) (heap : HeapView S I) (c : List Bool) (site : Site) (form : Shuffle) (s : State) (slots : List Slot) → s.top.operands ≡ map (value_of sets heap c) slots → stack (here site s) form ≡ formed_as site (order_of form) (counts_of (cut_by (first_cut form) slots)) s
 stack-formed sets heap c site Pop s slots e = words_formed sets heap c site Pop s Word Zero slots refl refl (λ n. refl) (λ n. refl) e
 stack-formed sets heap c site Pop2 s slots e = words_formed sets heap c site Pop2 s Words Zero slots refl refl (λ n. refl) (λ n. refl) e
 stack-formed sets heap c site Dup s slots e = words_formed sets heap c site Dup s Word Zero slots refl refl (λ n. refl) (λ n. refl) e

@@ -1,11 +1,12 @@
 -- What a stack form makes of the operands, by how many values stand in its words.
-use Rattle.std.specs.Prelude.{◌≡◌, ℕ, Bool, true, false, List, take, drop, Option, Some, None, ◌++◌}
-use Rattle.vx_java.specs.Machine.{Outcome, State, Value, illegal, settle}
-use Rattle.vx_java.specs.StackForms.{values_reordered}
+use Rattle.std.specs.Prelude.{ℕ, Bool, true, false, List, take, drop, Option, Some, None, ◌++◌}
+use Rattle.vx_java.specs.Machine.{Outcome, State, illegal, settle}
 use Rattle.vx_java.specs.declared.operation.Operation.{Operation}
 use Rattle.vx_java.specs.declared.operation.Operation.TheVariants.{Stack}
 use Rattle.vx_java.specs.declared.operation.Shuffle.{Shuffle}
 use Rattle.vx_java.specs.declared.operation.Shuffle.TheVariants.{Pop, Pop2, Swap}
+use Rattle.vx_forms.specs.declared.order.Order.{Order}
+use Rattle.vx_forms.specs.declared.order.Order.TheVariants.{Dropped, Swapped, Doubled}
 use Rattle.vx_stands.specs.Sites.{here}
 use Rattle.vx_stands.specs.declared.site.Site.{Site}
 
@@ -14,23 +15,28 @@ abbrev pub is_form : Operation → Bool
 is_form (Stack form) = true
 is_form _ = false
 
--- as `values_reordered`, of items of any type
-abbrev pub reordered : {T : Type 0} → Shuffle → List T → List T → List T → List T
-reordered Pop a b rest = rest
-reordered Pop2 a b rest = rest
-reordered Swap a b rest = b ++ (a ++ rest)
-reordered _ a b rest = a ++ (b ++ (a ++ rest))
+abbrev pub order_of : Shuffle → Order
+order_of Pop = Dropped
+order_of Pop2 = Dropped
+order_of Swap = Swapped
+order_of _ = Doubled
 
--- operands, the top first, whose upper words have so many values and whose lower words so many
-abbrev pub operands_reordered : {T : Type 0} → Shuffle → (upper lower : ℕ) → List T → List T
-operands_reordered form upper lower operands =
-    reordered form (take upper operands) (take lower (drop upper operands)) (drop lower (drop upper operands))
+-- the items of the upper words, of those under them, and the rest, in their new order
+abbrev pub reordered : {T : Type 0} → Order → List T → List T → List T → List T
+reordered Dropped a b rest = rest
+reordered Swapped a b rest = b ++ (a ++ rest)
+reordered Doubled a b rest = a ++ (b ++ (a ++ rest))
 
-abbrev pub formed_by : Site → Shuffle → (upper lower : ℕ) → State → Outcome
-formed_by site form upper lower s =
-    settle (here site s) (values_reordered form (take upper s.top.operands) (take lower (drop upper s.top.operands)) (drop lower (drop upper s.top.operands)))
+-- operands, the top first, whose upper words have so many values, and the words under them so many
+abbrev pub operands_reordered : {T : Type 0} → Order → (upper lower : ℕ) → List T → List T
+operands_reordered order upper lower operands =
+    reordered order (take upper operands) (take lower (drop upper operands)) (drop lower (drop upper operands))
+
+-- what comes then
+abbrev pub formed_by : Site → Order → (upper lower : ℕ) → State → Outcome
+formed_by site order upper lower s = settle (here site s) (operands_reordered order upper lower s.top.operands)
 
 -- none: the state breaks a rule of the instruction
-abbrev pub formed_as : Site → Shuffle → Option (ℕ × ℕ) → State → Outcome
-formed_as site form None s = illegal (here site s)
-formed_as site form (Some (upper, lower)) s = formed_by site form upper lower s
+abbrev pub formed_as : Site → Order → Option (ℕ × ℕ) → State → Outcome
+formed_as site order None s = illegal (here site s)
+formed_as site order (Some (upper, lower)) s = formed_by site order upper lower s

@@ -4,4 +4,5 @@
 
 pub mod cut;
 mod cutting;
+pub mod order;
 mod reordering;

@@ -1,6 +1,6 @@
 //! Operands in the order that a stack form gives them.
 
-ghost use Rattle.std.specs.Prelude.{◌≡◌, ◌++◌, ◌+◌, ◌<◌, ◌≤◌, ◌^◌, Bool, IfOk, List, OnOk, drop, length, take};
+ghost use Rattle.std.specs.Prelude.{◌≡◌, ◌++◌, ◌+◌, ◌*◌, ◌<◌, ◌≤◌, ◌^◌, Bool, IfOk, List, OnOk, drop, length, take};
 ghost use Rattle.vx_space.specs.Sets.{Extends};
 ghost use Rattle.vx_cond.specs.Cond.{IsCond};
 ghost use Rattle.vx_cond.specs.Row.{IsRow};
@@ -8,12 +8,12 @@ ghost use Rattle.vx_cond.specs.Slots.{slot_at, slots_at};
 ghost use Rattle.vx_value.specs.Slot.{slot_cmp};
 ghost use Rattle.vx_group.specs.Group.{IsGroup, path_of};
 ghost use Rattle.vx_stands.specs.Answering.{operands_at};
-ghost use Rattle.vx_forms.specs.Forms.{operands_reordered};
+ghost use Rattle.vx_forms.specs.Forms.{operands_reordered, reordered};
 
+use crate::order::Order;
 use std::alloc::{AllocError, Global};
 use vx_cond::{Cond, Row};
 use vx_group::Group;
-use vx_java::Shuffle;
 use vx_space::{Space, SpaceFault};
 use vx_value::Slot;
 
@@ -83,13 +83,48 @@ fn put_on<S: Space>(
     Ok(())
 }
 
+/// Puts the values of the upper words, and those of the words under them, back in their new order.
+fn put_back<S: Space>(
+    space: &mut S,
+    stack: &mut Row<Slot, S>,
+    order: Order,
+    above: &Row<Slot, S>,
+    under: &Row<Slot, S>,
+) -> Result<(), SpaceFault>
+    requires row { IsRow slot_cmp (S.sets space.old) stack.old }
+    requires above { IsRow slot_cmp (S.sets space.old) above.now }
+    requires under { IsRow slot_cmp (S.sets space.old) under.now }
+    requires above_scope { above.now.scope ≡ stack.old.scope }
+    requires under_scope { under.now.scope ≡ stack.old.scope }
+    ensures extends { Extends (S.sets space.old) (S.sets space.new) }
+    ensures row { OnOk result (IsRow slot_cmp (S.sets space.new) stack.new) }
+    ensures scope { OnOk result (stack.new.scope ≡ stack.old.scope) }
+    ensures length { OnOk result (length stack.new.conds ≤ length stack.old.conds + length under.now.conds + 2 * length above.now.conds) }
+    ensures at { OnOk result ((c : List Bool) → operands_at (S.sets space.new) stack.new c ≡ reordered order (slots_at (S.sets space.old) above.now c) (slots_at (S.sets space.old) under.now c) (operands_at (S.sets space.old) stack.old c)) }
+{
+    match order {
+        Order::Dropped => Ok(()),
+        Order::Swapped => {
+            put_on(space, stack, &above)?;
+            put_on(space, stack, &under)?;
+            Ok(())
+        }
+        Order::Doubled => {
+            put_on(space, stack, &above)?;
+            put_on(space, stack, &under)?;
+            put_on(space, stack, &above)?;
+            Ok(())
+        }
+    }
+}
+
 /// Puts the operands in their new order, where the upper words of the form have so many values and the lower words so
 /// many.
 fn reorder<S: Space>(
     alloc: Global,
     space: &mut S,
     stack: &mut Row<Slot, S>,
-    form: Shuffle,
+    order: Order,
     upper: usize,
     lower: usize,
 ) -> Result<(), SpaceFault>
@@ -99,32 +134,20 @@ fn reorder<S: Space>(
     ensures row { OnOk result (IsRow slot_cmp (S.sets space.new) stack.new) }
     ensures scope { OnOk result (stack.new.scope ≡ stack.old.scope) }
     ensures length { OnOk result (length stack.new.conds ≤ length stack.old.conds + upper) }
-    ensures at { OnOk result ((c : List Bool) → operands_at (S.sets space.new) stack.new c ≡ operands_reordered form upper lower (operands_at (S.sets space.old) stack.old c)) }
+    ensures at { OnOk result ((c : List Bool) → operands_at (S.sets space.new) stack.new c ≡ operands_reordered order upper lower (operands_at (S.sets space.old) stack.old c)) }
 {
     let above = take_off(alloc, space, stack, upper)?;
     let under = take_off(alloc, space, stack, lower)?;
-    match form {
-        Shuffle::Pop | Shuffle::Pop2 => Ok(()),
-        Shuffle::Swap => {
-            put_on(space, stack, &above)?;
-            put_on(space, stack, &under)?;
-            Ok(())
-        }
-        _ => {
-            put_on(space, stack, &above)?;
-            put_on(space, stack, &under)?;
-            put_on(space, stack, &above)?;
-            Ok(())
-        }
-    }
+    put_back(space, stack, order, &above, &under)?;
+    Ok(())
 }
 
 /// The group with its operands in their new order.
-pub fn reordered<S: Space>(
+pub fn with_form<S: Space>(
     alloc: Global,
     space: &mut S,
     group: Group<S>,
-    form: Shuffle,
+    order: Order,
     upper: usize,
     lower: usize,
 ) -> Result<Group<S>, SpaceFault>
@@ -135,9 +158,9 @@ pub fn reordered<S: Space>(
     ensures same { IfOk result (λ r. r ≡ record group { top = record group.top { stack = r.top.stack } }) }
     ensures row { IfOk result (λ r. IsRow slot_cmp (S.sets space.new) r.top.stack) }
     ensures scope { IfOk result (λ r. r.top.stack.scope ≡ path_of group) }
-    ensures at { IfOk result (λ r. (c : List Bool) → operands_at (S.sets space.new) r.top.stack c ≡ operands_reordered form upper lower (operands_at (S.sets space.old) group.top.stack c)) }
+    ensures at { IfOk result (λ r. (c : List Bool) → operands_at (S.sets space.new) r.top.stack c ≡ operands_reordered order upper lower (operands_at (S.sets space.old) group.top.stack c)) }
 {
     let (below, mut frame) = group.take_top();
-    reorder(alloc, space, &mut frame.stack, form, upper, lower)?;
+    reorder(alloc, space, &mut frame.stack, order, upper, lower)?;
     Ok(below.put_top(frame))
 }
