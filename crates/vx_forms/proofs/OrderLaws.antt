@@ -139,15 +139,15 @@ IsPutting-end {s0 = s0} first row values count i g l c =
 -- ---- put back
 
 -- two rows of values, one after the other
-pub swapped-at : {S I : Type 0} {s0 s1 s2 : Sets I} → Extends s0 s1 → (stack first second above under : Conditionals Slot S I) → IsRow slot_cmp s0 under → ((c : List Bool) → operands_at s1 first c ≡ slots_at s0 above c ++ operands_at s0 stack c) → ((c : List Bool) → operands_at s2 second c ≡ slots_at s1 under c ++ operands_at s1 first c) → (c : List Bool) → operands_at s2 second c ≡ slots_at s0 under c ++ (slots_at s0 above c ++ operands_at s0 stack c)
-swapped-at e stack first second above under v p q c =
+pub swapped-at : {S I : Type 0} {s0 s1 : Sets I} (s2 : Sets I) → Extends s0 s1 → (stack first second above under : Conditionals Slot S I) → IsRow slot_cmp s0 under → ((c : List Bool) → operands_at s1 first c ≡ slots_at s0 above c ++ operands_at s0 stack c) → ((c : List Bool) → operands_at s2 second c ≡ slots_at s1 under c ++ operands_at s1 first c) → (c : List Bool) → operands_at s2 second c ≡ slots_at s0 under c ++ (slots_at s0 above c ++ operands_at s0 stack c)
+swapped-at s2 e stack first second above under v p q c =
     let same = slots_at-extends e under v c in
     let below = p c in
     q c ∙ (λ i. same i ++ below i)
 
 -- and the first one once more
-pub doubled-at : {S I : Type 0} {s0 s1 s2 s3 : Sets I} → Extends s0 s1 → Extends s1 s2 → (stack first second third above under : Conditionals Slot S I) → IsRow slot_cmp s0 above → IsRow slot_cmp s0 under → ((c : List Bool) → operands_at s1 first c ≡ slots_at s0 above c ++ operands_at s0 stack c) → ((c : List Bool) → operands_at s2 second c ≡ slots_at s1 under c ++ operands_at s1 first c) → ((c : List Bool) → operands_at s3 third c ≡ slots_at s2 above c ++ operands_at s2 second c) → (c : List Bool) → operands_at s3 third c ≡ slots_at s0 above c ++ (slots_at s0 under c ++ (slots_at s0 above c ++ operands_at s0 stack c))
-doubled-at e f stack first second third above under v w p q r c =
+pub doubled-at : {S I : Type 0} {s0 s1 s2 : Sets I} (s3 : Sets I) → Extends s0 s1 → Extends s1 s2 → (stack first second third above under : Conditionals Slot S I) → IsRow slot_cmp s0 above → IsRow slot_cmp s0 under → ((c : List Bool) → operands_at s1 first c ≡ slots_at s0 above c ++ operands_at s0 stack c) → ((c : List Bool) → operands_at s2 second c ≡ slots_at s1 under c ++ operands_at s1 first c) → ((c : List Bool) → operands_at s3 third c ≡ slots_at s2 above c ++ operands_at s2 second c) → (c : List Bool) → operands_at s3 third c ≡ slots_at s0 above c ++ (slots_at s0 under c ++ (slots_at s0 above c ++ operands_at s0 stack c))
+doubled-at {s2 = s2} s3 e f stack first second third above under v w p q r c =
     let same = slots_at-extends (Extends-trans e f) above v c in
-    let below = swapped-at e stack first second above under w p q c in
+    let below = swapped-at s2 e stack first second above under w p q c in
     r c ∙ (λ i. same i ++ below i)

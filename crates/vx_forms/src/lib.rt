@@ -4,5 +4,8 @@
 
 pub mod cut;
 mod cutting;
+mod forming;
 pub mod order;
 mod reordering;
+
+pub use forming::attempt;
