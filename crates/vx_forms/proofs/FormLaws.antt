@@ -24,6 +24,7 @@ use Rattle.vx_heap.proofs.HeapLaws.{IsHeap-extends}
 use Rattle.vx_java.specs.Machine.{Here, State, Value, at_position, go, illegal, illegal_in, settle, stack_size, when, width}
 use Rattle.vx_java.specs.Machine.{Top as TopValue, Int as IntValue, Long as LongValue, Null as NullValue, Ref as RefValue, Text as TextValue}
 use Rattle.vx_java.specs.Row.{row_of}
+use Rattle.vx_java.specs.declared.operation.Operation.{Operation}
 use Rattle.vx_java.specs.declared.operation.Operation.TheVariants.{Stack}
 use Rattle.vx_java.specs.declared.operation.Shuffle.{Shuffle}
 use Rattle.vx_outcome.specs.declared.outcome.Outcome.{Outcome}
@@ -36,6 +37,9 @@ use Rattle.vx_stands.proofs.EndingLaws.{GivesAt-before}
 use Rattle.vx_stands.proofs.Gathering.{leaf_value}
 use Rattle.vx_stands.proofs.OutcomeStates.{CameTo-through}
 use Rattle.vx_stands.proofs.StateLaws.{Continues-moved, both, both_first, both_second, operands_held, state_at-moved}
+use Rattle.vx_families.specs.Attempts.{IsAttemptBy, IsGiven, row_by}
+use Rattle.vx_families.proofs.AttemptLaws.{AttemptsBy-as, IsAttemptBy-is}
+use Rattle.vx_families.proofs.Given.{given_stack_scope}
 use Rattle.vx_forms.specs.Cuts.{counts_of, cut_by, first_cut}
 use Rattle.vx_forms.specs.Exact.{cut_cmp}
 use Rattle.vx_forms.specs.Forms.{ArePossible, formed_as, formed_by, formed_where, operands_reordered, order_of, reordered}
@@ -202,3 +206,8 @@ pub counts-gives : {S I : Type 0} (site : Site) (order : Order) (old new : Sets 
 counts-gives site order old new group outcomes o counts e h =
     let P : Option (ℕ × ℕ) → Type 0 = λ n. Gives site.program.now (formed_as site order n) old new group outcomes in
     subst P e h
+
+pub attempt-by : {S I : Type 0} (site : Site) (operation : Operation) {s0 s1 s2 : Sets I} (heap : HeapView S I) (group : GroupView S I) (form : Shuffle) (found : Conditional Cut S I) (outcomes : List (Outcome S I)) → operation ≡ Stack form → Extends s0 s1 → Extends s1 s2 → IsGiven site operation s0 heap group → ((c : List Bool) → s0.test group.top.stack.scope c ≡ true → cond_at s1 found c ≡ Some (cut_by (first_cut form) (operands_at s0 group.top.stack c))) → ((heap : HeapView S I) → GivesAt site.program.now (λ _. formed_where site (order_of form) s1 found.leaves) s1 s2 group outcomes heap) → IsAttemptBy site operation s0 s2 heap heap group outcomes
+attempt-by site operation {s0 = s0} {s1 = s1} {s2 = s2} heap group form found outcomes is e f given at gives =
+    let scope = given_stack_scope site operation s0 heap group given in
+    IsAttemptBy-is site operation (Stack form) s0 s2 heap heap group outcomes is (AttemptsBy-as site operation (row_by site (Stack form)) heap group (λ _. formed_where site (order_of form) s1 found.leaves) outcomes e f given (λ tree s c t. formed-row site s0 s1 heap c form found.leaves (operands_at s0 group.top.stack c) (state_at s0 heap tree group c) refl (at c (ap (λ i. s0.test i c) scope ∙ t))) (gives heap))
