@@ -1,18 +1,18 @@
 -- What a stack form makes of plain operands, by the cut of its words.
-use Rattle.std.proofs.Common.{◌≡◌, ℕ, ◌+◌, ◌≤◌, ◌⊎◌, zero, suc, Bool, true, List, [], ◌∷◌, refl, sym, ◌∙◌, ap, subst, arith, map, take, drop, length, min, add-one, inl, inr, take_all, length-drop}
-use Rattle.std.specs.Prelude.{Option, Some, None, option_map, slice_get, if◌then◌else◌}
+use Rattle.std.proofs.Common.{◌≡◌, ℕ, ◌+◌, ◌≤◌, ◌⊎◌, zero, suc, Bool, true, List, [], ◌∷◌, refl, sym, ◌∙◌, ap, arith, map, take, drop, length, min, add-one, inl, inr, take_all, length-drop}
+use Rattle.std.specs.Prelude.{Option, Some, None, option_map, slice_get}
 use Rattle.vx_value.specs.declared.slot.Slot.{Slot}
-use Rattle.vx_value.specs.declared.slot.Slot.TheVariants.{Top, Int, Long, Null, Ref, Text}
+use Rattle.vx_value.specs.declared.slot.Slot.TheVariants.{Long}
 use Rattle.vx_space.specs.Sets.{Sets}
 use Rattle.vx_heap.specs.Heap.{HeapView, value_of}
-use Rattle.vx_java.specs.Machine.{Here, Outcome, State, Value, illegal, settle}
+use Rattle.vx_java.specs.Machine.{State, Value, settle}
 use Rattle.vx_java.specs.StackForms.{lower, lower_taken, stack, upper, upper_taken, values_reordered, words}
 use Rattle.vx_java.specs.declared.operation.Shuffle.{Shuffle}
 use Rattle.vx_java.specs.declared.operation.Shuffle.TheVariants.{Dup, Dup2, Dup2X1, Dup2X2, DupX1, DupX2, Pop, Pop2, Swap}
 use Rattle.vx_stands.specs.Sites.{here}
 use Rattle.vx_stands.specs.declared.site.Site.{Site}
 use Rattle.vx_stands.proofs.AnswerLaws.{map_drop}
-use Rattle.vx_forms.specs.Cuts.{both_counts, count_of, counts_of, cut_by, first_cut, grown, is_found, lower_grown, next, part_of_words, upper_grown}
+use Rattle.vx_forms.specs.Cuts.{count_of, counts_of, cut_by, first_cut, grown, is_found, lower_grown, next, part_of_words, upper_grown}
 use Rattle.vx_forms.specs.Forms.{formed_as, formed_by, order_of, reordered}
 use Rattle.vx_forms.specs.declared.cut.Part.{Part}
 use Rattle.vx_forms.specs.declared.cut.Part.TheVariants.{Zero, One, Two, Word, Words, Second}

@@ -3,7 +3,7 @@ use Rattle.std.proofs.Common.{◌≡◌, ◌≢◌, ℕ, ◌+◌, ◌<◌, ◌�
 use Rattle.std.proofs.lemmas.Bool.{lt-leb}
 use Rattle.std.proofs.lemmas.Option.{same_Some}
 use Rattle.std.proofs.lemmas.List.{length-append, length-drop, length-map, length-reverse, map-append}
-use Rattle.std.specs.Prelude.{Option, Some, None, IfSome, nat_le, is_some, unwrap_or}
+use Rattle.std.specs.Prelude.{Option, Some, None, IfSome, is_some, unwrap_or}
 use Rattle.std.specs.List.{list_all}
 use Rattle.vx_value.specs.declared.slot.Slot.{Slot}
 use Rattle.vx_value.specs.Slot.{slot_cmp}
@@ -16,9 +16,8 @@ use Rattle.vx_cond.specs.Cond.{Conditional, IsCond, cond_at}
 use Rattle.vx_cond.specs.Row.{Conditionals, IsRow}
 use Rattle.vx_cond.proofs.SideLaws.{cond_at-covers}
 use Rattle.vx_frame.specs.Frame.{Shape, frame_at}
-use Rattle.vx_frame.proofs.FrameLaws.{frame_at-extends}
-use Rattle.vx_group.specs.Group.{GroupView, IsGroup, IsPartOf, path_of}
-use Rattle.vx_group.proofs.GroupLaws.{IsGroupIn-group, IsGroup-path_known, IsGroup-top}
+use Rattle.vx_group.specs.Group.{GroupView, IsPartOf, path_of}
+use Rattle.vx_group.proofs.GroupLaws.{IsGroupIn-group, IsGroup-path_known}
 use Rattle.vx_heap.specs.Heap.{HeapView, is_held, value_of}
 use Rattle.vx_heap.proofs.HeapLaws.{IsHeap-extends}
 use Rattle.vx_java.specs.Machine.{Here, State, Value, at_position, go, illegal, illegal_in, settle, stack_size, when, width}

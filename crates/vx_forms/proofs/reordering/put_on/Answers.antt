@@ -1,10 +1,9 @@
-use Rattle.std.proofs.Common.{◌≡◌, ◌+◌, ◌∙◌, ap, sym, arith, length}
+use Rattle.std.proofs.Common.{◌∙◌, ap}
 use Rattle.vx_value.specs.Slot.{slot_cmp}
-use Rattle.vx_space.proofs.Spaces.{Extends-trans}
 use Rattle.vx_cond.proofs.CondLaws.{IsCond-extends, cond_at-extends}
 use Rattle.vx_cond.specs.Slots.{or_top}
 use Rattle.vx_cond.proofs.RowSteps.{IsRow-get}
-use Rattle.vx_forms.proofs.OrderLaws.{IsPutting-start, IsPutting-step, IsPutting-end}
+use Rattle.vx_forms.proofs.OrderLaws.{IsPutting-start, IsPutting-step}
 use Rattle.vx_forms.proofs.reordering.put_on.Goals as goal
 
 pub loop-i-init : goal.loop-i-init

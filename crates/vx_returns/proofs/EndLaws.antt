@@ -1,0 +1,2 @@
+-- Runs that end at a return.
+use Rattle.std.proofs.Common.{◌≡◌}
