@@ -1,5 +1,5 @@
 -- How a run ends at a return of its first frame.
-use Rattle.std.specs.Prelude.{ℕ, Bool, true, false, List, unwrap_or}
+use Rattle.std.specs.Prelude.{ℕ, Bool, true, false, List, Option, is_some, unwrap_or}
 use Rattle.vx_value.specs.declared.end.End.{End}
 use Rattle.vx_value.specs.declared.end.End.TheVariants.{Illegal}
 use Rattle.vx_value.specs.declared.end.End.TheVariants.{Return as ReturnEnd}
@@ -8,7 +8,8 @@ use Rattle.vx_value.specs.declared.slot.Slot.TheVariants.{Int, Long, Null, Ref}
 use Rattle.vx_space.specs.Sets.{Sets}
 use Rattle.vx_cond.specs.declared.cond.Leaf.{Leaf}
 use Rattle.vx_cond.specs.Leaves.{value_at}
-use Rattle.vx_java.specs.Machine.{Ended, Outcome, State, illegal_in, place_at, when}
+use Rattle.vx_java.specs.Machine.{Ended, Outcome, State, place_at}
+use Rattle.vx_java.specs.Returns.{values_returned}
 use Rattle.vx_java.specs.declared.operation.Operation.{Operation}
 use Rattle.vx_java.specs.declared.operation.Operation.TheVariants.{Return}
 use Rattle.vx_java.specs.declared.operation.Sort.{Sort}
@@ -39,3 +40,7 @@ ended_by p is_of s = Ended (end_by p s.top.method s.top.position is_of)
 -- where leaves say whether it is
 abbrev pub ended_where : {S I : Type 0} → Program → Sets I → List (Leaf Bool S I) → List Bool → State → Outcome
 ended_where p sets answers c s = ended_by p (unwrap_or (value_at sets answers c) false) s
+
+-- a return of a sort, or of no value, by a frame that has no callers
+abbrev pub returned_by : Program → Option Sort → State → Outcome
+returned_by p sort s = ended_by p (is_some (values_returned sort s.top.operands)) s

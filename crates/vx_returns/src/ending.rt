@@ -38,7 +38,7 @@ fn end_by<S: Space>(
 }
 
 /// The ends of a group by whether the value that is handed back is of the sort.
-fn ends<S: Space>(
+pub fn ends<S: Space>(
     alloc: Global,
     program: &Program,
     space: &S,
@@ -61,7 +61,7 @@ fn ends<S: Space>(
 }
 
 /// All runs of a group end well.
-fn all_end<S: Space>(alloc: Global, group: &Group<S>) -> Result<Outcomes<S>, AllocError>
+pub fn all_end<S: Space>(alloc: Global, group: &Group<S>) -> Result<Outcomes<S>, AllocError>
     ensures { IfOk result (λ r. (program : _) (sets : Sets S.Id) → Gives program (ended_by program true) sets sets group.now r.items.items) }
 {
     let mut outcomes = Outcomes::new(alloc);
