@@ -105,14 +105,14 @@ fn put_back<S: Space>(
     match order {
         Order::Dropped => Ok(()),
         Order::Swapped => {
-            put_on(space, stack, &above)?;
-            put_on(space, stack, &under)?;
+            put_on(space, stack, above)?;
+            put_on(space, stack, under)?;
             Ok(())
         }
         Order::Doubled => {
-            put_on(space, stack, &above)?;
-            put_on(space, stack, &under)?;
-            put_on(space, stack, &above)?;
+            put_on(space, stack, above)?;
+            put_on(space, stack, under)?;
+            put_on(space, stack, above)?;
             Ok(())
         }
     }

@@ -1,26 +1,25 @@
 -- Runs that end at a return: what the loop over the answers keeps, and the return of the machine.
-use Rattle.std.proofs.Common.{◌≡◌, ℕ, ◌+◌, ◌<◌, ◌≤◌, Bool, true, false, List, [], ◌∷◌, ◌++◌, refl, sym, ◌∙◌, ap, subst, map, take, get_or, length}
+use Rattle.std.proofs.Common.{◌≡◌, ℕ, ◌+◌, ◌<◌, ◌≤◌, Bool, true, false, List, [], ◌∷◌, ◌++◌, refl, sym, ◌∙◌, ap, subst, take, get_or, length}
 use Rattle.std.proofs.lemmas.List.{take_all}
 use Rattle.std.specs.Ordering.{bool_cmp}
 use Rattle.std.specs.Prelude.{Option, Some, None, is_some, ◌||◌, if◌then◌else◌, unwrap_or}
 use Rattle.vx_value.specs.declared.end.End.{End}
 use Rattle.vx_value.specs.declared.end.End.TheVariants.{Return as ReturnEnd}
-use Rattle.vx_space.specs.Sets.{Sets, Extends}
-use Rattle.vx_space.proofs.Spaces.{Extends-refl}
+use Rattle.vx_space.specs.Sets.{Sets}
 use Rattle.vx_cond.specs.declared.cond.Leaf.{Leaf}
 use Rattle.vx_cond.specs.Leaves.{AreLeaves, value_at}
 use Rattle.vx_cond.proofs.LeafLoops.{next_leaf}
 use Rattle.vx_group.specs.declared.callers.Caller.{Caller}
 use Rattle.vx_group.specs.Group.{GroupView, path_of}
 use Rattle.vx_group.proofs.GroupLaws.{IsGroupIn-group, IsGroup-path_known}
-use Rattle.vx_heap.specs.Heap.{HeapView, IsHeap}
-use Rattle.vx_java.specs.Machine.{Ended, State}
+use Rattle.vx_heap.specs.Heap.{HeapView}
+use Rattle.vx_java.specs.Machine.{Ended}
 use Rattle.vx_java.specs.Machine.{Outcome as PlainOutcome}
 use Rattle.vx_link.specs.declared.program.Program.{Program}
 use Rattle.vx_outcome.specs.declared.outcome.Outcome.{Outcome}
 use Rattle.vx_outcome.specs.declared.outcome.Outcome.TheVariants as shared
 use Rattle.vx_stands.specs.Sites.{Cover, Gives, GivesAt}
-use Rattle.vx_stands.specs.Stands.{CameTo, StandsIn, state_at}
+use Rattle.vx_stands.specs.Stands.{CameTo, state_at}
 use Rattle.vx_stands.proofs.Gathering.{leaf_value}
 use Rattle.vx_stands.proofs.OutcomeStates.{CameTo-append, CameTo-none, CameTo-one, CameTo-same}
 use Rattle.vx_returns.specs.Ends.{end_by, ended_by, ended_where}

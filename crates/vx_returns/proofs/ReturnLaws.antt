@@ -1,27 +1,26 @@
 -- The return of the machine, by a group of one frame.
-use Rattle.std.proofs.Common.{◌≡◌, ℕ, ◌+◌, ◌-◌, ◌<◌, ◌≤◌, ◌^◌, zero, suc, Bool, true, false, List, [], ◌∷◌, refl, sym, ◌∙◌, ap, subst, arith, map, length, reverse}
+use Rattle.std.proofs.Common.{◌≡◌, ℕ, ◌-◌, ◌<◌, ◌^◌, zero, suc, Bool, true, false, List, [], ◌∷◌, refl, sym, ◌∙◌, ap, subst, arith, map, length, reverse}
 use Rattle.std.proofs.lemmas.Bool.Decides.{nat_tests}
 use Rattle.std.proofs.lemmas.List.{get_or-reverse, length-map, length-reverse}
 use Rattle.std.proofs.lemmas.Option.{get_or_from_slice_get, slice_get-get_or}
 use Rattle.std.specs.Ordering.{bool_cmp}
 use Rattle.std.specs.List.{list_all}
-use Rattle.std.specs.Prelude.{Option, Some, None, if◌then◌else◌, is_some, nat_lt, slice_get, unwrap_or}
+use Rattle.std.specs.Prelude.{Option, Some, None, if◌then◌else◌, is_some, slice_get, unwrap_or}
 use Rattle.vx_value.specs.declared.slot.Slot.{Slot}
 use Rattle.vx_value.specs.declared.slot.Slot.TheVariants.{Top, Int, Long, Null, Ref, Text}
 use Rattle.vx_value.specs.Slot.{slot_cmp}
 use Rattle.vx_space.specs.Sets.{Sets, Extends}
 use Rattle.vx_space.proofs.Spaces.{Extends-refl}
-use Rattle.vx_cond.specs.Cond.{Conditional, IsCond, IsCondLifting, cond_at}
+use Rattle.vx_cond.specs.Cond.{Conditional, IsCondLifting, cond_at}
 use Rattle.vx_cond.specs.Leaves.{IsLifted}
-use Rattle.vx_cond.specs.Row.{Conditionals, IsRow}
+use Rattle.vx_cond.specs.Row.{Conditionals}
 use Rattle.vx_cond.specs.Slots.{or_top, slot_at, slots_at}
 use Rattle.vx_cond.proofs.RowSteps.{IsRow-get, slots_at-get}
 use Rattle.vx_cond.proofs.SideLaws.{cond_at-covers}
-use Rattle.vx_frame.specs.Frame.{frame_at}
 use Rattle.vx_frame.proofs.FrameLaws.{IsFrame-stack}
 use Rattle.vx_group.specs.declared.callers.Caller.{Caller}
 use Rattle.vx_group.specs.Callers.{callers_of, frames_at}
-use Rattle.vx_group.specs.Group.{GroupView, IsGroup, path_of}
+use Rattle.vx_group.specs.Group.{GroupView, IsGroup}
 use Rattle.vx_group.proofs.GroupLaws.{IsGroup-top}
 use Rattle.vx_heap.specs.Heap.{HeapView, value_of}
 use Rattle.vx_java.specs.Checks.{is_of}
@@ -38,7 +37,7 @@ use Rattle.vx_link.specs.declared.program.Program.{Program}
 use Rattle.vx_outcome.specs.declared.outcome.Outcome.{Outcome}
 use Rattle.vx_stands.specs.Answering.{operands_at}
 use Rattle.vx_stands.specs.Sites.{Gives, GivesAt, here}
-use Rattle.vx_stands.specs.Stands.{callers_at, plain_frame, state_at}
+use Rattle.vx_stands.specs.Stands.{plain_frame, state_at}
 use Rattle.vx_stands.specs.declared.site.Site.{Site}
 use Rattle.vx_stands.proofs.EndingLaws.{GivesAt-before}
 use Rattle.vx_stands.proofs.SettleLaws.{lifting_at, stack_scope}

@@ -1,5 +1,5 @@
 -- What a method's descriptor says doesn't depend on the byte before its arguments.
-use Rattle.std.proofs.Common.{◌≡◌, ℕ, ◌+◌, ◌-◌, ◌<◌, ◌≤◌, zero, suc, Bool, true, false, List, [], ◌∷◌, refl, sym, ◌∙◌, ap, subst, arith, drop, take, length, add-one, take_all, length-drop}
+use Rattle.std.proofs.Common.{◌≡◌, ℕ, ◌+◌, ◌-◌, ◌<◌, ◌≤◌, zero, suc, Bool, true, false, List, [], ◌∷◌, refl, sym, ◌∙◌, ap, arith, drop, take, length, add-one, take_all, length-drop}
 use Rattle.std.proofs.lemmas.Bool.{eqb-true}
 use Rattle.std.specs.Prelude.{Option, Some, None, if◌then◌else◌, nat_le, option_and_then, position, slice_index, sum_by, take_while, unwrap_or, ◌==◌, ◌&&◌}
 use Rattle.vx_desc.specs.Descriptors.{base_of, descriptor_of, element_at, method_of, only_if, result_at, slots_of, type_at, types_at}

@@ -1,4 +1,4 @@
-use Rattle.std.proofs.Common.{◌≡◌, ◌<◌, ◌∷◌, List, ℕ, ap, drop, length}
+use Rattle.std.proofs.Common.{◌≡◌, ◌∷◌, ap, drop}
 use Rattle.std.specs.Prelude.{Some, None}
 use Rattle.vx_returns.proofs.SignatureLaws.{behind_first, is_nothing, is_something, no-signature, read-signature}
 use Rattle.vx_returns.proofs.result_type.result_type.Goals as goal

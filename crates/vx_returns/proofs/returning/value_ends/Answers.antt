@@ -1,4 +1,4 @@
-use Rattle.std.proofs.Common.{◌≡◌, ◌<◌, ◌∙◌, sym, arith, length}
+use Rattle.std.proofs.Common.{◌∙◌}
 use Rattle.std.specs.Ordering.{bool_cmp}
 use Rattle.vx_value.specs.Slot.{slot_cmp}
 use Rattle.vx_cond.proofs.RowSteps.{IsRow-get}
