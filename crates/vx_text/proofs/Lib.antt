@@ -1,0 +1,5 @@
+pub mod Lines
+pub mod Texts
+pub mod Operands
+pub mod Calls
+pub mod LineLaws
