@@ -31,7 +31,7 @@ pub record IsAtSite {S I : Type 0} (site : Site) (operation : Operation) (group 
   pub code : (method_at site.program.now group.top.method.0).code ≡ Some site.code.now
   pub found : instruction_at site.code.now.bytes group.top.position ≡ Some instruction
   pub size : site.size ≡ instruction.length
-  pub operation : operation ≡ operation_of instruction
+  pub does : operation ≡ operation_of instruction
   -- the code is short, and the instruction is whole
   pub within : group.top.position + site.size ≤ length site.code.now.bytes
   pub short : length site.code.now.bytes < 65536

@@ -1,5 +1,5 @@
 -- What a program keeps to, so that numbers of 32 bits name its parts: the bounds of class files (JVMS 4.4.7, 4.7.3, 4.11) over a whole program.
-use Rattle.std.specs.Prelude.{◌≡◌, ◌≤◌, ℕ, Bool, true, List, length, nat_lt, Option, Some, None}
+use Rattle.std.specs.Prelude.{◌≡◌, ◌≤◌, ℕ, Bool, true, length, nat_lt, Option, Some, None}
 use Rattle.std.specs.List.{list_all}
 use Rattle.vx_class.specs.declared.class_file.Code.{Code}
 use Rattle.vx_java.specs.Ids.{HasClassNumbers}

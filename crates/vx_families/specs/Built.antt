@@ -2,7 +2,7 @@
 use Rattle.std.specs.Prelude.{Bool, true, false, List, [], ◌∷◌, ◌&&◌, ◌==◌, not, Option, Some, None, ℕ, bytes_eq, codes}
 use Rattle.vx_class.specs.declared.class_file.Catch.{Catch}
 use Rattle.vx_class.specs.declared.class_file.Code.{Code}
-use Rattle.vx_java.specs.Machine.{Frame, Outcome, State, Go, Raise, Throw, Begin, Native, Write, Ended, current_class}
+use Rattle.vx_java.specs.Machine.{Outcome, State, Go, Raise, Throw, Begin, Native, Write, Ended, current_class}
 use Rattle.vx_java.specs.Operation.{operation_of}
 use Rattle.vx_java.specs.Row.{row}
 use Rattle.vx_java.specs.Step.{outcome_carried_out}

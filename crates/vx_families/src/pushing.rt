@@ -15,10 +15,11 @@ use vx_cond::Cond;
 use vx_group::Group;
 use vx_outcome::Outcomes;
 use vx_space::{Space, SpaceFault};
-use vx_stands::{Answer, Site, carry_out};
+use vx_stands::{Answer, Site, carry_out, illegal};
 
 /// Does at each configuration of a group what the answer there says, with no operand taken off: each answer pushes a value
-/// or ends the run.
+/// or ends the run. An operand takes a word at least, so where there are as many operands as the method's greatest stack has
+/// words, no value fits any more (JVMS 2.6.2, 4.7.3).
 pub fn push_answers<S: Space>(
     alloc: Global,
     site: &Site,
@@ -34,5 +35,10 @@ pub fn push_answers<S: Space>(
     ensures extends { Extends (S.sets space.old) (S.sets space.new) }
     ensures gives { IfOk result (λ r. (heap : HeapView S S.Id) → AreHeld (S.sets space.old) heap (path_of group) answers.now → GivesAt site.now.program.now (answered_by site.now 0 (S.sets space.old) answers.now) (S.sets space.old) (S.sets space.new) group r.items.items heap) }
 {
-    Err(SpaceFault::NoMemory)
+    if group.top_frame().stack.len() >= usize::from(site.code.max_stack) {
+        let ended = illegal(alloc, site.program, &group)?;
+        return Ok(ended);
+    }
+    let outcomes = carry_out(alloc, site, space, group, 0, answers)?;
+    Ok(outcomes)
 }

@@ -1,0 +1,5 @@
+pub mod MoreTexts
+pub mod Given
+pub mod AttemptLaws
+pub mod EndingLaws
+pub mod Pushes
