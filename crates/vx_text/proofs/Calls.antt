@@ -1,14 +1,12 @@
 -- Groups that stand at a call of println, and the outcomes of their parts.
 use Rattle.std.specs.declared.cmp.Ordering.{Ordering}
-use Rattle.std.proofs.Common.{get_or, ◌≡◌, ℕ, ◌+◌, ◌<◌, Bool, true, false, List, [], ◌∷◌, ◌++◌, refl, sym, ◌∙◌, ap, subst, arith, map, drop, length}
-use Rattle.std.specs.Prelude.{Option, Some, None, not, ◌&&◌}
+use Rattle.std.proofs.Common.{get_or, ◌≡◌, ℕ, ℤ, ◌+◌, ◌<◌, Bool, true, List, [], ◌∷◌, ◌++◌, refl, sym, ◌∙◌, ap, subst, arith, drop, length}
+use Rattle.std.specs.Prelude.{not, ◌&&◌}
 use Rattle.vx_cond.specs.declared.cond.Leaf.{Leaf}
 use Rattle.vx_cond.specs.Leaves.{AreLeaves}
 use Rattle.vx_cond.specs.Row.{IsRow}
-use Rattle.vx_class.specs.declared.class_file.Code.{Code}
 use Rattle.vx_frame.specs.Frame.{Shape, frame_at}
 use Rattle.vx_frame.proofs.FrameLaws.{frame_at-extends}
-use Rattle.vx_group.specs.declared.callers.Caller.{Caller}
 use Rattle.vx_group.specs.Group.{GroupView, IsGroup, IsPartOf, path_of}
 use Rattle.vx_group.proofs.GroupLaws.{IsGroup-extends, IsGroup-path_known, IsGroup-top}
 use Rattle.vx_heap.specs.Heap.{HeapView, IsHeap, is_held, value_of}
@@ -18,7 +16,6 @@ use Rattle.vx_java.specs.Machine.{Outcome as PlainOutcome, Write}
 use Rattle.vx_java.specs.Returns.{instruction_size}
 use Rattle.vx_link.specs.Parts.{method_at}
 use Rattle.vx_link.specs.declared.program.Program.{Program}
-use Rattle.vx_list.specs.Places.{item_or}
 use Rattle.vx_opcode.specs.Decode.{instruction_at}
 use Rattle.vx_outcome.specs.declared.outcome.Outcome.{Outcome}
 use Rattle.vx_outcome.specs.declared.outcome.Outcome.TheVariants as shared
@@ -37,7 +34,9 @@ use Rattle.vx_value.specs.declared.end.Stream.{Stream}
 use Rattle.vx_value.specs.declared.slot.Slot.{Slot}
 use Rattle.vx_value.specs.Slot.{slot_cmp}
 use Rattle.vx_value.specs.Texts.{IsNumber}
-use Rattle.vx_text.specs.Printing.{HasMoreTexts, IsCalling, written}
+use Rattle.vx_text.specs.Printing.{HasMoreTexts, IsCalling, line_of, printed, stream_of, written}
+use Rattle.vx_text.specs.declared.print.Print.{Print}
+use Rattle.vx_text.specs.declared.print.Print.TheVariants.{Line}
 use Rattle.vx_text.proofs.Texts.{HasMoreTexts-refl, HasMoreTexts-trans, KeepsPlain-more, frame_held-more}
 
 -- ---- what a part of a group keeps
@@ -133,4 +132,28 @@ pub IsWriting-step : {K S I : Type 0} (cmp : K → K → Ordering) (p : Program)
 IsWriting-step {S = S} {I = I} cmp p {s0 = s0} {s1 = s1} group before now later says says_there xs i x rest inner outer outcomes made leaves cover l e law w m f a b k part = record {
   more = HasMoreTexts-trans before now later w.more m;
   gathering = IsGathering-step cmp p group (λ heap. HasMoreTexts later heap) says says_there xs i x rest inner outer outcomes made leaves cover l e law (IsGathering-narrow p s0 s1 group (λ heap. HasMoreTexts now heap) (λ heap. HasMoreTexts later heap) says xs i rest outcomes (λ heap. HasMoreTexts-trans now later heap m) w.gathering) f a b k (λ heap tree q h there s. part heap q tree there s);
+}
+
+-- ---- what is printed
+
+pub line-gives : {S I : Type 0} (site : Site) (sets : Sets I) (part : GroupView S I) (print : Print) (out : Bool) (n : ℤ) (stream : Stream) (units : List ℕ) (outcomes : List (Outcome S I)) → print ≡ Line out n → stream ≡ stream_of out → units ≡ line_of n → (heap : HeapView S I) → GivesAt site.program.now (λ _ _ s. written site stream units s) sets sets part outcomes heap → GivesAt site.program.now (λ _ _ s. printed site print s) sets sets part outcomes heap
+line-gives site sets part print out n stream units outcomes is named text heap gives =
+    let P : (State → PlainOutcome) → Type 0 = λ f. GivesAt site.program.now (λ _ _. f) sets sets part outcomes heap in
+    let same : (s : State) → written site stream units s ≡ printed site print s = λ s. (λ i. written site (named i) (text i) s) ∙ sym (ap (λ q. printed site q s) is) in
+    subst P (λ i s. same s i) gives
+
+-- over a later space
+pub IsCalling-later : {S I : Type 0} (site : Site) {s0 s1 : Sets I} (heap : HeapView S I) (group : GroupView S I) → Extends s0 s1 → IsCalling site s0 heap group → IsCalling site s1 heap group
+IsCalling-later site {s0 = s0} {s1 = s1} heap group e k = record {
+  classes = k.classes;
+  is_heap = IsHeap-extends e heap k.is_heap;
+  is_group = IsGroup-extends e group k.is_group;
+  code = k.code;
+  size = k.size;
+  past = k.past;
+  enough = k.enough;
+  held = λ c t.
+      frame_held-extends e heap k.is_heap c (frame_at s1 group.top c)
+      ∙ ap (frame_held s0 heap c) (frame_at-extends e group.top (IsGroup-top s0 group k.is_group) c)
+      ∙ k.held c (sym (e.test (path_of group) c (IsGroup-path_known s0 group k.is_group)) ∙ t);
 }

@@ -3,3 +3,4 @@ pub mod Texts
 pub mod Operands
 pub mod Calls
 pub mod LineLaws
+pub mod Received

@@ -1,20 +1,19 @@
 -- What a group with one receiver prints.
-use Rattle.std.proofs.Common.{◌≡◌, ℕ, ◌+◌, ◌<◌, zero, suc, Bool, true, false, List, [], ◌∷◌, refl, sym, ◌∙◌, ap, subst, arith, map, drop, length}
+use Rattle.std.proofs.Common.{◌≡◌, ℕ, ◌<◌, zero, suc, Bool, true, false, List, [], ◌∷◌, refl, sym, ◌∙◌, ap, arith, map, drop, length}
 use Rattle.std.specs.Ordering.{bool_cmp}
 use Rattle.std.specs.Prelude.{Option, Some, None, is_some, slice_get, unwrap_or}
 use Rattle.vx_cond.specs.Cond.{Conditional, IsCond, IsCondLifting2, IsInside, cond_at}
 use Rattle.vx_cond.specs.Leaves.{IsLifted2}
-use Rattle.vx_cond.specs.Row.{Conditionals, IsRow}
 use Rattle.vx_cond.specs.Slots.{or_top, slot_at}
 use Rattle.vx_cond.proofs.CondLaws.{cond_at-extends}
 use Rattle.vx_cond.proofs.RowSteps.{IsRow-get}
 use Rattle.vx_cond.proofs.SideLaws.{cond_at-covers}
 use Rattle.vx_frame.specs.Frame.{frame_at}
 use Rattle.vx_frame.proofs.FrameLaws.{IsFrame-stack}
-use Rattle.vx_group.specs.Group.{GroupView, IsGroup, path_of}
+use Rattle.vx_group.specs.Group.{GroupView, path_of}
 use Rattle.vx_group.proofs.GroupLaws.{IsGroup-path_known, IsGroup-top}
 use Rattle.vx_heap.specs.declared.object.HeapObject.{HeapObject}
-use Rattle.vx_heap.specs.Heap.{HeapView, are_held, globals_at, is_held, is_object_held, name_at, object_in, value_of}
+use Rattle.vx_heap.specs.Heap.{HeapView, are_held, is_held, is_object_held, name_at, object_in, value_of}
 use Rattle.vx_java.specs.Machine.{State, Value, cell_at, past}
 use Rattle.vx_java.specs.Machine.{Outcome as PlainOutcome, Write}
 use Rattle.vx_java.specs.Texts.{stream_of_cell}
@@ -32,10 +31,10 @@ use Rattle.vx_stands.proofs.StateLaws.{both_first, both_second}
 use Rattle.vx_value.specs.declared.slot.Slot.{Slot}
 use Rattle.vx_value.specs.declared.slot.Slot.TheVariants.{Top, Int, Long, Null, Ref, Text}
 use Rattle.vx_value.specs.Slot.{slot_cmp}
-use Rattle.vx_text.specs.Printing.{HasMoreTexts, HasReceiver, IsCalling, is_out_at, line_of, object_of, operand_at, print_of, printed, printed_by, printed_line, stream_in, stream_of}
+use Rattle.vx_text.specs.Printing.{HasMoreTexts, HasReceiver, IsCalling, is_out_at, line_of, object_of, print_of, printed, printed_by, printed_line, stream_in, stream_of}
 use Rattle.vx_text.specs.Prints.{print_cmp}
 use Rattle.vx_text.specs.declared.print.Print.{Print}
-use Rattle.vx_text.specs.declared.print.Print.TheVariants.{Illegal, Line}
+use Rattle.vx_text.specs.declared.print.Print.TheVariants.{Illegal}
 use Rattle.vx_text.proofs.Operands.{operand_there, two_operands}
 use Rattle.vx_text.proofs.Texts.{KeepsPlain-more}
 

@@ -28,11 +28,17 @@ use vx_group::Group;
 use vx_heap::Heap;
 use vx_java::assignable;
 use vx_java::parts::{class_of_method, flags_of_method};
-use vx_link::AccessFlags;
+use vx_link::{AccessFlags, Program};
 use vx_outcome::{Outcome, Outcomes};
 use vx_space::{Space, SpaceFault};
 use vx_stands::{Site, illegal};
 use vx_value::{MethodId, Stream};
+
+fn is_static(program: &Program, method: MethodId) -> bool
+    ensures { result ≡ has STATIC (method_at program.now method.0).flags }
+{
+    flags_of_method(program, method).contains(AccessFlags::STATIC)
+}
 
 /// The group past the call, with the argument and the receiver taken off.
 fn past_call<S: Space>(site: &Site, space: &S, group: Group<S>) -> Group<S>
@@ -263,8 +269,12 @@ pub fn native<S: Space>(
     ensures extends { Extends (S.sets space.old) (S.sets space.new) }
     ensures ok { IfOk result (λ r. AttemptsBy site.now (λ s. native_of site.now.program.now s method.0) (S.sets space.old) (S.sets space.new) heap.old heap.new group r.items.items) }
 {
-    let is_static = flags_of_method(site.program, method).contains(AccessFlags::STATIC);
-    if is_static || group.top_frame().stack.len() < 2 {
+    if is_static(site.program, method) {
+        let ended = illegal(alloc, site.program, &group)?;
+        return Ok(ended);
+    }
+    let operands = group.top_frame().stack.len();
+    if operands < 2 {
         let ended = illegal(alloc, site.program, &group)?;
         return Ok(ended);
     }

@@ -1,3 +1,5 @@
+use Rattle.std.proofs.Common.{◌∙◌}
+use Rattle.vx_text.proofs.Calls.{line-gives}
 use Rattle.vx_text.proofs.Texts.{HasMoreTexts-refl}
 use Rattle.vx_text.proofs.printing.line_part.Goals as goal
 
@@ -8,4 +10,4 @@ pub returns-in_ok-ended-in-Illegal-clause-gives : goal.returns-in_ok-ended-in-Il
 returns-in_ok-ended-in-Illegal-clause-gives g c = rw c.in-Illegal.is (λ after m. c.in_ok-ended-in-Illegal.ensures _ after)
 
 pub returns-in_ok-written-in-Line-clause-gives : goal.returns-in_ok-written-in-Line-clause-gives
-returns-in_ok-written-in-Line-clause-gives g c = rw c.in-Line.is (rw (c.stream_of-stream.ensures, c.in_ok-units-in-Line.ensures, c.in-Line.is) at c.in_ok-written-in-Line.ensures.gives)
+returns-in_ok-written-in-Line-clause-gives g c = λ after m. line-gives c.args.site.now _ c.args.part c.args.print _ _ _ _ _ c.in-Line.is c.stream_of-stream.ensures (c.deref.ensures.value ∙ c.in_ok-units-in-Line.ensures) after (c.in_ok-written-in-Line.ensures.gives after m)

@@ -1,4 +1,4 @@
-use Rattle.std.proofs.Common.{◌≡◌, ◌<◌, ℕ, ap, arith, length, subst, sym}
+use Rattle.std.proofs.Common.{◌≡◌, ap, arith, sym}
 use Rattle.std.specs.Prelude.{unwrap_or, Bool, List, true}
 use Rattle.vx_space.proofs.Spaces.{Extends-refl, Extends-trans}
 use Rattle.vx_cond.proofs.LeafLoops.{next_known}

@@ -1,4 +1,4 @@
-use Rattle.vx_text.specs.Printing.{HasMoreTexts, printed_by}
+use Rattle.vx_text.specs.Printing.{printed_by}
 use Rattle.vx_text.proofs.Calls.{IsWriting}
 use Rattle.vx_text.proofs.printing.line_parts.Given as goal
 
