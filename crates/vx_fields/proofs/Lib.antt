@@ -1,1 +1,6 @@
 pub mod ReferenceLaws
+pub mod Yes
+pub mod States
+pub mod Climbing
+pub mod Changes
+pub mod Readying
