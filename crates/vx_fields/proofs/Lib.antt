@@ -4,3 +4,12 @@ pub mod States
 pub mod Climbing
 pub mod Changes
 pub mod Readying
+pub mod Splitting
+pub mod Tops
+pub mod Attempting
+pub mod Rows
+pub mod Pools
+pub mod Moving
+pub mod Storing
+pub mod Gets
+pub mod Running

@@ -1,12 +1,16 @@
 -- The initialisation of a class where a row needs it, at each configuration of a path (JVMS 5.5).
 use Rattle.std.specs.Prelude.{◌≡◌, ℕ, Bool, true, false, List, [], ◌∷◌, ◌&&◌, not, if◌then◌else◌, Option, Some, None, is_some}
-use Rattle.vx_heap.specs.Heap.{Globals, HeapView, inits_at}
+use Rattle.vx_group.specs.Group.{GroupView}
+use Rattle.vx_group.specs.declared.callers.Caller.{Caller}
+use Rattle.vx_heap.specs.Heap.{Globals, HeapView, IsHeap, inits_at}
 use Rattle.vx_java.specs.Initialisation.{blocked, init_chain, is_failed, quiet_chain}
 use Rattle.vx_java.specs.Machine.{Begin, Outcome, Here, State, illegal, init_at, inits_with, raise, when}
 use Rattle.vx_link.specs.Parts.{class_at}
 use Rattle.vx_link.specs.declared.program.Program.{Program}
+use Rattle.vx_outcome.specs.declared.outcome.Outcome.{Outcome as SharedOutcome}
 use Rattle.vx_space.specs.Sets.{IsSet, Sets}
 use Rattle.vx_stands.specs.Sites.{here}
+use Rattle.vx_stands.specs.Stands.{CameTo, StandsIn, state_at}
 use Rattle.vx_stands.specs.declared.site.Site.{Site}
 use Rattle.vx_value.specs.declared.slot.InitState.{InitState}
 use Rattle.vx_value.specs.declared.slot.InitState.TheVariants.{Done}
@@ -68,3 +72,8 @@ pub record IsReadied {S I : Type 0} (p : Program) (old new : Sets I) (before aft
 -- what comes of the runs that don't proceed
 abbrev pub stopped_by : {S I : Type 0} → Site → (class : ℕ) → Sets I → (needs : I) → (fails : I) → HeapView S I → List Bool → State → Outcome
 stopped_by site class sets needs fails heap c s = stopped (here site s) class (sets.test needs c) (sets.test fails c)
+
+-- the outcomes of a group in a set of its configurations: what this function of the configuration and the plain state there says
+abbrev pub GivesWithin : {S I : Type 0} → Program → (HeapView S I → List Bool → State → Outcome) → (set : List Bool → Bool) → Sets I → Sets I → GroupView S I → List (SharedOutcome S I) → HeapView S I → Type 0
+GivesWithin {S = S} {I = I} p says set old new group outcomes heap =
+    (tree : List (Option (Caller S I))) → IsHeap old heap → StandsIn p old heap tree group → CameTo p old new heap tree group (λ c. says heap c (state_at old heap tree group c)) set outcomes
