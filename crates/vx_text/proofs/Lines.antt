@@ -18,7 +18,7 @@ use Rattle.vx_link.specs.declared.program.LinkedMethod.{LinkedMethod}
 use Rattle.vx_opcode.specs.Decode.{instruction_at}
 use Rattle.vx_stands.specs.Sites.{here}
 use Rattle.vx_stands.specs.declared.site.Site.{Site}
-use Rattle.vx_text.specs.Printing.{is_println_method}
+use Rattle.vx_families.specs.Built.{is_println_method}
 
 -- the outcome by the operands, the top first
 abbrev pub line_on : Here → (class : ℕ) → (static : Bool) → List Value → Outcome

@@ -6,7 +6,7 @@ use Rattle.std.specs.Prelude.{◌≡◌, ◌<◌, ℕ, ℤ, pos, zero, Bool, tru
 use Rattle.vx_cond.specs.declared.cond.Leaf.{Leaf}
 use Rattle.vx_cond.specs.Cond.{Conditional, cond_at}
 use Rattle.vx_cond.specs.Leaves.{AreLeaves, value_at}
-use Rattle.vx_families.specs.Built.{println_int}
+use Rattle.vx_families.specs.Built.{is_println_method}
 use Rattle.vx_frame.specs.Frame.{frame_at}
 use Rattle.vx_group.specs.Group.{GroupView, IsGroup, path_of}
 use Rattle.vx_heap.specs.Heap.{HeapView, IsHeap, name_at, objects_at}
@@ -30,12 +30,6 @@ use Rattle.vx_value.specs.declared.slot.Slot.{Slot}
 use Rattle.vx_value.specs.declared.slot.Slot.TheVariants.{Top, Int, Ref}
 use Rattle.vx_text.specs.declared.print.Print.{Print}
 use Rattle.vx_text.specs.declared.print.Print.TheVariants.{Illegal, Line}
-
--- ---- the method
-
--- println of an int, by its number and its descriptor
-abbrev pub is_println_method : LinkedMethod → Bool
-is_println_method m = (m.native == println_int) && bytes_eq m.descriptor (codes "(I)V")
 
 -- ---- one configuration
 
