@@ -39,7 +39,7 @@ module _ {S I : Type 0} {s0 s1 : Sets I} (before after : HeapView S I) (change :
 
   -- ---- values
 
-  value_same : (sets : Sets I) (c : List Bool) (slot : Slot) → value_of sets after c slot ≡ value_of sets before c slot
+  pub value_same : (sets : Sets I) (c : List Bool) (slot : Slot) → value_of sets after c slot ≡ value_of sets before c slot
   value_same sets c Top = refl
   value_same sets c (Int n) = refl
   value_same sets c (Long n) = refl
