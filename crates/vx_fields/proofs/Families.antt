@@ -1,5 +1,5 @@
 -- From a reference to the attempt of an operation.
-use Rattle.std.proofs.Common.{◌≡◌, ℕ, Bool, true, false, List, [], ◌∷◌, ◌&&◌, refl, sym, ◌∙◌, ap, subst}
+use Rattle.std.proofs.Common.{◌≡◌, ℕ, Bool, true, false, List, [], ◌&&◌, refl, sym, ◌∙◌, ap, subst}
 use Rattle.std.specs.Prelude.{Option, is_some}
 use Rattle.vx_desc.specs.declared.java_type.JavaType.{JavaType}
 use Rattle.vx_frame.specs.declared.frame.Frame.{Frame}
@@ -14,10 +14,10 @@ use Rattle.vx_java.specs.declared.operation.Operation.TheVariants.{GetStatic, Pu
 use Rattle.vx_link.specs.Names.{Member, member}
 use Rattle.vx_link.specs.Parts.{class_at, is_static_field, method_at}
 use Rattle.vx_outcome.specs.declared.outcome.Outcome.{Outcome as SharedOutcome}
-use Rattle.vx_space.specs.Sets.{Extends, Sets}
+use Rattle.vx_space.specs.Sets.{Sets}
 use Rattle.vx_space.proofs.Spaces.{Extends-refl}
 use Rattle.vx_stands.specs.Sites.{Gives, here}
-use Rattle.vx_stands.specs.Stands.{StandsIn, state_at}
+use Rattle.vx_stands.specs.Stands.{state_at}
 use Rattle.vx_stands.specs.declared.site.Site.{Site}
 use Rattle.vx_stands.proofs.OutcomeStates.{CameTo-same}
 use Rattle.vx_value.specs.declared.ids.ClassId.{ClassId}
@@ -73,7 +73,6 @@ pub names_at : {S I : Type 0} (site : Site) (group : GroupView S I) (top : Frame
 names_at site group top class index m e k h = h ∙ ap (λ (x : ClassId). member (class_at site.program.now x.0).pool index) (k ∙ ap (λ (t : Frame _ _). (method_at site.program.now t.method.0).class) e)
 
 module _ {S I : Type 0} (site : Site) (group : GroupView S I) (index : ℕ) (reference : FieldReference) (named : ClassId) (field : FieldId) (type : JavaType) (f : IsFieldReference site.program.now (class_at site.program.now (pool_class site group)).pool index true reference) (found : reference ≡ Found named field type) where
-
   sound : (same_bool true (is_static_field site.program.now field.0) && is_some (sort_of type)) ≡ true
   sound = ap (is_sound site.program.now true) (sym found) ∙ f.sound
 
@@ -120,7 +119,6 @@ without h m NoField a b e = refl
 without h m Disagrees a b e = refl
 
 module _ {S I : Type 0} (site : Site) (sets : Sets I) (heap : HeapView S I) (group : GroupView S I) (index : ℕ) (reference : FieldReference) (m : Member) (outcomes : List (SharedOutcome S I)) (r : IsRunning site sets heap group) (f : IsFieldReference site.program.now (class_at site.program.now (pool_class site group)).pool index true reference) (missing : is_found reference ≡ false) (names : m ≡ member (class_at site.program.now (pool_class site group)).pool index) (gives : (rest : FoundField → Outcome) → Gives site.program.now (λ s. by_reference (here site s) m reference rest) sets sets group outcomes) where
-
   nothing : FoundField → Outcome
   nothing x = Rattle.vx_java.specs.Machine.Begin 0 (record { heap = []; statics = []; inits = []; top = record { kind = Rattle.vx_value.specs.declared.key.Kind.TheVariants.Call; method = 0; position = 0; locals = []; operands = [] }; callers = [] })
 

@@ -5,7 +5,7 @@ use Rattle.std.specs.Prelude.{Option, Some, None, nat_lt, option_and_then, slice
 use Rattle.std.specs.List.{list_all}
 use Rattle.vx_code.specs.Lookups.{class, entry_of, member_descriptor, name_and_type, text, utf8}
 use Rattle.vx_families.specs.Bounds.{IsBounded, has_short_texts, is_short_entry}
-use Rattle.vx_link.specs.Names.{Member, class_name, member, member_named, member_of}
+use Rattle.vx_link.specs.Names.{class_name, member, member_named}
 use Rattle.vx_link.specs.Parts.{class_at, no_class}
 use Rattle.vx_link.specs.declared.program.LinkedClass.{LinkedClass}
 use Rattle.vx_link.specs.declared.program.Program.{Program}

@@ -1,5 +1,5 @@
 -- putstatic of a static field that is there: from the sets of its configurations to the attempt.
-use Rattle.std.proofs.Common.{◌≡◌, ℕ, ◌+◌, ◌≤◌, Bool, true, false, List, [], ◌∷◌, ◌++◌, ◌&&◌, refl, sym, ◌∙◌, ap, arith, drop, length, map, reverse}
+use Rattle.std.proofs.Common.{◌≡◌, ℕ, ◌+◌, ◌≤◌, Bool, true, false, List, [], ◌∷◌, ◌++◌, ◌&&◌, refl, sym, ◌∙◌, ap, arith, drop, length, map}
 use Rattle.std.proofs.lemmas.List.{length-map, length-reverse}
 use Rattle.std.specs.Prelude.{Option, if◌then◌else◌, not}
 use Rattle.vx_desc.specs.declared.java_type.JavaType.{JavaType}
@@ -8,10 +8,9 @@ use Rattle.vx_group.specs.declared.callers.Caller.{Caller}
 use Rattle.vx_heap.specs.Heap.{Globals, HeapView, globals_at, value_of}
 use Rattle.vx_heap.proofs.HeapLaws.{value_of-extends}
 use Rattle.vx_java.specs.Checks.{fits_type, sort_of}
-use Rattle.vx_java.specs.Fields.{Found, declaring, put_value, with_written}
+use Rattle.vx_java.specs.Fields.{Found, put_value, with_written}
 use Rattle.vx_java.specs.FirstObjects.{narrowed_value}
-use Rattle.vx_java.specs.Initialisation.{when_initialised}
-use Rattle.vx_java.specs.Machine.{Go, Here, State, Value, at_position, illegal, illegal_in, past, when, with_static}
+use Rattle.vx_java.specs.Machine.{Go, State, Value, at_position, illegal_in, past, with_static}
 use Rattle.vx_java.specs.Machine.{Outcome as PlainOutcome}
 use Rattle.vx_link.specs.Parts.{field_at}
 use Rattle.vx_link.specs.declared.program.Program.{Program}
@@ -20,7 +19,7 @@ use Rattle.vx_space.specs.Sets.{Extends, IsSet, Sets}
 use Rattle.vx_space.proofs.Spaces.{Extends-refl, Extends-trans}
 use Rattle.vx_stands.specs.Answering.{operands_at}
 use Rattle.vx_stands.specs.Sites.{Gives, here}
-use Rattle.vx_stands.specs.Stands.{StandsIn, state_at}
+use Rattle.vx_stands.specs.Stands.{state_at}
 use Rattle.vx_stands.specs.declared.site.Site.{Site}
 use Rattle.vx_value.specs.declared.ids.ClassId.{ClassId}
 use Rattle.vx_value.specs.declared.slot.Slot.{Slot}
@@ -95,7 +94,6 @@ empty-attempts {S = S} {I = I} site {s0 = s0} heap group named field type outcom
 -- ---- the attempt
 
 module _ {S I : Type 0} (site : Site) (s0 s1 s2 s3 s4 : Sets I) (before middle after : HeapView S I) (group going : GroupView S I) (field : ℕ) (type : JavaType) (class : ClassId) (needs : I) (readiness : Readiness S I) (others made : List (Outcome S I)) (r : IsRunning site s0 before group) (declares : class ≡ (field_at site.program.now field).class) (e01 : Extends s0 s1) (n : IsSet s1 needs (λ c. s0.test (path_of group) c && top_fits (sort_of type) (operands_at s0 group.top.stack c))) (e12 : Extends s1 s2) (ready : IsReadied site.program.now s1 s2 before middle class.0 needs readiness) (e23 : Extends s2 s3) (st : IsChanged s2 s3 middle after (λ c x. if s2.test readiness.proceeds c then stored (keeps_option site.program.now group.top.method.0 field) field (narrowed_value type (value_of s2 middle c (top_of (operands_at s2 group.top.stack c)))) x else x)) (e34 : Extends s3 s4) (q : IsPartOf s3 s4 (λ c. s3.test (path_of group) c && s3.test readiness.proceeds c) group going) (stopped_there : GivesWithin site.program.now (stopped_by site class.0 s3 needs readiness.fails) (λ c. s3.test (path_of group) c && not (s3.test readiness.proceeds c)) s3 s4 group others after) (gone : Gives site.program.now (λ s. Go (at_position s (s.top.position + site.size) (drop 1 s.top.operands))) s4 s4 going made) where
-
   keeps : Bool
   keeps = keeps_option site.program.now group.top.method.0 field
 

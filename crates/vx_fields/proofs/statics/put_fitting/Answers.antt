@@ -1,4 +1,4 @@
-use Rattle.std.proofs.Common.{◌≡◌, ◌≤◌, ◌<◌, arith, length}
+use Rattle.std.proofs.Common.{◌≤◌, arith, length}
 use Rattle.vx_fields.proofs.Puts.{empty-attempts}
 use Rattle.vx_fields.proofs.statics.put_fitting.Goals as goal
 
