@@ -36,10 +36,9 @@ all_same f g h [] = refl
 all_same f g h (x ∷ xs) = λ i. h x i && all_same f g h xs i
 
 module _ {S I : Type 0} {s0 s1 : Sets I} (before after : HeapView S I) (change : List Bool → Globals → Globals) (changed : IsChanged s0 s1 before after change) where
-
   -- ---- values
 
-  value_same : (sets : Sets I) (c : List Bool) (slot : Slot) → value_of sets after c slot ≡ value_of sets before c slot
+  pub value_same : (sets : Sets I) (c : List Bool) (slot : Slot) → value_of sets after c slot ≡ value_of sets before c slot
   value_same sets c Top = refl
   value_same sets c (Int n) = refl
   value_same sets c (Long n) = refl

@@ -125,7 +125,6 @@ loud_step u k false f w g h i = rw (i refl) (cases u k f)
     cases false false f = refl
 
 module _ {S I : Type 0} (p : Program) (s0 s1 s2 s3 s4 : Sets I) (heap : HeapView S I) (path : I) (left : ℕ) (next : Option ClassId) (class d : ClassId) (climbing unquiet failed wider higher : I) (v : IsHeap s0 heap) (g : IsClimbing p s0 s1 heap class.0 path left next climbing unquiet) (some : 0 < left) (is : next ≡ Some d) (e12 : Extends s1 s2) (f : IsSet s2 failed (λ c. s1.test climbing c && has_failed (inits_at s1 heap c) d.0)) (e23 : Extends s2 s3) (w : IsSet s3 wider (λ c. s2.test unquiet c || s2.test failed c)) (e34 : Extends s3 s4) (h : IsSet s4 higher (λ c. s3.test climbing c && is_not (init_at (inits_at s3 heap c) d.0))) where
-
   wider_test : (c : List Bool) → s4.test wider c ≡ (s1.test unquiet c || (s1.test climbing c && has_failed (inits_at s0 heap c) d.0))
   wider_test c =
       e34.test wider c w.known ∙ w.test c
@@ -212,7 +211,6 @@ left_out : (b : Bool) (xs : List ℕ) → b ≡ false → (if b then xs else [])
 left_out b xs h = rw h refl
 
 module _ {S I : Type 0} (p : Program) {start sets : Sets I} (heap : HeapView S I) (class : ℕ) (path : I) (left : ℕ) (next : Option ClassId) (climbing : I) (marks : List (Mark S I)) (g : IsCollecting p start sets heap class path left next climbing marks) where
-
   pub marks_none : next ≡ None → (c : List Bool) → marked_at sets marks c ≡ (if start.test path c then init_chain p (inits_at start heap c) class else [])
   marks_none e c = sym (append_nothing (marked_at sets marks c) _ (either_none (sets.test climbing c) _ (ap (λ o. begins_with (inits_at start heap c) (chain_from p left o)) e ∙ ap (begins_with (inits_at start heap c)) (chain_none p left)))) ∙ g.at c
 

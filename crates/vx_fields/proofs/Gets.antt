@@ -70,14 +70,13 @@ full-attempts {S = S} {I = I} site {s0 = s0} heap group named field type outcome
         let found : Found = record { named = named; field = field; type = type } in
         sym (ap (λ b. when b (when_initialised (here site state) (declaring (here site state) found) (λ g. go g (static_value g.state found ∷ g.state.top.operands))) (illegal (here site state))) (room_there site s0 heap tree group (width_of_type type) c ∙ lt-leb (width_of_type type + slots_size slots) site.code.now.max_stack most))
 
-and_none : (a b : Bool) → a ≡ false → (a && b) ≡ false
+pub and_none : (a b : Bool) → a ≡ false → (a && b) ≡ false
 and_none a b h = rw h refl
 
-unready : (p : Program) (class : ℕ) (n : Bool) (x : Globals) → n ≡ false → readied p class n x ≡ x
+pub unready : (p : Program) (class : ℕ) (n : Bool) (x : Globals) → n ≡ false → readied p class n x ≡ x
 unready p class n x h = rw h refl
 
 module _ {S I : Type 0} (site : Site) (s0 s1 s2 s3 s4 : Sets I) (before after : HeapView S I) (group going : GroupView S I) (field : ℕ) (type : JavaType) (class : ClassId) (needs : I) (readiness : Readiness S I) (others made : List (Outcome S I)) (r : IsRunning site s0 before group) (declares : class ≡ (field_at site.program.now field).class) (e01 : Extends s0 s1) (n : IsSet s1 needs (λ c. s0.test (path_of group) c && nat_le (width_of_type type + slots_size (slots_at s0 group.top.stack c)) site.code.now.max_stack)) (e12 : Extends s1 s2) (ready : IsReadied site.program.now s1 s2 before after class.0 needs readiness) (e23 : Extends s2 s3) (q : IsPartOf s2 s3 (λ c. s2.test (path_of group) c && s2.test readiness.proceeds c) group going) (stopped_there : GivesWithin site.program.now (stopped_by site class.0 s2 needs readiness.fails) (λ c. s2.test (path_of group) c && not (s2.test readiness.proceeds c)) s2 s3 group others after) (e34 : Extends s3 s4) (gone : GivesAt site.program.now (λ _ _ s. go (here site s) (item_or s.statics field Top ∷ s.top.operands)) s3 s4 going made after) where
-
   path_known : s0.is_known (path_of group) ≡ true
   path_known = IsGroup-path_known s0 group r.is_group
 

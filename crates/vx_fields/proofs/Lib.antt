@@ -13,3 +13,5 @@ pub mod Moving
 pub mod Storing
 pub mod Gets
 pub mod Running
+pub mod Puts
+pub mod Families

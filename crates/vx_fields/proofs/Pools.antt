@@ -1,11 +1,11 @@
 -- Names and descriptors of a bounded program are short.
-use Rattle.std.proofs.Common.{◌≡◌, ℕ, ◌<◌, ◌^◌, zero, suc, Bool, true, List, [], ◌∷◌, refl, arith, length}
+use Rattle.std.proofs.Common.{◌≡◌, ℕ, ◌<◌, ◌^◌, zero, suc, Bool, true, List, [], ◌∷◌, refl, ap, arith, length}
 use Rattle.std.proofs.lemmas.Bool.Decides.{nat_tests}
 use Rattle.std.specs.Prelude.{Option, Some, None, nat_lt, option_and_then, slice_get, unwrap_or}
 use Rattle.std.specs.List.{list_all}
 use Rattle.vx_code.specs.Lookups.{class, entry_of, member_descriptor, name_and_type, text, utf8}
 use Rattle.vx_families.specs.Bounds.{IsBounded, has_short_texts, is_short_entry}
-use Rattle.vx_link.specs.Names.{Member, class_name, member, member_named, member_of}
+use Rattle.vx_link.specs.Names.{class_name, member, member_named}
 use Rattle.vx_link.specs.Parts.{class_at, no_class}
 use Rattle.vx_link.specs.declared.program.LinkedClass.{LinkedClass}
 use Rattle.vx_link.specs.declared.program.Program.{Program}
@@ -76,3 +76,10 @@ descriptor_of_member p c i b =
     let pool = (class_at p c).pool in
     let short : length (member pool i).descriptor < 65536 = (named_short pool (class_pool p.classes c b.texts) (entry_of pool i)).1 in
     omega (arith, short)
+
+-- a class by its place
+pub class_there : (p : Program) (c : ℕ) (x : LinkedClass) → Some x ≡ slice_get p.classes c → x ≡ class_at p c
+class_there p c x e = ap (λ o. unwrap_or o no_class) e
+
+pub class_missing : (p : Program) (c : ℕ) → None ≡ slice_get p.classes c → no_class ≡ class_at p c
+class_missing p c e = ap (λ (o : Option LinkedClass). unwrap_or o no_class) e

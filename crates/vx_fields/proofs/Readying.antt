@@ -95,7 +95,6 @@ pub rest_inside : {I : Type 0} {s0 s1 : Sets I} (s2 : Sets I) (path fails rest :
 rest_inside {s1 = s1} s2 path fails rest k e r c t = sym (e.test path c k) ∙ both_first (s1.test path c) (not (s1.test fails c)) (sym (r.test c) ∙ t)
 
 module _ {S I : Type 0} (p : Program) (s0 s1 s2 s3 s4 : Sets I) (before : HeapView S I) (class : ℕ) (path fails rest begins proceeds : I) (v : IsHeap s0 before) (k : s0.is_known path ≡ true) (e01 : Extends s0 s1) (f : IsSet s1 fails (λ c. s0.test path c && has_failed (inits_at s0 before c) class)) (e12 : Extends s1 s2) (r : IsSet s2 rest (λ c. s1.test path c && not (s1.test fails c))) (e23 : Extends s2 s3) (b : IsSet s3 begins (λ c. s2.test rest c && not (quiet_chain p (inits_at s2 before c) class))) (g : IsSet s4 proceeds (λ c. s3.test rest c && not (s3.test begins c))) where
-
   proceeds_at : (c : List Bool) → s4.test proceeds c ≡ (s0.test path c && goes_on p (inits_at s0 before c) class)
   proceeds_at c =
       let inits = inits_at s0 before c in
@@ -120,6 +119,6 @@ module _ {S I : Type 0} (p : Program) (s0 s1 s2 s3 s4 : Sets I) (before : HeapVi
         fails = IsSet-extends (Extends-trans e14 e46) fails _ f;
         proceeds = IsSet-extends e46 proceeds _ (record { known = g.known; test = proceeds_at });
         changed = IsChanged-before (Extends-trans e04 e45) before after (λ c. with_done (marked_at s5 marks c)) (λ c. readied p class (s0.test path c)) v (λ c.
-        ap (λ cs. with_done cs (globals_at s0 before c)) (m c ∙ (λ i. if proceeds_at c i then init_chain p (inits_later e04 before v c i) class else []))
-        ∙ done_where (s0.test path c && goes_on p (inits_at s0 before c) class) (globals_at s0 before c) (init_chain p (inits_at s0 before c) class)) w;
+            ap (λ cs. with_done cs (globals_at s0 before c)) (m c ∙ (λ i. if proceeds_at c i then init_chain p (inits_later e04 before v c i) class else []))
+            ∙ done_where (s0.test path c && goes_on p (inits_at s0 before c) class) (globals_at s0 before c) (init_chain p (inits_at s0 before c) class)) w;
       })

@@ -1,6 +1,6 @@
 -- How the row of an instruction of a field goes on, step by step.
-use Rattle.std.proofs.Common.{◌≡◌, ℕ, Bool, true, false, List, refl, sym, ◌∙◌, ap, subst, Option, Some, None}
-use Rattle.std.specs.Prelude.{codes, is_some, option_map, ◌&&◌}
+use Rattle.std.proofs.Common.{◌≡◌, ℕ, Bool, true, false, refl, sym, ◌∙◌, ap, Option, Some, None}
+use Rattle.std.specs.Prelude.{is_some, option_map, ◌&&◌}
 use Rattle.vx_desc.specs.Descriptors.{field_type}
 use Rattle.vx_desc.specs.declared.java_type.JavaType.{JavaType}
 use Rattle.vx_java.specs.Checks.{if_there, same_bool, sort_of, with_class}
@@ -18,7 +18,6 @@ use Rattle.vx_pool.specs.declared.pool.Pool.{Pool}
 use Rattle.vx_value.specs.declared.ids.ClassId.{ClassId}
 use Rattle.vx_value.specs.declared.ids.FieldId.{FieldId}
 use Rattle.vx_fields.specs.References.{IsFieldReference, seeing}
-use Rattle.vx_fields.specs.declared.references.FieldReference.{FieldReference}
 use Rattle.vx_fields.specs.declared.references.FieldReference.TheVariants.{Found, NoType, Floating, NoClass, NoField, Disagrees}
 
 class_some : (o : Option ℕ) (class : ClassId) → Some class ≡ option_map as_class o → o ≡ Some class.0

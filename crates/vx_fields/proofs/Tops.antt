@@ -56,7 +56,6 @@ top_operands {S = S} {I = I} sets row x c some at =
     ap (λ conds. operands_at sets (record row { conds = conds }) c) (split_last row.conds n x count at) ∙ operands_at-push sets (record row { conds = take n row.conds }) x c
 
 module _ {S I : Type 0} (sets : Sets I) (group : GroupView S I) (x : Conditional Slot S I) (v : IsGroup sets group) (some : 0 < length group.top.stack.conds) (at : Some x ≡ slice_get group.top.stack.conds (length group.top.stack.conds - 1)) where
-
   pub top_is_cond : IsCond slot_cmp sets x
   top_is_cond = (IsRow-get slot_cmp sets group.top.stack (length group.top.stack.conds - 1) x (IsFrame-stack sets group.top (IsGroup-top sets group v)) at).0
 
@@ -81,7 +80,6 @@ module _ {S I : Type 0} (sets : Sets I) (group : GroupView S I) (x : Conditional
 
   -- as it is stored inside a path
   module _ {s1 : Sets I} (s2 : Sets I) (R : Slot → Slot → Type 0) (to : Option Narrow) (inside values : Conditional Slot S I) (path : I) (i : IsInside sets path (path_of group)) (k : sets.is_known path ≡ true) (e : Extends sets s1) (w : IsCondOf slot_cmp s1 (value_within sets path (cond_at sets x)) inside) (l : IsCondLifting slot_cmp s2 R (cond_at s1 inside) values) where
-
     pub stored_scope : IsLawful s1 → values.scope ≡ inside.scope → values.scope ≡ path
     stored_scope lawful s = s ∙ restricted_scope slot_cmp lawful e x inside path top_is_cond k (record { inside = λ c t. ap (λ j. sets.test j c) top_scope ∙ i.inside c t }) w
 

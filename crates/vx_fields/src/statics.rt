@@ -220,7 +220,15 @@ fn put_found<S: Space>(
     let class = class_of_field(program, field);
     let needs = where_fitting(space, &group, field_type)?;
     let readiness = make_ready(alloc, program, space, heap, class, needs)?;
-    store(program, space, heap, &group, field, field_type, readiness.proceeds)?;
+    store(
+        program,
+        space,
+        heap,
+        &group,
+        field,
+        field_type,
+        readiness.proceeds,
+    )?;
     let (going, mut outcomes) = stop_others(alloc, site, space, group, class, needs, &readiness)?;
     let made = put_part(alloc, site, space, going)?;
     outcomes.append(made)?;
@@ -292,7 +300,9 @@ fn get_static<S: Space>(
     let class = class_of_method(site.program, group.top_frame().method);
     match static_field(site.program, class, index) {
         FieldReference::Found {
-            field, field_type, ..
+            field,
+            field_type,
+            ..
         } => {
             let outcomes = get_fitting(alloc, site, space, heap, group, field, field_type)?;
             Ok(outcomes)
@@ -321,7 +331,9 @@ fn put_static<S: Space>(
     let class = class_of_method(site.program, group.top_frame().method);
     match static_field(site.program, class, index) {
         FieldReference::Found {
-            field, field_type, ..
+            field,
+            field_type,
+            ..
         } => {
             let outcomes = put_fitting(alloc, site, space, heap, group, field, field_type)?;
             Ok(outcomes)

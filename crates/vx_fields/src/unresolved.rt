@@ -21,7 +21,9 @@ use vx_value::Name;
 
 /// The words for what ends a run as unsupported: a float or a double, a class, a field.
 const FLOAT_WORD: u8 = 1;
+
 const CLASS_WORD: u8 = 6;
+
 const FIELD_WORD: u8 = 7;
 
 /// The class, the name and the descriptor of a field, as reports name it.
