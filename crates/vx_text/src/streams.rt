@@ -5,13 +5,12 @@ ghost use Rattle.std.specs.Ordering.{bool_cmp};
 ghost use Rattle.vx_space.specs.Sets.{IsKnown, Extends};
 ghost use Rattle.vx_cond.specs.Cond.{IsCond, IsInside};
 ghost use Rattle.vx_heap.specs.Heap.{IsHeap, object_in};
-ghost use Rattle.vx_text.specs.Printing.{is_out_at, is_out_cell, stream_in, stream_of};
+ghost use Rattle.vx_text.specs.Printing.{is_out_at, stream_in, stream_of};
 
 use std::alloc::Global;
 use vx_cond::Cond;
 use vx_heap::Heap;
 use vx_space::{Space, SpaceFault};
-use vx_value::Slot;
 
 /// Whether an object writes on the stream out, inside a path, which is inside its presence; else it writes on err.
 pub fn are_out<S: Space>(
