@@ -1,5 +1,6 @@
 -- The stream of an object: what its cell 0 says.
-use Rattle.std.proofs.Common.{◌≡◌, ℕ, ◌<◌, Bool, true, false, List, [], ◌∷◌, refl, sym, ◌∙◌, ap, map, length, pos, negsuc, zero, suc}
+use Rattle.std.proofs.Common.{arith, ◌≡◌, ℕ, ◌<◌, Bool, true, false, List, [], ◌∷◌, refl, sym, ◌∙◌, ap, map, length, pos, negsuc, zero, suc}
+use Rattle.std.proofs.lemmas.List.{length-map}
 use Rattle.std.specs.Ordering.{bool_cmp}
 use Rattle.std.specs.Prelude.{Option, Some, None, is_some, unwrap_or, if◌then◌else◌}
 use Rattle.vx_cond.specs.Cond.{Conditional, IsCondLifting, IsCondOf, IsInside, cond_at}
@@ -29,14 +30,14 @@ no_cells f g d c e = none f (g c) d e
   where
     none : {A B : Type 0} (f : A → B) (xs : List A) (d : B) → length xs ≡ 0 → item_or (map f xs) 0 d ≡ d
     none f [] d e = refl
-    none f (x ∷ xs) d e = absurd (omega (Rattle.std.proofs.Common.arith, e))
+    none f (x ∷ xs) d e = absurd (omega (arith, e))
 
 empty_stream : {S I : Type 0} (sets : Sets I) (heap : HeapView S I) (reference : ℕ) (c : List Bool) → reference < length heap.objects → sets.test (object_in heap reference).presence c ≡ true → length (object_in heap reference).cells.conds ≡ 0 → Err ≡ stream_in sets heap reference c
 empty_stream {S = S} {I = I} sets heap reference c l t e =
     let object : HeapObject S I = object_in heap reference in
     let place = at_place heap.objects reference object (no_heap_object heap.allowed) l refl in
     let there = named sets (object_of sets heap c) heap.objects c reference object no_object l place t in
-    let slots : length (slots_at sets object.cells c) ≡ 0 = simp Rattle.std.proofs.lemmas.List.length-map e in
+    let slots : length (slots_at sets object.cells c) ≡ 0 = simp length-map e in
     sym (ap (λ o. stream_of_cell (item_or o.cells 0 TopValue)) there ∙ ap stream_of_cell (no_cells (value_of sets heap c) (slots_at sets object.cells) TopValue c slots))
 
 within : (b : Bool) (o : Option Bool) → b ≡ true → o ≡ Some false → unwrap_or (if b then o else None) false ≡ false
