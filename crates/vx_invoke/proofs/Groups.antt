@@ -1,5 +1,6 @@
 -- What a group comes to by its receivers.
 use Rattle.std.proofs.Common.{◌≡◌, ◌≢◌, ℕ, ◌+◌, ◌<◌, zero, suc, Bool, true, false, List, [], ◌∷◌, ◌++◌, refl, sym, ◌∙◌, ap, subst, arith, map, drop, get_or, length}
+use Rattle.std.proofs.lemmas.List.{length-map}
 use Rattle.std.specs.declared.cmp.Ordering.{Ordering}
 use Rattle.std.specs.Prelude.{Option, Some, None, IfSome, is_some, slice_get}
 use Rattle.vx_cond.specs.declared.cond.Leaf.{Leaf}
@@ -48,6 +49,7 @@ use Rattle.vx_invoke.specs.Named.{IsReference, by_reference, println, referenced
 use Rattle.vx_invoke.specs.declared.reference.Reference.{Reference}
 use Rattle.vx_invoke.specs.Receivers.{receiver_cmp}
 use Rattle.vx_invoke.specs.declared.call.Call.{Call}
+use Rattle.vx_invoke.specs.declared.call.Call.TheVariants as call
 use Rattle.vx_invoke.specs.declared.call.Receiver.{Receiver}
 use Rattle.vx_invoke.specs.declared.call.Receiver.TheVariants as receiver
 use Rattle.vx_invoke.proofs.Calls.{argument_of, entry_of, few_call, illegal_call, null_call, object_call, receiver_slot}
@@ -122,12 +124,12 @@ object_there site sets heap tree group named resolved reference k r c t =
 
 -- a call that enters nothing doesn't ask for the values
 same_values : (h : _) (values more rest below : List Value) (k : Call) → is_enter k ≡ false → called h values rest k ≡ called h more below k
-same_values h values more rest below (Rattle.vx_invoke.specs.declared.call.Call.TheVariants.Illegal) e = refl
-same_values h values more rest below (Rattle.vx_invoke.specs.declared.call.Call.TheVariants.Abstract) e = refl
-same_values h values more rest below (Rattle.vx_invoke.specs.declared.call.Call.TheVariants.Conflict) e = refl
-same_values h values more rest below (Rattle.vx_invoke.specs.declared.call.Call.TheVariants.Missing m) e = refl
-same_values h values more rest below (Rattle.vx_invoke.specs.declared.call.Call.TheVariants.Native m) e = refl
-same_values h values more rest below (Rattle.vx_invoke.specs.declared.call.Call.TheVariants.Enter m) e = cc
+same_values h values more rest below (call.Illegal) e = refl
+same_values h values more rest below (call.Abstract) e = refl
+same_values h values more rest below (call.Conflict) e = refl
+same_values h values more rest below (call.Missing m) e = refl
+same_values h values more rest below (call.Native m) e = refl
+same_values h values more rest below (call.Enter m) e = cc
 
 pub object-receiver : {S I : Type 0} (site : Site) (sets : Sets I) (heap : HeapView S I) (group : GroupView S I) (named resolved reference : ℕ) (k : Call) (outcomes : List (Outcome S I)) → IsCalling site sets heap group → HasReceiver sets group (receiver.Object reference) → k ≡ call_of site.program.now named resolved (object_in heap reference).class.0 → is_enter k ≡ false → Gives site.program.now (λ s. called (here site s) [] [] k) sets sets group outcomes → GivesAt site.program.now (λ _ _ s. call_instance (here site s) Virtual println named resolved) sets sets group outcomes heap
 object-receiver site sets heap group named resolved reference k outcomes running r is plain gives =
@@ -152,7 +154,7 @@ pub few-operands : {S I : Type 0} (site : Site) (sets : Sets I) (heap : HeapView
 few-operands site sets heap group named resolved outcomes few gives =
     GivesAt-before site.program.now sets group heap (λ _ _ s. illegal (here site s)) (λ _ _. calling site named resolved) outcomes (Extends-refl sets) (λ tree h s c t.
     let operands = operands_at sets group.top.stack c in
-    let number : length (map (value_of sets heap c) operands) ≡ length operands = simp Rattle.std.proofs.lemmas.List.length-map refl in
+    let number : length (map (value_of sets heap c) operands) ≡ length operands = simp length-map refl in
     sym (few_call (here site (state_at sets heap tree group c)) named resolved (map (value_of sets heap c) operands) refl (omega (arith, few, number, length-operands sets group.top.stack c)))) gives
 
 -- ---- receivers

@@ -5,7 +5,7 @@ use Rattle.std.specs.Prelude.{not, ◌&&◌}
 use Rattle.vx_cond.specs.declared.cond.Leaf.{Leaf}
 use Rattle.vx_cond.specs.Leaves.{AreLeaves}
 use Rattle.vx_cond.specs.Row.{IsRow}
-use Rattle.vx_frame.specs.Frame.{Shape, frame_at}
+use Rattle.vx_frame.specs.Frame.{Shape, frame_at, shape_of}
 use Rattle.vx_frame.proofs.FrameLaws.{frame_at-extends}
 use Rattle.vx_group.specs.Group.{GroupView, IsGroup, IsPartOf, path_of}
 use Rattle.vx_group.proofs.GroupLaws.{IsGroup-extends, IsGroup-path_known, IsGroup-top}
@@ -41,7 +41,7 @@ use Rattle.vx_text.proofs.Texts.{HasMoreTexts-refl, HasMoreTexts-trans, KeepsPla
 
 -- ---- what a part of a group keeps
 
-part_shape : {S I : Type 0} (s0 s1 : Sets I) (set : List Bool → Bool) (group part : GroupView S I) → IsPartOf s0 s1 set group part → Rattle.vx_frame.specs.Frame.shape_of part.top ≡ Rattle.vx_frame.specs.Frame.shape_of group.top
+part_shape : {S I : Type 0} (s0 s1 : Sets I) (set : List Bool → Bool) (group part : GroupView S I) → IsPartOf s0 s1 set group part → shape_of part.top ≡ shape_of group.top
 unfolding IsPartOf
 part_shape s0 s1 set group part q = q.shape
 

@@ -4,3 +4,4 @@ pub mod Operands
 pub mod Calls
 pub mod LineLaws
 pub mod Received
+pub mod StreamLaws

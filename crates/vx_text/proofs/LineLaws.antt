@@ -14,7 +14,7 @@ use Rattle.vx_group.specs.Group.{GroupView, path_of}
 use Rattle.vx_group.proofs.GroupLaws.{IsGroup-path_known, IsGroup-top}
 use Rattle.vx_heap.specs.declared.object.HeapObject.{HeapObject}
 use Rattle.vx_heap.specs.Heap.{HeapView, are_held, is_held, is_object_held, name_at, object_in, value_of}
-use Rattle.vx_java.specs.Machine.{State, Value, cell_at, past}
+use Rattle.vx_java.specs.Machine.{State, cell_at, no_object, past, Top as TopValue}
 use Rattle.vx_java.specs.Machine.{Outcome as PlainOutcome, Write}
 use Rattle.vx_java.specs.Texts.{stream_of_cell}
 use Rattle.vx_list.specs.Places.{item_or}
@@ -112,5 +112,5 @@ printed-gives {S = S} {I = I} site {s0 = s0} {s1 = s1} {s2 = s2} s3 before group
     let receiver = object_slot (item_or operands 1 Top) reference (r.at c t) in
     let all : operands ≡ item_or operands 0 Top ∷ Ref reference ∷ drop 2 operands = two_operands s0 stack c k.enough ∙ (λ i. item_or operands 0 Top ∷ receiver i ∷ drop 2 operands) in
     let plain = (KeepsPlain-more before heap m s0 k.is_heap).1 c in
-    let there : stream_in s0 before reference c ≡ stream_of_cell (cell_at state (name_at s0 heap.objects c reference) 0) = λ i. stream_of_cell (item_or (item_or (sym plain i).objects (name_at s0 (sym objects i) c reference) Rattle.vx_java.specs.Machine.no_object).cells 0 Rattle.vx_java.specs.Machine.Top) in
+    let there : stream_in s0 before reference c ≡ stream_of_cell (cell_at state (name_at s0 heap.objects c reference) 0) = λ i. stream_of_cell (item_or (item_or (sym plain i).objects (name_at s0 (sym objects i) c reference) no_object).cells 0 TopValue) in
     ap (λ a. printed site a state) print ∙ line_law s0 heap c site state out (item_or operands 0 Top) reference (drop 2 operands) (ap (map (value_of s0 heap c)) all) (stream c t ∙ there)) gives

@@ -13,6 +13,13 @@ use vx_heap::Heap;
 use vx_space::{Space, SpaceFault};
 use vx_value::Slot;
 
+/// Whether cell 0 of a PrintStream says that its stream is out.
+fn is_out_cell(cell: Slot) -> bool
+    ensures { result ≡ is_out_cell cell }
+{
+    matches!(cell, Slot::Int(0))
+}
+
 /// Whether an object writes on the stream out, inside a path, which is inside its presence; else it writes on err.
 pub fn are_out<S: Space>(
     alloc: Global,
@@ -30,5 +37,11 @@ pub fn are_out<S: Space>(
     ensures scope { IfOk result (λ r. r.scope ≡ path) }
     ensures at { IfOk result (λ r. (c : List Bool) → (S.sets space.old).test path c ≡ true → stream_of (is_out_at (S.sets space.new) r c) ≡ stream_in (S.sets space.old) heap.now reference c) }
 {
-    Err(SpaceFault::NoMemory)
+    if heap.cell_count(reference) == 0 {
+        let none = Cond::one(alloc, space, false, path)?;
+        return Ok(none);
+    }
+    let cells = heap.read_cell(space, reference, 0, path)?;
+    let out = cells.map(space, is_out_cell)?;
+    Ok(out)
 }
