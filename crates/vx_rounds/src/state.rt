@@ -48,7 +48,13 @@ impl<S: Space> State<S> {
     }
 
     /// What was found, by a move: the texts in the order in which they were written, the ends, and the numbers of attempts.
-    pub fn into_found(self) -> (Vec<Shared<Piece, S>>, Vec<Shared<End, S>>, Vec<Shared<u64, S>>)
+    pub fn into_found(
+        self,
+    ) -> (
+        Vec<Shared<Piece, S>>,
+        Vec<Shared<End, S>>,
+        Vec<Shared<u64, S>>,
+    )
         ensures found { result.0.items ≡ self.found }
         ensures ends { result.1.items ≡ self.ends }
         ensures spent { result.2.items ≡ self.spent }
