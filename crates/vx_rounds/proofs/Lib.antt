@@ -5,3 +5,9 @@ pub mod Ending
 pub mod Going
 pub mod Raising
 pub mod Outcomes
+pub mod Places
+pub mod Sequence
+pub mod Spending
+pub mod Grown
+pub mod Refusals
+pub mod Making

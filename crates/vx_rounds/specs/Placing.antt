@@ -210,11 +210,14 @@ HavePlaces p sets [] = Unit {0}
 HavePlaces p sets (outcome ∷ outcomes) = HasPlace p sets outcome × HavePlaces p sets outcomes
 
 -- some configuration comes to an outcome that has no place
+pub record IsUnplaced {S I : Type 0} (p : Program) (sets : Sets I) (outcome : Outcome S I) : Type 0 where
+  pub nonempty : condition_of outcome ≢ sets.never
+  pub unplaced : has_place p outcome ≡ false
+
 pub record HasUnplaced {S I : Type 0} (p : Program) (sets : Sets I) (outcomes : List (Outcome S I)) : Type 0 where
   pub outcome : Outcome S I
   pub among : Contains outcomes outcome
-  pub nonempty : condition_of outcome ≢ sets.never
-  pub unplaced : has_place p outcome ≡ false
+  pub is_unplaced : IsUnplaced p sets outcome
 
 abbrev pub AreConditionsKnown : {S I : Type 0} → Sets I → List (Outcome S I) → Type 0
 AreConditionsKnown sets outcomes = AreKnown sets (map condition_of outcomes)

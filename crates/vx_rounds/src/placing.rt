@@ -20,7 +20,7 @@ ghost use Rattle.vx_stands.specs.Stands.{StandsIn, state_at};
 ghost use Rattle.vx_value.specs.Ends.{compare_ends};
 ghost use Rattle.vx_families.specs.Bounds.{IsBounded};
 ghost use Rattle.vx_value.specs.Texts.{text_at};
-ghost use Rattle.vx_rounds.specs.Placing.{AreConditionsKnown, ArePlaceable, AreWritten, HasPlace, HasUnplaced, HavePlaces, IsEnded, IsOutcomePlaced, IsPlaceable, IsPut, IsUnderway, IsUnwritten, IsUsedUp, IsVacant, has_place, leads_in, made_at, piece_if, said_by, said_in};
+ghost use Rattle.vx_rounds.specs.Placing.{AreConditionsKnown, ArePlaceable, AreWritten, HasPlace, HasUnplaced, HavePlaces, IsEnded, IsOutcomePlaced, IsPlaceable, IsPut, IsUnderway, IsUnplaced, IsUnwritten, IsUsedUp, IsVacant, has_place, leads_in, made_at, piece_if, said_by, said_in};
 
 use std::alloc::Global;
 use vx_cond::{Cond, Leaf};
@@ -300,6 +300,18 @@ fn is_call<S: Space>(group: &Group<S>) -> bool
     matches!(group.top_frame().kind, Kind::Call)
 }
 
+/// Whether no configuration comes to an outcome, or it is built.
+fn is_placeable<S: Space>(program: &Program, space: &S, outcome: &Outcome<S>) -> bool
+    requires { IsKnown (S.sets space.now) (condition_of outcome.now) }
+    ensures yes { IsTrue result → HasPlace program.now (S.sets space.now) outcome.now }
+    ensures no { result ≡ false → IsUnplaced program.now (S.sets space.now) outcome.now }
+{
+    if space.is_never(outcome.condition()) {
+        return true;
+    }
+    has_place(program, outcome)
+}
+
 /// Whether each outcome to which some configuration comes is built.
 pub(crate) fn have_places<S: Space>(program: &Program, space: &S, outcomes: &[Outcome<S>]) -> bool
     requires { AreConditionsKnown (S.sets space.now) outcomes.now }
@@ -307,7 +319,7 @@ pub(crate) fn have_places<S: Space>(program: &Program, space: &S, outcomes: &[Ou
     ensures no { result ≡ false → HasUnplaced program.now (S.sets space.now) outcomes.now }
 {
     for outcome in outcomes {
-        if !space.is_never(outcome.condition()) && !has_place(program, outcome) {
+        if !is_placeable(program, space, outcome) {
             return false;
         }
     }
