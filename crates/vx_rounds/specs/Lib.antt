@@ -1,3 +1,4 @@
 pub mod State
 pub mod Rounds
 pub mod Attempted
+pub mod Starting

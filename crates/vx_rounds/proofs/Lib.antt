@@ -1,0 +1,5 @@
+pub mod Counting
+pub mod Beginning
+pub mod Marking
+pub mod MainGroup
+pub mod Started
