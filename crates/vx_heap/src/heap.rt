@@ -104,6 +104,14 @@ impl<S: Space> Heap<S> {
         self.objects[reference as usize].length
     }
 
+    /// The number of cells of an object.
+    pub fn cell_count(&self, reference: u64) -> usize
+        requires { reference < length self.now.objects }
+        ensures { result ≡ length (object_in self.now reference).cells.conds }
+    {
+        self.objects[reference as usize].cells.len()
+    }
+
     /// The configurations in which an object is there.
     pub fn presence(&self, reference: u64) -> S::Id
         requires { reference < length self.now.objects }

@@ -1,3 +1,16 @@
+pub mod Waiting
+pub mod Placed
+pub mod Putting
+pub mod Ending
+pub mod Going
+pub mod Raising
+pub mod Outcomes
+pub mod Places
+pub mod Sequence
+pub mod Spending
+pub mod Grown
+pub mod Refusals
+pub mod Making
 pub mod Counting
 pub mod Beginning
 pub mod Marking

@@ -3,6 +3,7 @@
 #![tactic(auto)]
 
 mod attempting;
+mod placing;
 pub mod starting;
 pub mod state;
 pub mod stepping;
