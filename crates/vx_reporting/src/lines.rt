@@ -1,25 +1,14 @@
 //! The lines of a report: each value with the number of its set's node.
 
-ghost use Rattle.std.specs.Prelude.{◌≡◌, ◌++◌, IfOk, OnOk, drop};
+ghost use Rattle.std.specs.Prelude.{◌≡◌, IfOk, drop};
 ghost use Rattle.vx_list.specs.Places.{item_or};
 ghost use Rattle.vx_reporting.specs.Listed.{attempts_line, end_line, lines_with, piece_line};
-ghost use Rattle.vx_rounds.specs.State.{shared_ids};
 
 use std::alloc::{AllocError, Global};
 use vx_findings::{Piece, Shared};
 use vx_report::{AttemptLine, EndLine, Piece as PieceLine};
 use vx_space::Space;
 use vx_value::End;
-
-/// Appends the sets of values.
-pub fn sets_out<V, S: Space>(list: &[Shared<V, S>], ids: &mut Vec<S::Id>) -> Result<(), AllocError>
-    ensures { OnOk result (ids.new.items ≡ ids.old.items ++ shared_ids list.now) }
-{
-    for shared in list {
-        ids.push(shared.condition)?;
-    }
-    Ok(())
-}
 
 /// The number of the next set, and 0 behind the last one.
 fn first_number(numbers: &[u64]) -> u64

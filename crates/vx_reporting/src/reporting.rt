@@ -10,12 +10,13 @@ ghost use Rattle.vx_space.specs.Sets.{AreKnown};
 ghost use Rattle.vx_reporting.specs.Listed.{report_with};
 ghost use Rattle.vx_reporting.specs.Reported.{IsReported};
 
-use crate::lines::{attempts_of, ends_of, pieces_of, sets_out};
+use crate::lines::{attempts_of, ends_of, pieces_of};
 use std::alloc::{AllocError, Global};
 use vx_bdd_tools::{NodeList, listing};
 use vx_engine::Findings;
 use vx_list::Items;
 use vx_report::{Report, write_report};
+use vx_rounds::sets_out;
 use vx_space::Space;
 use vx_value::Name;
 

@@ -11,3 +11,8 @@ pub mod Spending
 pub mod Grown
 pub mod Refusals
 pub mod Making
+pub mod Counting
+pub mod Beginning
+pub mod Marking
+pub mod MainGroup
+pub mod Started
