@@ -1,2 +1,6 @@
-pub mod LiftLaws
-pub mod PartLaws
+pub mod AttemptLaws
+pub mod Ends
+pub mod HeldLaws
+pub mod OperandLaws
+pub mod Pairs
+pub mod RowLaws

@@ -1,2 +1,3 @@
-pub mod Lifting
-pub mod Parts
+pub mod Family
+pub mod Numbers
+pub mod Raising

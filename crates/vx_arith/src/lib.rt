@@ -1,8 +1,12 @@
-//! Instructions that take operands off a frame and put others on, for all configurations of a group at once.
+//! The family of numbers and jumps: arithmetic, comparisons, narrowings, jumps and switches (JVMS 6.5).
 #![tactic(auto)]
 
-pub mod lifting;
-pub mod parts;
+mod attempting;
+mod family;
+mod jumping;
+mod numbers;
+mod operands;
+mod spot;
 
-pub use lifting::{lift_one, lift_two, on_one, on_two, take_operand};
-pub use parts::{Part, divide};
+pub use attempting::attempt;
+pub use family::is_of_numbers;

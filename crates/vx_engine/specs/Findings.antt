@@ -1,5 +1,6 @@
 -- What all runs have come to, and that this is what the report of lockstep says (own).
-use Rattle.std.specs.Prelude.{◌≡◌, ℕ, Bool, true, false, List, map, filter, length, Contains, Option, Some, None, ◌==◌, if◌then◌else◌, []}
+use Rattle.std.specs.Prelude.{◌≡◌, not, ℕ, Bool, true, false, List, map, filter, length, Contains, Option, Some, None, ◌==◌, if◌then◌else◌, []}
+use Rattle.std.specs.List.{list_all}
 use Rattle.std.specs.Ordering.{nat_cmp}
 use Rattle.vx_space.specs.Sets.{Sets, AreKnown}
 use Rattle.vx_cond.specs.Leaves.{AreLeaves, value_at}
@@ -12,7 +13,7 @@ use Rattle.vx_java.specs.Step.{Config, run}
 use Rattle.vx_link.specs.declared.program.Program.{Program}
 use Rattle.vx_value.specs.Ends.{compare_ends}
 use Rattle.vx_value.specs.declared.end.End.{End}
-use Rattle.vx_rounds.specs.State.{shared_ids, output_at, result_at}
+use Rattle.vx_rounds.specs.State.{result_at, shared_ids}
 
 -- `Findings` as contracts see them: the rounds, the texts in the order in which they were written, the ends, the numbers of attempts
 pub record FindingsView (S I : Type 0) : Type 0 where
@@ -21,9 +22,9 @@ pub record FindingsView (S I : Type 0) : Type 0 where
   pub ends : List (Shared End S I)
   pub spent : List (Shared ℕ S I)
 
--- nothing was found at a configuration
+-- nothing was found at a configuration: no set of a text holds it, and it has neither an end nor a number of attempts
 pub record IsNotFound {S I : Type 0} (sets : Sets I) (f : FindingsView S I) (c : Config) : Type 0 where
-  pub output : output_at sets f.found c ≡ []
+  pub texts : list_all (λ id. not (sets.test id c)) (shared_ids f.found) ≡ true
   pub end : value_at sets (leaves_of f.ends) c ≡ None
   pub spent : value_at sets (leaves_of f.spent) c ≡ None
 

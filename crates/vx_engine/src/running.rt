@@ -17,7 +17,8 @@ use std::marker::Model;
 use vx_families::AttemptFault;
 use vx_findings::{Piece, Shared};
 use vx_link::Program;
-use vx_sched::Picker;
+use vx_rounds::{start, step_group};
+use vx_sched::{Picker, keys_of};
 use vx_space::Space;
 use vx_value::End;
 
@@ -70,5 +71,20 @@ pub fn run_with<S: Space, K: Picker>(
 
     ensures not_yet { result ≡ Err AttemptFault.NotYet → MeetsUnbuilt program.now ((S.sets space.old).test allowed) limit }
 {
-    Err(AttemptFault::NoMemory)
+    let mut state = start(alloc, program, space, allowed, limit)?;
+    'rounds: while !state.groups().is_empty() {
+        let Ok(keys) = keys_of(alloc, state.groups()) else {
+            return Err(AttemptFault::NoMemory);
+        };
+        let which = picker.pick(keys.as_slice());
+        step_group(alloc, program, space, &mut state, which)?;
+    }
+    let rounds = state.rounds();
+    let (found, ends, spent) = state.into_found();
+    Ok(Findings {
+        rounds,
+        found,
+        ends,
+        spent,
+    })
 }

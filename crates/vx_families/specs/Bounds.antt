@@ -1,9 +1,11 @@
 -- What a program keeps to, so that numbers of 32 bits name its parts: the bounds of class files (JVMS 4.4.7, 4.7.3, 4.11) over a whole program.
-use Rattle.std.specs.Prelude.{◌≡◌, ◌≤◌, ℕ, Bool, true, length, nat_lt, Option, Some, None}
+use Rattle.std.specs.Prelude.{◌≡◌, ◌<◌, ◌≤◌, ℕ, Bool, true, length, nat_lt, Option, Some, None}
 use Rattle.std.specs.List.{list_all}
 use Rattle.vx_class.specs.declared.class_file.Code.{Code}
 use Rattle.vx_java.specs.Ids.{HasClassNumbers}
+use Rattle.vx_java.specs.Initialisation.{max_locals}
 use Rattle.vx_link.specs.CoreFiles.{core_count}
+use Rattle.vx_link.specs.Parts.{method_at}
 use Rattle.vx_link.specs.declared.program.LinkedClass.{LinkedClass}
 use Rattle.vx_link.specs.declared.program.Program.{Program}
 use Rattle.vx_pool.specs.declared.pool.Entry.{Entry}
@@ -26,11 +28,12 @@ is_short_entry _ = true
 abbrev pub has_short_texts : LinkedClass → Bool
 has_short_texts c = list_all is_short_entry c.pool.entries
 
--- the core classes are among its classes
+-- the core classes are among its classes, and main has a local variable for its argument
 pub record IsBounded (p : Program) : Type 0 where
   pub classes : HasClassNumbers p
   pub core : core_count ≤ length p.classes
   pub texts : list_all has_short_texts p.classes ≡ true
   pub codes : list_all (λ m. has_short_code m.code) p.methods ≡ true
   pub signatures : list_all (λ m. is_short (length m.descriptor)) p.methods ≡ true
+  pub main : 0 < max_locals (method_at p p.main.0).code
   pub types : list_all (λ f. is_short (length f.descriptor)) p.fields ≡ true

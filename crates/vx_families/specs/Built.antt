@@ -13,6 +13,7 @@ use Rattle.vx_java.specs.declared.operation.Operation.TheVariants.{CheckCast, Ge
 use Rattle.vx_java.specs.declared.operation.Operation.TheVariants.{Throw as ThrowOperation}
 use Rattle.vx_link.specs.Names.{Member, member}
 use Rattle.vx_link.specs.Parts.{class_at, method_at}
+use Rattle.vx_link.specs.declared.program.LinkedMethod.{LinkedMethod}
 use Rattle.vx_link.specs.declared.program.Program.{Program}
 use Rattle.vx_opcode.specs.Decode.{instruction_at}
 use Rattle.vx_opcode.specs.declared.instruction.Instruction.{Instruction}
@@ -46,9 +47,12 @@ catches_nothing p s = has_none (catches_of (method_at p s.top.method).code)
 
 -- ---- calls
 
--- println of an int, by the number that its native method has
+-- println of an int, by the number that its native method has, and its descriptor
 abbrev pub println_int : ℕ
 println_int = 49
+
+abbrev pub is_println_method : LinkedMethod → Bool
+is_println_method m = (m.native == println_int) && bytes_eq m.descriptor (codes "(I)V")
 
 abbrev pub is_virtual : Mode → Bool
 is_virtual Virtual = true
@@ -100,7 +104,7 @@ is_built_outcome p (Go s) = is_single s
 is_built_outcome p (Raise class message s) = is_single s && catches_nothing p s
 is_built_outcome p (Throw r s) = false
 is_built_outcome p (Begin c s) = false
-is_built_outcome p (Native m s) = (method_at p m).native == println_int
+is_built_outcome p (Native m s) = is_println_method (method_at p m)
 is_built_outcome p (Write stream units s) = is_single s
 is_built_outcome p (Ended e) = true
 

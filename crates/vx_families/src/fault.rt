@@ -1,5 +1,8 @@
 //! Why an attempt isn't made.
 
+ghost use Rattle.std.specs.Prelude.{◌≡◌};
+ghost use Rattle.vx_families.specs.declared.fault.AttemptFault.TheVariants.{NoMemory};
+
 use std::alloc::{AllocError, AllocFailed};
 use thiserror::Error;
 use vx_space::SpaceFault;
@@ -15,18 +18,24 @@ pub enum AttemptFault {
 }
 
 impl From<AllocError> for AttemptFault {
+    ghost from_gives = { λ _ e. e ≡ NoMemory };
+
     fn from(_error: AllocError) -> AttemptFault {
         AttemptFault::NoMemory
     }
 }
 
 impl<T: Drop> From<AllocFailed<T>> for AttemptFault {
+    ghost from_gives = { λ _ e. e ≡ NoMemory };
+
     fn from(_error: AllocFailed<T>) -> AttemptFault {
         AttemptFault::NoMemory
     }
 }
 
 impl From<SpaceFault> for AttemptFault {
+    ghost from_gives = { λ _ e. e ≡ NoMemory };
+
     fn from(_error: SpaceFault) -> AttemptFault {
         AttemptFault::NoMemory
     }

@@ -1,6 +1,6 @@
 -- How the row of an instruction of a field goes on, step by step.
-use Rattle.std.proofs.Common.{◌≡◌, ℕ, Bool, true, false, List, refl, sym, ◌∙◌, ap, subst, Option, Some, None}
-use Rattle.std.specs.Prelude.{codes, option_map}
+use Rattle.std.proofs.Common.{◌≡◌, ℕ, Bool, true, false, refl, sym, ◌∙◌, ap, Option, Some, None}
+use Rattle.std.specs.Prelude.{is_some, option_map, ◌&&◌}
 use Rattle.vx_desc.specs.Descriptors.{field_type}
 use Rattle.vx_desc.specs.declared.java_type.JavaType.{JavaType}
 use Rattle.vx_java.specs.Checks.{if_there, same_bool, sort_of, with_class}
@@ -18,7 +18,6 @@ use Rattle.vx_pool.specs.declared.pool.Pool.{Pool}
 use Rattle.vx_value.specs.declared.ids.ClassId.{ClassId}
 use Rattle.vx_value.specs.declared.ids.FieldId.{FieldId}
 use Rattle.vx_fields.specs.References.{IsFieldReference, seeing}
-use Rattle.vx_fields.specs.declared.references.FieldReference.{FieldReference}
 use Rattle.vx_fields.specs.declared.references.FieldReference.TheVariants.{Found, NoType, Floating, NoClass, NoField, Disagrees}
 
 class_some : (o : Option ℕ) (class : ClassId) → Some class ≡ option_map as_class o → o ≡ Some class.0
@@ -40,6 +39,7 @@ field_none (Some n) e = cc
 pub no_type : (p : Program) (pool : Pool) (i : ℕ) (static : Bool) (m : Member) → m ≡ member pool i → None ≡ field_type m.descriptor → IsFieldReference p pool i static NoType
 no_type p pool i static m e t = record {
   decides = λ h rest. ap (λ (n : Member). if_type (seeing p pool h) n static (field_type n.descriptor) rest) (sym e) ∙ ap (λ o. if_type (seeing p pool h) m static o rest) (sym t);
+  sound = refl;
 }
 
 -- a field type that is there
@@ -49,6 +49,7 @@ typed p pool i static m type h rest e t = ap (λ (n : Member). if_type (seeing p
 pub floating : (p : Program) (pool : Pool) (i : ℕ) (static : Bool) (m : Member) (type : JavaType) → m ≡ member pool i → Some type ≡ field_type m.descriptor → None ≡ sort_of type → IsFieldReference p pool i static Floating
 floating p pool i static m type e t s = record {
   decides = λ h rest. typed p pool i static m type h rest e t ∙ ap (λ o. if_sort (seeing p pool h) o (with_class (seeing p pool h) m.class (λ named. if_field (seeing p pool h) m static type named (resolve_field p named m.name m.descriptor) rest))) (sym s);
+  sound = refl;
 }
 
 -- a type that has a sort
@@ -58,6 +59,7 @@ sorted p pool i static m type sort h rest e t s = typed p pool i static m type h
 pub no_class : (p : Program) (pool : Pool) (i : ℕ) (static : Bool) (m : Member) (type : JavaType) (sort : Sort) → m ≡ member pool i → Some type ≡ field_type m.descriptor → Some sort ≡ sort_of type → None ≡ option_map as_class (class_named p m.class) → IsFieldReference p pool i static NoClass
 no_class p pool i static m type sort e t s n = record {
   decides = λ h rest. sorted p pool i static m type sort h rest e t s ∙ ap (λ o. if_there (seeing p pool h) m.class o (λ named. if_field (seeing p pool h) m static type named (resolve_field p named m.name m.descriptor) rest)) (class_none (class_named p m.class) n) ∙ ap (λ (k : Member). unsupported (seeing p pool h) class_word k.class) e;
+  sound = refl;
 }
 
 -- a class that is there
@@ -67,6 +69,7 @@ named_there p pool i static m type sort named h rest e t s n = sorted p pool i s
 pub no_field : (p : Program) (pool : Pool) (i : ℕ) (static : Bool) (m : Member) (type : JavaType) (sort : Sort) (named : ClassId) → m ≡ member pool i → Some type ≡ field_type m.descriptor → Some sort ≡ sort_of type → Some named ≡ option_map as_class (class_named p m.class) → None ≡ option_map as_field (resolve_field p named.0 m.name m.descriptor) → IsFieldReference p pool i static NoField
 no_field p pool i static m type sort named e t s n f = record {
   decides = λ h rest. named_there p pool i static m type sort named h rest e t s n ∙ ap (λ o. if_field (seeing p pool h) m static type named.0 o rest) (field_none (resolve_field p named.0 m.name m.descriptor) f) ∙ ap (λ (k : Member). unsupported (seeing p pool h) field_word (field_text k)) e;
+  sound = refl;
 }
 
 -- a field that is there
@@ -76,9 +79,14 @@ field_there p pool i static m type sort named field h rest e t s n f = named_the
 pub disagrees : (p : Program) (pool : Pool) (i : ℕ) (static : Bool) (m : Member) (type : JavaType) (sort : Sort) (named : ClassId) (field : FieldId) → m ≡ member pool i → Some type ≡ field_type m.descriptor → Some sort ≡ sort_of type → Some named ≡ option_map as_class (class_named p m.class) → Some field ≡ option_map as_field (resolve_field p named.0 m.name m.descriptor) → same_bool static (is_static_field p field.0) ≡ false → IsFieldReference p pool i static Disagrees
 disagrees p pool i static m type sort named field e t s n f a = record {
   decides = λ h rest. field_there p pool i static m type sort named field h rest e t s n f ∙ ap (λ b. if_agreeing (seeing p pool h) b (record { named = named.0; field = field.0; type = type }) rest) a;
+  sound = refl;
 }
+
+both : (a b : Bool) → a ≡ true → b ≡ true → (a && b) ≡ true
+both a b p q = rw (p, q) refl
 
 pub found : (p : Program) (pool : Pool) (i : ℕ) (static : Bool) (m : Member) (type : JavaType) (sort : Sort) (named : ClassId) (field : FieldId) → m ≡ member pool i → Some type ≡ field_type m.descriptor → Some sort ≡ sort_of type → Some named ≡ option_map as_class (class_named p m.class) → Some field ≡ option_map as_field (resolve_field p named.0 m.name m.descriptor) → same_bool static (is_static_field p field.0) ≡ true → IsFieldReference p pool i static (Found named field type)
 found p pool i static m type sort named field e t s n f a = record {
   decides = λ h rest. field_there p pool i static m type sort named field h rest e t s n f ∙ ap (λ b. if_agreeing (seeing p pool h) b (record { named = named.0; field = field.0; type = type }) rest) a;
+  sound = both (same_bool static (is_static_field p field.0)) (is_some (sort_of type)) a (ap is_some (sym s));
 }

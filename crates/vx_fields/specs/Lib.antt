@@ -1,1 +1,4 @@
 pub mod References
+pub mod Changing
+pub mod Initialising
+pub mod Statics

@@ -4,3 +4,6 @@ pub mod Places
 pub mod Written
 pub mod MoreTexts
 pub mod Cells
+pub mod Throughout
+pub mod Present
+pub mod FirstHeap

@@ -1,3 +1,4 @@
 pub mod Heap
 pub mod First
+pub mod Lifted
 pub mod Keeping

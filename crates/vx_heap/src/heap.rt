@@ -1,20 +1,24 @@
 //! The heap, its statics and its initialisation states.
 
-ghost use Rattle.std.specs.Prelude.{◌≡◌, ◌++◌, ◌<◌, ◌≤ℤ◌, negsuc, pos, [], length, IfOk, OnOk, OnErr, List, Bool, true, slice_set, if◌then◌else◌};
+ghost use Rattle.std.specs.Prelude.{◌≡◌, ◌++◌, ◌<◌, ◌≤◌, ◌≤ℤ◌, negsuc, pos, [], length, IfOk, OnOk, OnErr, List, Bool, true, slice_set, if◌then◌else◌};
 ghost use Rattle.vx_space.specs.Sets.{IsKnown, Extends};
 ghost use Rattle.std.specs.List.{flat_map};
 ghost use Rattle.vx_cond.specs.Cond.{IsCond, IsInside, cond_ids};
 ghost use Rattle.vx_value.specs.Slot.{slot_cmp, init_state_cmp};
 ghost use Rattle.vx_java.specs.FirstObjects.{first_boolean, first_integer};
+ghost use Rattle.vx_java.specs.Ids.{HasClassNumbers};
+ghost use Rattle.vx_link.specs.CoreFiles.{core_count};
 ghost use Rattle.vx_list.specs.Places.{item_or};
 ghost use Rattle.vx_heap.specs.First.{IsFirstHeap};
 ghost use Rattle.vx_heap.specs.Heap.{IsHeap, IsCellRead, IsStaticRead, IsStaticWritten, IsInitWritten, IsTextPut, KeepsPlain, has_options, heap_ids, init_of, is_held, literal_at, object_ids, object_in, static_of};
 ghost use Rattle.vx_cond.specs.Slots.{slot_at};
 
+use crate::lifted::{lifted_objects, same_values, static_values};
 use crate::object::HeapObject;
 use std::alloc::{AllocError, Global};
 use std::marker::Model;
 use vx_cond::{Cond, Projects};
+use vx_first::First;
 use vx_link::Program;
 use vx_list::Items;
 use vx_space::{Space, SpaceFault};
@@ -51,10 +55,30 @@ impl<S: Space> Heap<S> {
     ) -> Result<Heap<S>, SpaceFault>
         requires known { IsKnown (S.sets space.old) allowed }
         requires options { has_options (S.sets space.old).options program.now.fields ≡ true }
+        requires classes { HasClassNumbers program.now }
+        requires core { core_count ≤ length program.now.classes }
         ensures extends { Extends (S.sets space.old) (S.sets space.new) }
         ensures first { IfOk result (IsFirstHeap program.now (S.sets space.new) allowed) }
     {
-        Err(SpaceFault::NoMemory)
+        let first = First::of(alloc, program)?;
+        let statics = static_values(alloc, space, &first.statics, allowed)?;
+        let objects = lifted_objects(alloc, space, &first.objects, allowed)?;
+        let inits = same_values(alloc, space, &first.inits, allowed)?;
+        let First {
+            texts,
+            literals,
+            words,
+            ..
+        } = first;
+        Ok(Heap {
+            objects,
+            statics,
+            inits,
+            texts,
+            allowed,
+            literals,
+            words,
+        })
     }
 
     fn object(&self, reference: u64) -> &HeapObject<S>
@@ -78,6 +102,14 @@ impl<S: Space> Heap<S> {
         ensures { result ≡ (object_in self.now reference).length }
     {
         self.objects[reference as usize].length
+    }
+
+    /// The number of cells of an object.
+    pub fn cell_count(&self, reference: u64) -> usize
+        requires { reference < length self.now.objects }
+        ensures { result ≡ length (object_in self.now reference).cells.conds }
+    {
+        self.objects[reference as usize].cells.len()
     }
 
     /// The configurations in which an object is there.

@@ -3,6 +3,7 @@
 #![tactic(auto)]
 
 pub mod heap;
+mod lifted;
 pub mod object;
 
 pub use heap::Heap;

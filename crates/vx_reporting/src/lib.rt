@@ -1,6 +1,7 @@
 //! The report of whole runs: each set of configurations as a node of one list, and the text.
 #![tactic(auto)]
 
+mod lines;
 pub mod reporting;
 
 pub use reporting::report_findings;

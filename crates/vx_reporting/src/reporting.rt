@@ -1,19 +1,88 @@
 //! The report of what all runs have come to.
 
-ghost use Rattle.std.specs.Prelude.{◌≡◌, ◌++◌, ℕ, Bool, IfOk, List, length};
+ghost use Rattle.std.specs.Prelude.{◌≡◌, ◌++◌, ℕ, Bool, IfOk, List, [], drop, length, if◌then◌else◌, ◌==◌};
 ghost use Rattle.vx_engine.specs.Findings.{AreAllowed, AreFindings, report_by};
 ghost use Rattle.vx_java.specs.Report.{lock_report};
 ghost use Rattle.vx_java.specs.Step.{Config};
 ghost use Rattle.vx_link.specs.declared.program.Program.{Program};
 ghost use Rattle.vx_rounds.specs.State.{shared_ids};
 ghost use Rattle.vx_space.specs.Sets.{AreKnown};
+ghost use Rattle.vx_reporting.specs.Listed.{report_with};
 ghost use Rattle.vx_reporting.specs.Reported.{IsReported};
 
+use crate::lines::{attempts_of, ends_of, pieces_of};
 use std::alloc::{AllocError, Global};
+use vx_bdd_tools::{NodeList, listing};
 use vx_engine::Findings;
 use vx_list::Items;
+use vx_report::{Report, write_report};
+use vx_rounds::sets_out;
 use vx_space::Space;
 use vx_value::Name;
+
+/// The sets of the findings that a report of a version shows: those of texts, of ends, and in version 2 of numbers of
+/// attempts.
+fn sets_of<S: Space>(
+    alloc: Global,
+    version: u8,
+    findings: &Findings<S>,
+) -> Result<Vec<S::Id>, AllocError>
+    ensures { IfOk result (λ ids. ids.items ≡ shared_ids findings.now.found ++ (shared_ids findings.now.ends ++ (if version == 2 then shared_ids findings.now.spent else []))) }
+{
+    let mut ids = Vec::new(alloc);
+    sets_out(findings.found.as_slice(), &mut ids)?;
+    sets_out(findings.ends.as_slice(), &mut ids)?;
+    if version == 2 {
+        sets_out(findings.spent.as_slice(), &mut ids)?;
+    }
+    Ok(ids)
+}
+
+/// What stands behind so many numbers.
+fn behind(numbers: &[u64], count: usize) -> &[u64]
+    ensures { result.now ≡ drop count numbers.now }
+{
+    numbers.get(count..).unwrap_or(&[])
+}
+
+/// The report of findings whose sets have these nodes and numbers.
+fn report_with<S: Space>(
+    alloc: Global,
+    version: u8,
+    options: Items<Name>,
+    limit: u64,
+    findings: Findings<S>,
+    list: NodeList,
+) -> Result<Report, AllocError>
+    ensures { IfOk result (λ report. report ≡ report_with version options limit findings list.nodes list.roots) }
+{
+    let Findings {
+        rounds,
+        found,
+        ends,
+        spent,
+    } = findings;
+    let numbers = list.roots.as_slice();
+    let ends_from = found.len();
+    let attempts_from = ends_from.saturating_add(ends.len());
+    let pieces = pieces_of(alloc, found, numbers)?;
+    let ends = ends_of(alloc, ends, behind(numbers, ends_from))?;
+    let attempts = if version == 2 {
+        attempts_of(alloc, spent, behind(numbers, attempts_from))?
+    } else {
+        Vec::new(alloc)
+    };
+    Ok(Report {
+        version,
+        options,
+        limit,
+        rounds,
+        nodes: list.nodes,
+        pieces: Items::of(pieces),
+        ends: Items::of(ends),
+        attempts: Items::of(attempts),
+    })
+}
 
 /// The text of the report of findings, in version 1 or 2, with these options and the limit of attempts.
 pub fn report_findings<S: Space>(
@@ -31,5 +100,8 @@ pub fn report_findings<S: Space>(
         ((list : List Config) (version : ℕ) → AreAllowed (S.sets space.now).options is_allowed list → lock_report program list limit version ≡ report_by (S.sets space.now) list limit version findings) →
         IsReported version options limit is_allowed program text.items) }
 {
-    Err(AllocError)
+    let ids = sets_of(alloc, version, &findings)?;
+    let list = listing(alloc, space, ids.as_slice())?;
+    let report = report_with(alloc, version, options, limit, findings, list)?;
+    write_report(alloc, &report)
 }

@@ -1,173 +1,217 @@
--- A round begins: the group that makes an attempt, and all else.
-use Rattle.std.proofs.Common.{◌≡◌, ℕ, ◌<◌, ◌≤◌, ◌+◌, Bool, true, false, List, [], ◌∷◌, refl, sym, ◌∙◌, ap, subst, length, get_or, zero, suc, arith}
-use Rattle.std.specs.Prelude.{◌≢◌, ◌^◌, ◌&&◌, Option, Some, None, if◌then◌else◌, is_some, slice_get}
-use Rattle.std.specs.List.{list_all, remove}
-use Rattle.std.specs.Ordering.{nat_cmp}
-use Rattle.vx_space.specs.Sets.{Sets, Extends}
-use Rattle.vx_space.proofs.Spaces.{Extends-refl}
-use Rattle.vx_cond.specs.Cond.{Conditional, IsCond}
-use Rattle.vx_cond.specs.Leaves.{AreLeaves, value_at}
-use Rattle.vx_group.specs.declared.callers.Caller.{Caller}
-use Rattle.vx_group.specs.Callers.{callers_of, frames_at}
-use Rattle.vx_group.specs.Group.{GroupView, IsGroup, IsGroupIn, PlainGroup, attempts_at, group_at, path_of, shapes_of, stack_of}
-use Rattle.vx_group.proofs.GroupLaws.{IsGroupIn-group, IsGroupIn-same_callers, IsGroup-path_known}
-use Rattle.vx_heap.specs.Heap.{HeapView, IsHeap}
-use Rattle.vx_heap.proofs.HeapLaws.{IsHeap-extends}
-use Rattle.vx_heap.proofs.Places.{place_of_some}
-use Rattle.vx_findings.specs.Orders.{piece_cmp}
-use Rattle.vx_findings.specs.Shared.{leaves_of}
+-- What the start of a run comes to.
+use Rattle.std.proofs.Common.{◌≡◌, ◌≢◌, ℕ, zero, suc, ◌+◌, ◌-◌, ◌<◌, ◌≤◌, Bool, true, false, List, [], ◌∷◌, ◌++◌, refl, sym, ◌∙◌, ap, subst, map, length, cond, arith, replicate}
+use Rattle.std.proofs.lemmas.Bool.{lt-ltb}
+use Rattle.std.proofs.lemmas.List.{length-append, length-replicate, length-reverse}
+use Rattle.std.specs.List.{list_all, range_with_len}
+use Rattle.std.specs.Prelude.{Option, Some, None, ◌&&◌, codes, option_map, unwrap_or, find, nat_lt, not, reverse}
+use Rattle.vx_families.specs.Built.{is_built, is_single}
+use Rattle.vx_heap.proofs.Places.{and_true}
+use Rattle.vx_java.proofs.Chains.{begins_goes_on, begins_stops, begins_with, is_quiet, not_begun}
+use Rattle.vx_java.specs.Ids.{as_class}
+use Rattle.vx_java.specs.Initialisation.{blocked, blocks, chain_blocked, has_failed, init_chain, is_failed, is_not, quiet_chain, with_frames}
+use Rattle.vx_java.specs.Machine.{State, frame_bound, init_at, place_at}
+use Rattle.vx_java.specs.Operation.{class_word}
+use Rattle.vx_java.specs.Step.{Config, Over, before_main, begun, first_inits, fresh_progress, if_quiet, start, with_room}
+use Rattle.vx_link.specs.ClassNames.{class_text}
+use Rattle.vx_link.specs.CoreFiles.{core_count}
+use Rattle.vx_link.specs.Hierarchy.{is_among, superclasses, superinterfaces}
+use Rattle.vx_link.specs.Parts.{class_at, class_count, is_interface, method_at}
 use Rattle.vx_link.specs.declared.program.Program.{Program}
-use Rattle.vx_sched.specs.Groups as sched
-use Rattle.vx_sched.proofs.GroupsLaws.{IsTaken, is_taken, shaped_taken}
-use Rattle.vx_stands.specs.Stands.{StandsIn, frame_held, is_shaped, state_at}
-use Rattle.vx_stands.proofs.StateLaws.{StandsIn-extends, state_at-extends}
-use Rattle.vx_value.specs.Ends.{compare_ends}
-use Rattle.vx_value.specs.declared.key.Kind.TheVariants.{Call}
-use Rattle.vx_rounds.specs.declared.placing.Round.{Round}
-use Rattle.vx_rounds.specs.Attempted.{MayAttempt}
-use Rattle.vx_rounds.specs.Placing.{AreWaiting, IsGood, IsUnderway, IsUnwritten, IsVacant, is_one, made_at, waiting_at}
-use Rattle.vx_rounds.specs.State.{AreRunning, IsRunning, IsState, StateView, group_of, most_attempts}
-use Rattle.vx_rounds.specs.Stepping.{IsBegun, IsCount, IsSpent}
-use Rattle.vx_rounds.proofs.Grown.{some_within}
-use Rattle.vx_rounds.proofs.Putting.{IsUnderway-extends}
-use Rattle.vx_rounds.proofs.Running.{AreWaiting-running}
-use Rattle.vx_rounds.proofs.Waiting.{groups_apart}
+use Rattle.vx_rounds.specs.Rounds.{MeetsUnbuilt}
+use Rattle.vx_rounds.specs.Starting.{EndAtStart, GoOn, are_below, first_state, main_chain, main_class, numbers_of}
+use Rattle.vx_value.specs.declared.end.End.TheVariants.{Uncaught, Unsupported}
+use Rattle.vx_space.proofs.Differences.{some_difference}
+use Rattle.vx_space.specs.Sets.{IsLawful, Sets}
+use Rattle.vx_value.specs.declared.end.End.{End}
+use Rattle.vx_value.specs.declared.ids.ClassId.{ClassId}
+use Rattle.vx_value.specs.declared.slot.InitState.{InitState}
+use Rattle.vx_value.specs.declared.slot.InitState.TheVariants.{Done, Not}
 
--- ---- the group of a place
+-- ---- numbers of classes
 
-running_at : {S I : Type 0} (p : Program) (sets : Sets I) (st : StateView S I) (groups : List (GroupView S I)) (which : ℕ) (group : GroupView S I) → AreRunning p sets st groups → slice_get groups which ≡ Some group → IsRunning p sets st group
-running_at p sets st [] which group r e = cc e
-running_at {S = S} {I = I} p sets st (g ∷ groups) zero group r e = subst (λ x. IsRunning p sets st x) (same g group e) r.0
+pub numbers_as_class : (xs : List ℕ) → numbers_of (map as_class xs) ≡ xs
+numbers_as_class [] = refl
+numbers_as_class (x ∷ xs) = ap (λ r. x ∷ r) (numbers_as_class xs)
+
+-- a class whose initialisation has not begun is one of the program
+begun_within : (inits : List InitState) (c : ℕ) → is_not (init_at inits c) ≡ true → c < length inits
+begun_within [] c h = cc h
+begun_within (x ∷ xs) zero h = omega arith
+begun_within (x ∷ xs) (suc c) h = let l = begun_within xs c h in omega (arith, l)
+
+chain_within : (p : Program) (inits : List InitState) → length inits ≡ class_count p → (classes : List ℕ) → are_below (class_count p) (begins_with inits classes) ≡ true
+chain_within p inits e [] = refl
+chain_within p inits e (c ∷ classes) = cases (chain_within p inits e classes) (not_begun inits c) refl
   where
-    same : (a b : GroupView S I) → ◌≡◌ {A = Option (GroupView S I)} (Some a) (Some b) → a ≡ b
-    same a b h = cc h
-running_at p sets st (g ∷ groups) (suc which) group r e = running_at p sets st groups which group r.1 e
+    cases : are_below (class_count p) (begins_with inits classes) ≡ true → (b : Bool) → not_begun inits c ≡ b → are_below (class_count p) (begins_with inits (c ∷ classes)) ≡ true
+    cases rest true h =
+        ap (are_below (class_count p)) (begins_goes_on inits c classes h)
+        ∙ and_true (nat_lt c (class_count p)) (are_below (class_count p) (begins_with inits classes)) (lt-ltb c (class_count p) (subst (λ n. c < n) e (begun_within inits c h))) rest
+    cases rest false h = ap (are_below (class_count p)) (begins_stops inits c classes h)
 
-pub chosen_running : {S I : Type 0} (p : Program) (sets : Sets I) (allowed : I) (st after : StateView S I) (which : ℕ) (round : Round S I) (group : GroupView S I) → IsState p sets allowed st → IsBegun st after which round group → IsRunning p sets st group
-chosen_running p sets allowed st after which round group h b = running_at p sets st st.groups which group h.running b.chosen
-
-pub chosen_taken : {S I : Type 0} (p : Program) (sets : Sets I) (allowed : I) (st after : StateView S I) (which : ℕ) (round : Round S I) (group : GroupView S I) → IsState p sets allowed st → IsBegun st after which round group → IsTaken sets st.tree st.groups group (remove st.groups which)
-chosen_taken p sets allowed st after which round group h b = is_taken sets st.tree st.groups which group (some_within st.groups which group b.chosen) (place_of_some st.groups which group (sym b.chosen)) h.groups
-
--- it may make an attempt more
-pub may_spend : {S I : Type 0} (p : Program) (sets : Sets I) (allowed : I) (st after : StateView S I) (which : ℕ) (round : Round S I) (group : GroupView S I) → IsState p sets allowed st → IsBegun st after which round group → (c : List Bool) → sets.test (path_of group) c ≡ true → suc (attempts_at sets group c) < 2 ^ 64
-may_spend p sets allowed st after which round group h b c t =
-    let left = (chosen_running p sets allowed st after which round group h b).left c t in
-    let most = h.most in
-    omega (arith, left, most)
-
-pub chosen_is_group : {S I : Type 0} (p : Program) (sets : Sets I) (allowed : I) (st after : StateView S I) (which : ℕ) (round : Round S I) (group : GroupView S I) → IsState p sets allowed st → IsBegun st after which round group → IsGroup sets group
-chosen_is_group p sets allowed st after which round group h b = IsGroupIn-group sets st.tree group (chosen_running p sets allowed st after which round group h b).stands.is_group
-
--- ---- the others wait
-
-none_apart : {S I : Type 0} (sets : Sets I) (tree : List (Option (Caller S I))) (set : I) (groups : List (GroupView S I)) → sched.AreApart sets set groups → (c : List Bool) → sets.test set c ≡ true → sched.standing_at sets tree groups c ≡ None
-none_apart sets tree set [] a c t = refl
-none_apart {S = S} {I = I} sets tree set (group ∷ groups) a c t = cases (sets.test (path_of group) c) (a.0.apart c t) (none_apart sets tree set groups a.1 c t)
+length-first_inits : (p : Program) → core_count ≤ class_count p → length (first_inits p) ≡ class_count p
+length-first_inits p l =
+    length-append (replicate (class_count p - core_count) Not) (replicate core_count Done)
+    ∙ (λ i. length-replicate (class_count p - core_count) Not i + length-replicate core_count Done i)
+    ∙ fill (class_count p) core_count l
   where
-    cases : (b : Bool) → b ≡ false → sched.standing_at sets tree groups c ≡ None → (if b then Some (group_at sets tree group c) else sched.standing_at sets tree groups c) ≡ None
-    cases true h r = cc h
-    cases false h r = r
+    fill : (n k : ℕ) → k ≤ n → (n - k) + k ≡ n
+    fill n k l = omega (arith, l)
 
-pub rest_waits : {S I : Type 0} (p : Program) (sets : Sets I) (st : StateView S I) (which : ℕ) (group : GroupView S I) → AreWaiting p sets st.heap st.tree st.limit st.groups → IsTaken sets st.tree st.groups group (remove st.groups which) → AreWaiting p sets st.heap st.tree st.limit (remove st.groups which)
-rest_waits {S = S} {I = I} p sets st which group w k = record {
-  are_groups = k.others;
-  single = shaped_taken (is_one p) st.tree st.groups which w.single;
-  good = λ c. cases c (sets.test (path_of group) c) refl (w.good c);
+pub main_within : (p : Program) → core_count ≤ class_count p → are_below (class_count p) (main_chain p) ≡ true
+main_within p l = chain_within p (first_inits p) (length-first_inits p l) (superclasses p (main_class p))
+
+-- ---- blocking interfaces
+
+some_injective : {a b : ℕ} → Some a ≡ Some b → a ≡ b
+some_injective h = cc h
+
+found_within : (f : ℕ → Bool) (from n i : ℕ) → find f (range_with_len from n) ≡ Some i → i < from + n
+found_within f from zero i h = cc h
+found_within f from (suc n) i h = cases (found_within f (from + 1) n i) (f from) h
+  where
+    cases : (find f (range_with_len (from + 1) n) ≡ Some i → i < from + 1 + n) → (b : Bool) → cond b (Some from) (find f (range_with_len (from + 1) n)) ≡ Some i → i < from + suc n
+    cases rest true h =
+        let e : from ≡ i = some_injective h in
+        omega (arith, e)
+    cases rest false h = let l = rest h in omega (arith, l)
+
+blocked_within : (p : Program) (c i : ℕ) → blocked p c ≡ Some i → i < class_count p
+blocked_within p c i h = cases (is_interface p c) h
+  where
+    cases : (b : Bool) → elim b [ true ↦ None | false ↦ find (λ i. blocks p i && is_among i (superinterfaces p c)) (range_with_len 0 (class_count p)) ] ≡ Some i → i < class_count p
+    cases true h = cc h
+    cases false h = let l = found_within (λ i. blocks p i && is_among i (superinterfaces p c)) 0 (class_count p) i h in omega (arith, l)
+
+blocking_within : (p : Program) (cs : List ℕ) (i : ℕ) → chain_blocked p cs ≡ Some i → i < class_count p
+blocking_within p [] i h = cc h
+blocking_within p (c ∷ cs) i h = cases (blocking_within p cs i) (blocked p c) refl h
+  where
+    cases : (chain_blocked p cs ≡ Some i → i < class_count p) → (o : Option ℕ) → blocked p c ≡ o → elim o [ Some i ↦ Some i | None ↦ chain_blocked p cs ] ≡ Some i → i < class_count p
+    cases rest (Some j) e h = blocked_within p c i (e ∙ h)
+    cases rest None e h = rest h
+
+class_text-within : (p : Program) (i : ℕ) → i < class_count p → class_text p i ≡ (class_at p i).name
+class_text-within p i l = rw (lt-ltb i (class_count p) l) refl
+
+-- ---- starts
+
+number_of : (class : ClassId) (i : ℕ) → Some class ≡ Some (as_class i) → class.0 ≡ i
+number_of class i h = ap (λ o. (unwrap_or o class).0) h
+
+pub end_blocked : (p : Program) (i : ℕ) → chain_blocked p (main_chain p) ≡ Some i → EndAtStart p (Unsupported class_word (class_at p i).name (place_at p p.main.0 0))
+end_blocked p i e = record {
+  over = λ c.
+      ap (begun p (before_main p c) (main_class p) (main_chain p)) e
+      ∙ ap (λ text. Over (Unsupported class_word text (place_at p p.main.0 0)) (fresh_progress (before_main p c))) (class_text-within p i (blocking_within p (main_chain p) i e));
 }
-  where
-    cases : (c : List Bool) (b : Bool) → sets.test (path_of group) c ≡ b → IsGood sets st.heap st.limit c (sched.standing_at sets st.tree st.groups c) → IsGood sets st.heap st.limit c (sched.standing_at sets st.tree (remove st.groups which) c)
-    cases c true t g = let Q : Option PlainGroup → Type 0 = λ o. IsGood sets st.heap st.limit c o in subst Q (sym (none_apart sets st.tree (path_of group) (remove st.groups which) k.beside.apart c t)) tt
-    cases c false t g = let Q : Option PlainGroup → Type 0 = λ o. IsGood sets st.heap st.limit c o in subst Q (k.outside c t) g
 
-pub begun_underway : {S I : Type 0} (p : Program) (sets : Sets I) (allowed : I) (st after : StateView S I) (which : ℕ) (round : Round S I) (group : GroupView S I) → IsState p sets allowed st → IsBegun st after which round group → IsUnderway p sets st.heap st.limit round
-begun_underway p sets allowed st after which round group h b = record {
-  waiting = rw (b.callers, b.groups) (rest_waits p sets st which group (AreWaiting-running p sets st st.groups h.groups h.running) (chosen_taken p sets allowed st after which round group h b));
-  ends = rw b.ends h.ends;
-  spent = rw b.spent h.spent;
-  texts = rw b.texts tt;
+-- of an interface with its number as the code has it
+pub ended_by : (p : Program) (chain : List ClassId) (interface : ClassId) (end : End) → numbers_of chain ≡ main_chain p → Some interface ≡ option_map as_class (chain_blocked p (numbers_of chain)) → end ≡ Unsupported class_word (class_at p interface.0).name (place_at p p.main.0 0) → EndAtStart p end
+ended_by p chain interface end same found e = cases (chain_blocked p (main_chain p)) refl (found ∙ ap (λ cs. option_map as_class (chain_blocked p cs)) same)
+  where
+    cases : (o : Option ℕ) → chain_blocked p (main_chain p) ≡ o → Some interface ≡ option_map as_class o → EndAtStart p end
+    cases None h f = cc f
+    cases (Some i) h f =
+        let number : interface.0 ≡ i = number_of interface i f in
+        let text : end ≡ Unsupported class_word (class_at p i).name (place_at p p.main.0 0) = e ∙ ap (λ n. Unsupported class_word (class_at p n).name (place_at p p.main.0 0)) number in
+        subst (EndAtStart p) (sym text) (end_blocked p i h)
+
+start_free : (p : Program) (c : Config) → chain_blocked p (main_chain p) ≡ None → start p c ≡ if_quiet p (before_main p c) (main_chain p) (quiet_chain p (first_inits p) (main_class p))
+start_free p c e = ap (begun p (before_main p c) (main_class p) (main_chain p)) e
+
+pub end_full : (p : Program) → chain_blocked p (main_chain p) ≡ None → quiet_chain p (first_inits p) (main_class p) ≡ false → nat_lt frame_bound (1 + length (main_chain p)) ≡ true → EndAtStart p (Uncaught (codes "java/lang/StackOverflowError"))
+end_full p e q l = record {
+  over = λ c.
+      start_free p c e
+      ∙ ap (if_quiet p (before_main p c) (main_chain p)) q
+      ∙ ap (with_room p (before_main p c) (main_chain p)) l;
 }
 
--- ---- the group with its attempt counted
+pub goes_quiet : (p : Program) → chain_blocked p (main_chain p) ≡ None → quiet_chain p (first_inits p) (main_class p) ≡ true → GoOn p true
+goes_quiet p e q = record { live = λ c. start_free p c e ∙ ap (if_quiet p (before_main p c) (main_chain p)) q }
 
-same_top : {S I : Type 0} (s0 s1 : Sets I) (group spent : GroupView S I) (attempts : Conditional ℕ S I) → IsSpent s0 s1 group spent attempts → (spent.top ≡ group.top) × (spent.below ≡ group.below) × (spent.caller ≡ group.caller)
-same_top s0 s1 group spent attempts q = (ap (λ g. g.top) q.same, ap (λ g. g.below) q.same, ap (λ g. g.caller) q.same)
+pub goes_pushed : (p : Program) → chain_blocked p (main_chain p) ≡ None → quiet_chain p (first_inits p) (main_class p) ≡ false → nat_lt frame_bound (1 + length (main_chain p)) ≡ false → GoOn p false
+goes_pushed p e q l = record {
+  live = λ c.
+      start_free p c e
+      ∙ ap (if_quiet p (before_main p c) (main_chain p)) q
+      ∙ ap (with_room p (before_main p c) (main_chain p)) l;
+}
 
-pub spent_stands : {S I : Type 0} (p : Program) {s0 s1 : Sets I} → Extends s0 s1 → (heap : HeapView S I) → IsHeap s0 heap → (tree : List (Option (Caller S I))) (group spent : GroupView S I) (attempts : Conditional ℕ S I) → StandsIn p s0 heap tree group → IsSpent s0 s1 group spent attempts → StandsIn p s1 heap tree spent
-spent_stands {S = S} {I = I} p {s1 = s1} e heap v tree group spent attempts s q =
-    let later = StandsIn-extends p tree e heap v group s in
-    let same = same_top _ s1 group spent attempts q in
-    record {
-      is_group = IsGroupIn-same_callers tree (Extends-refl s1) group spent later.is_group q.is_group same.1 same.2 (λ c t. ap (λ i. s1.test i c) (sym q.path) ∙ t);
-      runs = record { inside = λ c t. later.runs.inside c (ap (λ i. s1.test i c) (sym q.path) ∙ t) };
-      held = λ c t. let P : GroupView S I → Type 0 = λ g. list_all (frame_held s1 heap c) (frames_at s1 (stack_of tree g) c) ≡ true in
-          subst P (sym q.same) (later.held c (ap (λ i. s1.test i c) (sym q.path) ∙ t));
-      shaped = let P : GroupView S I → Type 0 = λ g. list_all (is_shaped p) (shapes_of tree g) ≡ true in subst P (sym q.same) later.shaped;
-    }
+-- ---- a start that isn't built
 
-pub spent_state : {S I : Type 0} {s0 s1 : Sets I} → Extends s0 s1 → (heap : HeapView S I) → IsHeap s0 heap → (tree : List (Option (Caller S I))) (group spent : GroupView S I) (attempts : Conditional ℕ S I) → IsGroupIn s0 tree group → IsSpent s0 s1 group spent attempts → (c : List Bool) → state_at s1 heap tree spent c ≡ state_at s0 heap tree group c
-spent_state {s1 = s1} e heap v tree group spent attempts g q c = ap (λ x. state_at s1 heap tree x c) q.same ∙ state_at-extends tree e heap v group g c
+none_failed : (n d : ℕ) → is_failed (init_at (replicate n Done) d) ≡ false
+none_failed zero d = refl
+none_failed (suc n) zero = refl
+none_failed (suc n) (suc d) = none_failed n d
 
-pub spent_path : {S I : Type 0} {s0 s1 : Sets I} → Extends s0 s1 → (group spent : GroupView S I) (attempts : Conditional ℕ S I) → s0.is_known (path_of group) ≡ true → IsSpent s0 s1 group spent attempts → (c : List Bool) → s1.test (path_of spent) c ≡ s0.test (path_of group) c
-spent_path {s1 = s1} e group spent attempts k q c = ap (λ i. s1.test i c) q.path ∙ e.test (path_of group) c k
+first_not_failed : (n m d : ℕ) → is_failed (init_at (replicate n Not ++ replicate m Done) d) ≡ false
+first_not_failed zero m d = none_failed m d
+first_not_failed (suc n) m zero = refl
+first_not_failed (suc n) m (suc d) = first_not_failed n m d
 
-pub spent_may : {S I : Type 0} (p : Program) {s0 s1 : Sets I} → Extends s0 s1 → (allowed : I) (st after : StateView S I) (which : ℕ) (round : Round S I) (group spent : GroupView S I) (attempts : Conditional ℕ S I) → IsState p s0 allowed st → IsBegun st after which round group → IsSpent s0 s1 group spent attempts → MayAttempt p s1 st.heap spent
-spent_may p {s0 = s0} e allowed st after which round group spent attempts h b q =
-    let running = chosen_running p s0 allowed st after which round group h b in
-    record {
-      bounded = h.bounded;
-      is_heap = IsHeap-extends e st.heap h.is_heap;
-      is_for = h.is_for;
-      nonempty = λ n. (chosen_taken p s0 allowed st after which round group h b).beside.nonempty (sym q.path ∙ n ∙ e.never);
-      tree = st.tree;
-      stands = spent_stands p e st.heap h.is_heap st.tree group spent attempts running.stands q;
-    }
+not_failed : (p : Program) (o : Option ℕ) → has_failed (first_inits p) o ≡ false
+not_failed p None = refl
+not_failed p (Some d) = first_not_failed (class_count p - core_count) core_count d
 
-pub spent_kind : {S I : Type 0} (p : Program) (s0 s1 : Sets I) (allowed : I) (st after : StateView S I) (which : ℕ) (round : Round S I) (group spent : GroupView S I) (attempts : Conditional ℕ S I) → IsState p s0 allowed st → IsBegun st after which round group → IsSpent s0 s1 group spent attempts → (spent.top.kind ≡ Call) × (spent.below ≡ [])
-spent_kind p s0 s1 allowed st after which round group spent attempts h b q =
-    let running = chosen_running p s0 allowed st after which round group h b in
-    (ap (λ g. g.top.kind) q.same ∙ running.kind, ap (λ g. g.below) q.same ∙ running.single)
+-- the class of main is initialised already
+quiet_done : (p : Program) → main_chain p ≡ [] → quiet_chain p (first_inits p) (main_class p) ≡ true
+quiet_done p e =
+    let above = find (λ d. not (is_not (init_at (first_inits p) d))) (superclasses p (main_class p)) in
+    ap (λ chain. list_all (is_quiet p) chain && not (has_failed (first_inits p) above)) e
+    ∙ ap not (not_failed p above)
 
-pub spent_count : {S I : Type 0} (p : Program) {s0 s1 : Sets I} → Extends s0 s1 → (allowed : I) (st after : StateView S I) (which : ℕ) (round : Round S I) (group spent : GroupView S I) (attempts : Conditional ℕ S I) → IsState p s0 allowed st → IsBegun st after which round group → IsSpent s0 s1 group spent attempts → IsCount s1 spent st.limit attempts
-spent_count p {s0 = s0} {s1 = s1} e allowed st after which round group spent attempts h b q =
-    let running = chosen_running p s0 allowed st after which round group h b in
-    let known = IsGroup-path_known s0 group (chosen_is_group p s0 allowed st after which round group h b) in
-    record {
-      is_cond = q.is_cond;
-      scope = q.scope;
-      at = q.at;
-      bound = λ c t. let path = sym (spent_path e group spent attempts known q c) ∙ t in
-          let more = q.more c path in
-          let left = running.left c path in
-          omega (arith, more, left);
-    }
-
-pub begun_vacant : {S I : Type 0} (p : Program) {s0 s1 : Sets I} → Extends s0 s1 → (allowed : I) (st after : StateView S I) (which : ℕ) (round : Round S I) (group spent : GroupView S I) (attempts : Conditional ℕ S I) → IsState p s0 allowed st → IsBegun st after which round group → IsSpent s0 s1 group spent attempts → IsVacant s0 round (s1.test (path_of spent))
-begun_vacant {S = S} {I = I} p {s0 = s0} {s1 = s1} e allowed st after which round group spent attempts h b q =
-    let known = IsGroup-path_known s0 group (chosen_is_group p s0 allowed st after which round group h b) in
-    let taken = chosen_taken p s0 allowed st after which round group h b in
-    let path = λ (c : List Bool) (t : s1.test (path_of spent) c ≡ true). sym (spent_path e group spent attempts known q c) ∙ t in
-    record {
-      groups = λ c t. ap (λ gs. group_of s0 gs c) b.groups ∙ groups_apart s0 (path_of group) (remove st.groups which) c taken.beside.apart (path c t);
-      ends = λ c t. ap (λ xs. value_at s0 (leaves_of xs) c) b.ends ∙ (h.goes_on c (stands c st.groups which b.chosen (path c t))).end;
-      spent = λ c t. ap (λ xs. value_at s0 (leaves_of xs) c) b.spent ∙ (h.goes_on c (stands c st.groups which b.chosen (path c t))).spent;
-    }
+some_class : (p : Program) → quiet_chain p (first_inits p) (main_class p) ≡ false → 0 < length (main_chain p)
+some_class p q = cases (main_chain p) refl
   where
-    stands : (c : List Bool) (groups : List (GroupView S I)) (which : ℕ) → slice_get groups which ≡ Some group → s0.test (path_of group) c ≡ true → is_some (group_of s0 groups c) ≡ true
-    stands c [] which e t = cc e
-    stands c (g ∷ groups) zero e t = here (s0.test (path_of g) c) (ap (λ x. s0.test (path_of x) c) (same g group e) ∙ t)
-      where
-        same : (a b : GroupView S I) → ◌≡◌ {A = Option (GroupView S I)} (Some a) (Some b) → a ≡ b
-        same a b h = cc h
+    cases : (cs : List ℕ) → main_chain p ≡ cs → 0 < length cs
+    cases [] e = cc (q, quiet_done p e)
+    cases (c ∷ cs) e = omega arith
 
-        here : (b : Bool) → b ≡ true → is_some (if b then Some g else group_of s0 groups c) ≡ true
-        here true h = refl
-        here false h = cc h
-    stands c (g ∷ groups) (suc which) e t = later (s0.test (path_of g) c) (stands c groups which e t)
-      where
-        later : (b : Bool) → is_some (group_of s0 groups c) ≡ true → is_some (if b then Some g else group_of s0 groups c) ≡ true
-        later true h = refl
-        later false h = h
+above_main : (p : Program) (s : State) (cs : List ℕ) → 0 < length cs → is_single (with_frames p s cs) ≡ false
+above_main p s [] l = absurd (omega (arith, l))
+above_main p s (c ∷ below) l = refl
 
-pub begun_unwritten : {S I : Type 0} (st after : StateView S I) (which : ℕ) (round : Round S I) (group : GroupView S I) (sets : Sets I) (set : List Bool → Bool) → IsBegun st after which round group → IsUnwritten sets round set
-begun_unwritten st after which round group sets set b = record { texts = λ c t. ap (λ xs. value_at sets (leaves_of xs) c) b.texts }
+pushed_more : (p : Program) (c : Config) → quiet_chain p (first_inits p) (main_class p) ≡ false → is_single (first_state p c false) ≡ false
+pushed_more p c q = above_main p _ (reverse (main_chain p)) (rw length-reverse (some_class p q))
+
+unbuilt : (p : Program) (s : State) → is_single s ≡ false → is_built p s ≡ false
+unbuilt p s h = rw h refl
+
+-- the chain as the code has it
+pub chain_is : (p : Program) (slice chain : List ClassId) (states inits : List InitState) (class : ClassId) → slice ≡ chain → chain ≡ map as_class (init_chain p states class.0) → states ≡ inits → inits ≡ first_inits p → class ≡ (method_at p p.main.0).class → numbers_of slice ≡ main_chain p
+chain_is p slice chain states inits class s e t f q =
+    let first : states ≡ first_inits p = t ∙ f in
+    ap numbers_of (s ∙ e) ∙ numbers_as_class (init_chain p states class.0) ∙ (λ i. init_chain p (first i) (q i).0)
+
+pub quiet_is : (p : Program) (is_quiet : Bool) (states inits : List InitState) (class : ClassId) → is_quiet ≡ quiet_chain p states class.0 → states ≡ inits → inits ≡ first_inits p → class ≡ (method_at p p.main.0).class → is_quiet ≡ quiet_chain p (first_inits p) (main_class p)
+quiet_is p is_quiet states inits class e t f q =
+    let first : states ≡ first_inits p = t ∙ f in
+    e ∙ (λ i. quiet_chain p (first i) (q i).0)
+
+-- a set that isn't empty holds a configuration
+not_false : (b : Bool) → b ≢ false → b ≡ true
+not_false true h = refl
+not_false false h = absurd (h refl)
+
+some_config : {I : Type 0} {sets : Sets I} → IsLawful sets → (id : I) → sets.is_known id ≡ true → id ≢ sets.never → (c : List Bool) × (sets.test id c ≡ true)
+some_config {sets = sets} lawful id k n =
+    let d = some_difference lawful id sets.never k lawful.never_known n in
+    (d.0, not_false (sets.test id d.0) (λ e. d.1 (e ∙ sym (lawful.never_test d.0))))
+
+meets : (p : Program) (is_allowed : Config → Bool) (limit : ℕ) → 0 < limit → quiet_chain p (first_inits p) (main_class p) ≡ false → GoOn p false → (c : Config) → is_allowed c ≡ true → MeetsUnbuilt p is_allowed limit
+meets p is_allowed limit l q g c t = record {
+  config = c;
+  allowed = t;
+  made = 0;
+  progress = fresh_progress (first_state p c false);
+  comes = g.live c;
+  left = ap (λ b. cond b (Some (fresh_progress (first_state p c false))) None) (lt-ltb 0 limit l);
+  unbuilt = unbuilt p (first_state p c false) (pushed_more p c q);
+}
+
+pub meets_unbuilt : {I : Type 0} (p : Program) {sets : Sets I} → IsLawful sets → (allowed : I) (limit : ℕ) (is_quiet : Bool) → sets.is_known allowed ≡ true → allowed ≢ sets.never → 0 < limit → is_quiet ≡ quiet_chain p (first_inits p) (main_class p) → is_quiet ≡ false → GoOn p is_quiet → MeetsUnbuilt p (sets.test allowed) limit
+meets_unbuilt p {sets = sets} lawful allowed limit is_quiet k n l e f g =
+    let some = some_config lawful allowed k n in
+    meets p (sets.test allowed) limit l (sym e ∙ f) (subst (GoOn p) f g) some.0 some.1

@@ -33,7 +33,7 @@ use Rattle.vx_rounds.specs.Attempted.{carried_out_row}
 use Rattle.vx_rounds.specs.Placing.{AreWaiting, Waiting, end_after, piece_after, spent_after, waiting_at, waiting_in, waits_after}
 use Rattle.vx_rounds.specs.Rounds.{IsRound, after_round, pieces_in, written}
 use Rattle.vx_rounds.specs.State.{AreRunning, GoesOn, IsNowhere, IsState, Runs, Standing, StateView, attempts_left, configurations, group_of, left_of, most_attempts, output_at, progress_at, shared_ids, standing_at, standing_of}
-use Rattle.vx_rounds.proofs.Beginning.{chosen_running}
+use Rattle.vx_rounds.proofs.Opening.{chosen_running}
 use Rattle.vx_rounds.proofs.Keeping.{AreKnown-kept, findings_known, output_kept}
 use Rattle.vx_rounds.proofs.Running.{AreRunning-waiting, standing_at-by, standing_by}
 use Rattle.vx_rounds.proofs.Standing.{bytes_after, bytes_in, output_append, output_of_round, some_after, stands_after, waits_goes, wrote_there}

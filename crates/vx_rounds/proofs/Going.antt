@@ -169,10 +169,10 @@ IsPut-parted {S = S} {I = I} p {s0 = s0} {s1 = s1} {s2 = s2} s3 e1 e2 heap v lim
     (λ c l h. attempts_at-extends e2 going going_is c ∙ part_attempts p e1 heap v (left_in s0 group used) group going (λ d t. both_first (s0.test (path_of group) d) (not (s0.test used d)) t) s qg c (sym (e2.test (path_of going) c known) ∙ holds (s2.test (path_of going) c) l (Goes (state_at s2 heap [] going c)) h)) q in
     used_same p s0 s3 heap limit (attempts_at s0 group) (λ c. option_or (goes c) (ends c)) (leads_in s0 (path_of group) (λ c. Goes (state_at s0 heap [] group c))) before after
     (λ c. cases c (s0.test (path_of group) c) (s0.test used c) (s1.test (path_of done) c) (s2.test (path_of going) c)
-        (λ h. ap (λ o. unwrap_or o 0) ((uu.1 c).0 h))
-        (λ h. state_at-extends [] e2 heap (IsHeap-extends e1 heap v) going (StandsIn-part p [] e1 heap v (left_in s0 group used) group going (λ d t. both_first (s0.test (path_of group) d) (not (s0.test used d)) t) s qg).is_group c ∙ state_at-part p [] e1 heap v (left_in s0 group used) group going s qg c h)
-        (part_path s0 s1 (used_in s0 group used) group done qd c)
-        (e2.test (path_of going) c known ∙ part_path s0 s1 (left_in s0 group used) group going qg c))
+    (λ h. ap (λ o. unwrap_or o 0) ((uu.1 c).0 h))
+    (λ h. state_at-extends [] e2 heap (IsHeap-extends e1 heap v) going (StandsIn-part p [] e1 heap v (left_in s0 group used) group going (λ d t. both_first (s0.test (path_of group) d) (not (s0.test used d)) t) s qg).is_group c ∙ state_at-part p [] e1 heap v (left_in s0 group used) group going s qg c h)
+    (part_path s0 s1 (used_in s0 group used) group done qd c)
+    (e2.test (path_of going) c known ∙ part_path s0 s1 (left_in s0 group used) group going qg c))
     (IsPut-then p s0 s2 s3 heap limit (attempts_at s0 group) ends goes before middle after first second)
   where
     holds : (b : Bool) (l m : Next) → (if b then Some m else None) ≡ Some l → b ≡ true

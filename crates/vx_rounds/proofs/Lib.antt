@@ -13,9 +13,14 @@ pub mod Refusals
 pub mod Making
 pub mod Running
 pub mod Keeping
-pub mod Beginning
+pub mod Opening
 pub mod Configurations
 pub mod Turning
 pub mod Trees
 pub mod Standing
 pub mod Closing
+pub mod Counting
+pub mod Beginning
+pub mod Marking
+pub mod MainGroup
+pub mod Started

@@ -125,12 +125,14 @@ has_going p e heap limit group attempts k (shared.Ended condition end) h = tt
 
 pub are_placeable : {S I : Type 0} (p : Program) {old new : Sets I} → Extends old new → (heap : HeapView S I) (limit : ℕ) (group : GroupView S I) (attempts : Conditional ℕ S I) → IsCount old group limit attempts → (set : List Bool → Bool) (xs : List (Outcome S I)) → ((c : List Bool) → set c ≡ true → new.test attempts.scope c ≡ true) → Divide new set xs → AreOutcomes p old new heap [] group xs → ArePlaceable p new heap attempts xs
 are_placeable p e heap limit group attempts k set [] i d h = tt
-are_placeable {S = S} {I = I} p {old = old} {new = new} e heap limit group attempts k set (x ∷ xs) i d h =
-    (record {
-      known = condition_known p old new heap [] group x h.0;
-      inside = record { inside = λ c t. i c (d.0 c t) };
-      going = has_going p e heap limit group attempts k x h.0;
-    }, are_placeable p e heap limit group attempts k (λ c. set c && not (new.test (condition_of x) c)) xs (λ c t. i c (first (set c) (not (new.test (condition_of x) c)) t)) d.1 h.1)
+are_placeable {S = S} {I = I} p {old = old} {new = new} e heap limit group attempts k set (x ∷ xs) i d h = (
+  record {
+    known = condition_known p old new heap [] group x h.0;
+    inside = record { inside = λ c t. i c (d.0 c t) };
+    going = has_going p e heap limit group attempts k x h.0;
+  },
+  are_placeable p e heap limit group attempts k (λ c. set c && not (new.test (condition_of x) c)) xs (λ c t. i c (first (set c) (not (new.test (condition_of x) c)) t)) d.1 h.1,
+)
   where
     first : (a b : Bool) → (a && b) ≡ true → a ≡ true
     first true b h = refl

@@ -74,9 +74,10 @@ one_shapes p (x ∷ []) (y ∷ []) h k e =
 
 pub FitsAmong-single : {S I : Type 0} (p : Program) (sets : Sets I) (tree : List (Option (Caller S I))) (group : GroupView S I) (groups : List (GroupView S I)) → IsGroupIn sets tree group → is_one p (shapes_of tree group) ≡ true → sched.AreGroups sets tree groups → sched.are_shaped (is_one p) tree groups ≡ true → sched.FitsAmong tree group groups
 FitsAmong-single p sets tree group [] g h a s = tt
-FitsAmong-single p sets tree group (other ∷ others) g h a s =
-    (λ e. one_shapes p (shapes_of tree other) (shapes_of tree group) (both_first (is_one p (shapes_of tree other)) (sched.are_shaped (is_one p) tree others) s) h (sym (key_of-shapes sets tree other a.0.is_group) ∙ e ∙ key_of-shapes sets tree group g),
-    FitsAmong-single p sets tree group others g h a.1 (both_second (is_one p (shapes_of tree other)) (sched.are_shaped (is_one p) tree others) s))
+FitsAmong-single p sets tree group (other ∷ others) g h a s = (
+  λ e. one_shapes p (shapes_of tree other) (shapes_of tree group) (both_first (is_one p (shapes_of tree other)) (sched.are_shaped (is_one p) tree others) s) h (sym (key_of-shapes sets tree other a.0.is_group) ∙ e ∙ key_of-shapes sets tree group g),
+  FitsAmong-single p sets tree group others g h a.1 (both_second (is_one p (shapes_of tree other)) (sched.are_shaped (is_one p) tree others) s),
+)
 
 -- the shapes of a group of one frame
 pub single_shapes : {S I : Type 0} (p : Program) (sets : Sets I) (heap : HeapView S I) (tree : List (Option (Caller S I))) (group : GroupView S I) → StandsIn p sets heap [] group → is_call group.top.kind ≡ true → is_one p (shapes_of tree group) ≡ true
@@ -115,9 +116,10 @@ waiting_at-placed {S = S} {I = I} {old = old} {new = new} {t0 = t0} {t1 = t1} e 
 -- ---- findings that stay
 
 pub findings_stay : {V S I : Type 0} (cmp : V → V → Ordering) {old new : Sets I} → Extends old new → (before after : List (Shared V S I)) → after ≡ before → AreLeaves cmp old (leaves_of before) → AreLeaves cmp new (leaves_of after) × ((c : List Bool) → value_at new (leaves_of after) c ≡ value_at old (leaves_of before) c)
-findings_stay {V = V} {S = S} {I = I} cmp {new = new} e before after q h =
-    (subst (λ xs. AreLeaves cmp new (leaves_of xs)) (sym q) (AreLeaves-extends cmp e (leaves_of before) h),
-    λ c. ap (λ xs. value_at new (leaves_of xs) c) q ∙ value_at-extends cmp e (leaves_of before) h c)
+findings_stay {V = V} {S = S} {I = I} cmp {new = new} e before after q h = (
+  subst (λ xs. AreLeaves cmp new (leaves_of xs)) (sym q) (AreLeaves-extends cmp e (leaves_of before) h),
+  λ c. ap (λ xs. value_at new (leaves_of xs) c) q ∙ value_at-extends cmp e (leaves_of before) h c,
+)
 
 below_limit : (a n : ℕ) → a < n → nat_lt a n ≡ true
 below_limit a n h = grind (arith, nat_tests)

@@ -28,7 +28,7 @@ use Rattle.vx_rounds.specs.Attempted.{carried_out_row}
 use Rattle.vx_rounds.specs.Placing.{AreWaiting, Waiting, end_after, led_by, piece_after, put_if, spent_after, waiting_at, waiting_in, waits_after}
 use Rattle.vx_rounds.specs.State.{AreRunning, IsRunning, IsState, StateView, attempts_left, configurations, group_of, left_of}
 use Rattle.vx_rounds.specs.Stepping.{IsBegun, IsMade, IsSpent, came_of}
-use Rattle.vx_rounds.proofs.Beginning.{begun_underway, chosen_is_group, chosen_running, chosen_taken, spent_path, spent_state}
+use Rattle.vx_rounds.proofs.Opening.{begun_underway, chosen_is_group, chosen_running, chosen_taken, spent_path, spent_state}
 use Rattle.vx_rounds.proofs.Configurations.{Contains-configurations, member_of, sum_falls}
 use Rattle.vx_rounds.proofs.Making.{alone_caller, no_below, stands_alone, state_alone}
 use Rattle.vx_rounds.proofs.Running.{AreRunning-waiting, AreWaiting-running, left_by, left_of-by}

@@ -3,3 +3,4 @@ pub mod Rounds
 pub mod Attempted
 pub mod Placing
 pub mod Stepping
+pub mod Starting

@@ -9,5 +9,5 @@ pub mod state;
 pub mod stepping;
 
 pub use starting::start;
-pub use state::State;
+pub use state::{State, sets_out};
 pub use stepping::step_group;

@@ -313,11 +313,7 @@ fn is_placeable<S: Space>(program: &Program, space: &S, outcome: &Outcome<S>) ->
 }
 
 /// Whether each outcome to which some configuration comes is built.
-pub(crate) fn have_places<S: Space>(
-    program: &Program,
-    space: &S,
-    outcomes: &[Outcome<S>],
-) -> bool
+pub(crate) fn have_places<S: Space>(program: &Program, space: &S, outcomes: &[Outcome<S>]) -> bool
     requires { AreConditionsKnown (S.sets space.now) outcomes.now }
     ensures yes { IsTrue result → HavePlaces program.now (S.sets space.now) outcomes.now }
     ensures no { result ≡ false → HasUnplaced program.now (S.sets space.now) outcomes.now }

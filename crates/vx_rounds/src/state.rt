@@ -1,7 +1,9 @@
 //! The state of all runs.
 
 ghost use Rattle.std.specs.Prelude.{◌≡◌, ◌++◌, OnOk};
-ghost use Rattle.vx_rounds.specs.State.{state_ids};
+ghost use Rattle.std.specs.List.{flat_map};
+ghost use Rattle.vx_group.specs.Group.{group_ids};
+ghost use Rattle.vx_rounds.specs.State.{shared_ids, state_ids};
 
 use std::alloc::AllocError;
 use std::marker::Model;
@@ -48,7 +50,13 @@ impl<S: Space> State<S> {
     }
 
     /// What was found, by a move: the texts in the order in which they were written, the ends, and the numbers of attempts.
-    pub fn into_found(self) -> (Vec<Shared<Piece, S>>, Vec<Shared<End, S>>, Vec<Shared<u64, S>>)
+    pub fn into_found(
+        self,
+    ) -> (
+        Vec<Shared<Piece, S>>,
+        Vec<Shared<End, S>>,
+        Vec<Shared<u64, S>>,
+    )
         ensures found { result.0.items ≡ self.found }
         ensures ends { result.1.items ≡ self.ends }
         ensures spent { result.2.items ≡ self.spent }
@@ -60,6 +68,31 @@ impl<S: Space> State<S> {
     pub fn ids_out(&self, ids: &mut Vec<S::Id>) -> Result<(), AllocError>
         ensures { OnOk result (ids.new.items ≡ ids.old.items ++ state_ids self.now) }
     {
-        Err(AllocError)
+        self.heap.ids_out(ids)?;
+        groups_out(self.groups.as_slice(), ids)?;
+        self.callers.ids_out(ids)?;
+        sets_out(self.found.as_slice(), ids)?;
+        sets_out(self.ends.as_slice(), ids)?;
+        sets_out(self.spent.as_slice(), ids)
     }
+}
+
+/// Appends the ids that groups hold by themselves.
+fn groups_out<S: Space>(groups: &[Group<S>], ids: &mut Vec<S::Id>) -> Result<(), AllocError>
+    ensures { OnOk result (ids.new.items ≡ ids.old.items ++ flat_map group_ids groups.now) }
+{
+    for group in groups {
+        group.ids_out(ids)?;
+    }
+    Ok(())
+}
+
+/// Appends the sets of values.
+pub fn sets_out<V, S: Space>(list: &[Shared<V, S>], ids: &mut Vec<S::Id>) -> Result<(), AllocError>
+    ensures { OnOk result (ids.new.items ≡ ids.old.items ++ shared_ids list.now) }
+{
+    for shared in list {
+        ids.push(shared.condition)?;
+    }
+    Ok(())
 }

@@ -38,11 +38,7 @@ fn compact<S: Space>(alloc: Global, space: &mut S, state: &State<S>) -> Result<(
 }
 
 /// Takes the group of a place out, by a move, and all else that changes in a round.
-fn begin_round<S: Space>(
-    alloc: Global,
-    state: &mut State<S>,
-    which: usize,
-) -> (Round<S>, Group<S>)
+fn begin_round<S: Space>(alloc: Global, state: &mut State<S>, which: usize) -> (Round<S>, Group<S>)
     requires { which < length state.old.groups }
     ensures { IsBegun state.old state.new which result.0 result.1 }
 {
@@ -58,10 +54,7 @@ fn begin_round<S: Space>(
 }
 
 /// Counts the attempt for a group. Its numbers of attempts stand beside it too, since the group is given away.
-fn spend<S: Space>(
-    space: &mut S,
-    group: Group<S>,
-) -> Result<(Group<S>, Cond<u64, S>), SpaceFault>
+fn spend<S: Space>(space: &mut S, group: Group<S>) -> Result<(Group<S>, Cond<u64, S>), SpaceFault>
     requires group { IsGroup (S.sets space.old) group }
     requires below { (c : List Bool) → (S.sets space.old).test (path_of group) c ≡ true → suc (attempts_at (S.sets space.old) group c) < 2 ^ 64 }
     ensures extends { Extends (S.sets space.old) (S.sets space.new) }
@@ -163,7 +156,16 @@ pub fn step_group<S: Space>(
         return Err(AttemptFault::NoMemory);
     };
     let limit = state.limit;
-    make(alloc, program, space, &mut state.heap, limit, &mut round, spent, &attempts)?;
+    make(
+        alloc,
+        program,
+        space,
+        &mut state.heap,
+        limit,
+        &mut round,
+        spent,
+        &attempts,
+    )?;
     let Ok(()) = end_round(alloc, state, round) else {
         return Err(AttemptFault::NoMemory);
     };

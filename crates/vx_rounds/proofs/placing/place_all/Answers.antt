@@ -10,9 +10,10 @@ use Rattle.vx_rounds.proofs.placing.place_all.Goals as goal
 
 pub loop-outcome-init : goal.loop-outcome-init
 loop-outcome-init g c =
-    let gives = c.into_iter-outcome-iterator.ensures.into_iter_gives in
-    (omega (arith, gives.1, ap length gives.0, c.args.outcomes.ok.0),
-    rw gives.0 (IsPlacing-start c.args.setting.now.program.now _ c.args.setting.now.heap.now c.args.setting.now.limit c.args.attempts.now c.args.round.now c.args.outcomes.items c.requires.underway c.requires.divide c.requires.placeable c.requires.places))
+    let gives = c.into_iter-outcome-iterator.ensures.into_iter_gives in (
+      omega (arith, gives.1, ap length gives.0, c.args.outcomes.ok.0),
+      rw gives.0 (IsPlacing-start c.args.setting.now.program.now _ c.args.setting.now.heap.now c.args.setting.now.limit c.args.attempts.now c.args.round.now c.args.outcomes.items c.requires.underway c.requires.divide c.requires.placeable c.requires.places),
+    )
 
 pub place_outcome-requires-clause-heap : goal.place_outcome-requires-clause-heap
 place_outcome-requires-clause-heap g c = IsHeap-extends c.loop-outcome.invariant.1.extends c.args.setting.now.heap.now c.requires.heap
@@ -51,9 +52,10 @@ returns-in_err-place_outcome-clause-extends g c = Extends-trans c.loop-outcome.i
 
 pub loop-outcome-preserved : goal.loop-outcome-preserved
 loop-outcome-preserved g c =
-    let k = rw c.in-Some.ensures.steps.0 at c.loop-outcome.invariant.1 in
-    (omega (arith, c.loop-outcome.invariant.0, c.in-Some.ensures.steps.1, ap length c.in-Some.ensures.steps.0),
-    IsPlacing-step c.args.setting.now.program.now (g.met.S.Space.lawful c.args.space.now) c.args.setting.now.heap.now c.requires.heap c.args.setting.now.limit c.args.attempts.now c.requires.attempts c.args.round.now c.loop-outcome.round c.place_outcome.new.round c.args.outcomes.items (into_iter_items c.next.new.self) c.in-Some.outcome k c.in_ok-place_outcome.ensures.extends c.in_ok-place_outcome.ensures.placed)
+    let k = rw c.in-Some.ensures.steps.0 at c.loop-outcome.invariant.1 in (
+      omega (arith, c.loop-outcome.invariant.0, c.in-Some.ensures.steps.1, ap length c.in-Some.ensures.steps.0),
+      IsPlacing-step c.args.setting.now.program.now (g.met.S.Space.lawful c.args.space.now) c.args.setting.now.heap.now c.requires.heap c.args.setting.now.limit c.args.attempts.now c.requires.attempts c.args.round.now c.loop-outcome.round c.place_outcome.new.round c.args.outcomes.items (into_iter_items c.next.new.self) c.in-Some.outcome k c.in_ok-place_outcome.ensures.extends c.in_ok-place_outcome.ensures.placed,
+    )
 
 pub returns-clause-extends : goal.returns-clause-extends
 returns-clause-extends g c = c.loop-outcome.invariant.1.extends

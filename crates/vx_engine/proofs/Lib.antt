@@ -1,0 +1,11 @@
+pub mod Abreast
+pub mod Apart
+pub mod Configurations
+pub mod Falling
+pub mod FirstKeys
+pub mod Grouped
+pub mod LockEnds
+pub mod LockRounds
+pub mod Runs
+pub mod Standings
+pub mod Underway

@@ -1,0 +1,14 @@
+use Rattle.std.proofs.Common.{ℕ, List}
+use Rattle.vx_engine.proofs.Underway.{IsUnderway}
+use Rattle.vx_rounds.specs.State.{attempts_left}
+use Rattle.vx_sched.specs.Picks.{IsFirstKey}
+use Rattle.vx_value.specs.declared.key.KeyPart.{KeyPart}
+use Rattle.vx_engine.proofs.running.run_with.Given as goal
+
+abbrev pub invariant-rounds : goal.invariant-rounds
+invariant-rounds g l =
+    let start = g.S.Space.sets l.fn.space in
+    IsUnderway l.program (g.S.Space.sets l.space) start.options (start.test l.fn.allowed) l.fn.limit ((keys : List (List KeyPart)) (place : ℕ) → g.K.Picker.picks keys place → IsFirstKey keys place) l.state
+
+abbrev pub decreases-rounds : goal.decreases-rounds
+decreases-rounds g l = attempts_left (g.S.Space.sets l.space) l.state

@@ -1,0 +1,102 @@
+-- Groups that go past the instruction, with a value put on the operands or one taken off.
+use Rattle.std.proofs.Common.{◌≡◌, ℕ, ◌+◌, Bool, true, false, List, [], ◌∷◌, ◌++◌, ◌&&◌, ◌||◌, refl, sym, ◌∙◌, ap, subst, map, drop, length}
+use Rattle.std.specs.Prelude.{if◌then◌else◌, not}
+use Rattle.vx_cond.specs.Cond.{Conditional}
+use Rattle.vx_cond.specs.Row.{Conditionals, IsRow}
+use Rattle.vx_cond.specs.Slots.{slot_at}
+use Rattle.vx_cond.proofs.RowSteps.{IsRow-popped, IsRow-push}
+use Rattle.vx_cond.proofs.RowLaws.{IsRow-extends}
+use Rattle.vx_frame.specs.Frame.{Shape}
+use Rattle.vx_frame.proofs.FrameLaws.{IsFrame-stack, frame_at-extends}
+use Rattle.vx_group.specs.Group.{GroupView, IsGroup, IsPartOf, path_of}
+use Rattle.vx_group.proofs.GroupLaws.{IsGroup-path_known, IsGroup-top}
+use Rattle.vx_heap.specs.Heap.{HeapView, IsStaticRead, are_held, value_of}
+use Rattle.vx_heap.proofs.HeapLaws.{IsHeap-extends, is_held-extends, value_of-extends}
+use Rattle.vx_java.specs.Machine.{Go, State, Top, at_position, go}
+use Rattle.vx_java.specs.Machine.{Outcome as PlainOutcome}
+use Rattle.vx_link.specs.declared.program.Program.{Program}
+use Rattle.vx_list.specs.Places.{item_or}
+use Rattle.vx_outcome.specs.declared.outcome.Outcome.{Outcome}
+use Rattle.vx_outcome.specs.declared.outcome.Outcome.TheVariants as shared
+use Rattle.vx_space.specs.Sets.{Extends, Sets}
+use Rattle.vx_stands.specs.Answering.{operands_at}
+use Rattle.vx_stands.specs.Sites.{Gives, GivesAt, here}
+use Rattle.vx_stands.specs.Stands.{CameTo, state_at}
+use Rattle.vx_stands.specs.declared.site.Site.{Site}
+use Rattle.vx_stands.proofs.AnswerLaws.{operands_at-push}
+use Rattle.vx_stands.proofs.OutcomeStates.{CameTo-append, CameTo-extends, CameTo-one, CameTo-same}
+use Rattle.vx_stands.proofs.PartLaws.{jumped-gives}
+use Rattle.vx_stands.proofs.SettleLaws.{stack_scope}
+use Rattle.vx_stands.proofs.StateLaws.{Continues-moved, both, operands_held, state_at-moved}
+use Rattle.vx_value.specs.Slot.{slot_cmp}
+use Rattle.vx_value.specs.declared.slot.Slot.{Slot}
+use Rattle.vx_fields.specs.Initialising.{GivesWithin}
+use Rattle.vx_fields.proofs.Splitting.{GivesWithin-part, both_first, both_second}
+
+-- the operands of a group over a later space
+pub operands_later : {S I : Type 0} {s0 s1 : Sets I} → Extends s0 s1 → (group : GroupView S I) → IsGroup s0 group → (c : List Bool) → operands_at s1 group.top.stack c ≡ operands_at s0 group.top.stack c
+operands_later e group v c = λ i. (frame_at-extends e group.top (IsGroup-top _ group v) c i).operands
+
+-- ---- getstatic
+
+pub got-gives : {S I : Type 0} (site : Site) {s0 s1 : Sets I} (group after : GroupView S I) (value : Conditional Slot S I) (field : ℕ) (outcomes : List (Outcome S I)) (heap : HeapView S I) → IsGroup s0 group → Extends s0 s1 → IsStaticRead s0 s1 heap field (path_of group) value → after ≡ record group { top = record (group.top) { position = group.top.position + site.size; stack = record (group.top.stack) { conds = group.top.stack.conds ++ value ∷ [] } } } → outcomes ≡ shared.Go after ∷ [] → GivesAt site.program.now (λ _ _ s. go (here site s) (item_or s.statics field Top ∷ s.top.operands)) s0 s1 group outcomes heap
+got-gives {S = S} {I = I} site {s0 = s0} {s1 = s1} group after value field outcomes heap alone e r same made tree h s =
+    let p = site.program.now in
+    let stack : Conditionals Slot S I = record (group.top.stack) { conds = group.top.stack.conds ++ value ∷ [] } in
+    let position = group.top.position + site.size in
+    let what : List Bool → PlainOutcome = λ c. let state = state_at s0 heap tree group c in go (here site state) (item_or state.statics field Top ∷ state.top.operands) in
+    let operands : List Bool → List Slot = λ c. slot_at s1 value c ∷ operands_at s0 group.top.stack c in
+    let row = IsRow-push slot_cmp s1 group.top.stack value (IsRow-extends slot_cmp e group.top.stack (IsFrame-stack s0 group.top (IsGroup-top s0 group alone))) r.is_cond (r.scope ∙ sym (stack_scope s0 group alone)) in
+    let at : (c : List Bool) → operands_at s1 stack c ≡ operands c = λ c. operands_at-push s1 group.top.stack value c ∙ ap (λ slots. slot_at s1 value c ∷ slots) (operands_later e group alone c) in
+    let held : (c : List Bool) → s0.test (path_of group) c ≡ true → are_held s0 heap c (operands c) ≡ true = λ c t. both _ _ (sym (is_held-extends e heap h c (slot_at s1 value c)) ∙ r.held c t) (operands_held p s0 heap tree group s c t) in
+    let continues = Continues-moved p tree e heap h group stack position operands s row (stack_scope s0 group alone) (λ c t. at c) held in
+    let P : List (Outcome S I) → Type 0 = λ xs. CameTo p s0 s1 heap tree group what (s0.test (path_of group)) xs in
+    subst P (sym (made ∙ ap (λ g. shared.Go g ∷ []) same)) (CameTo-one p s0 s1 heap tree group what (s0.test (path_of group)) (shared.Go (record group { top = record (group.top) { position = position; stack = stack } })) continues (λ c. e.test (path_of group) c (IsGroup-path_known s0 group alone)) (λ c t.
+    ap Go (state_at-moved p tree e heap h group stack position s c (operands c) (at c)) ∙ ap (λ v. Go (at_position (state_at s0 heap tree group c) position (v ∷ map (value_of s0 heap c) (operands_at s0 group.top.stack c)))) (sym (value_of-extends e heap h c (slot_at s1 value c)) ∙ r.at c t)))
+
+-- ---- putstatic
+
+pub put-gives : {S I : Type 0} (site : Site) (sets : Sets I) (group after : GroupView S I) (below : Conditionals Slot S I) (value : Conditional Slot S I) (outcomes : List (Outcome S I)) → IsGroup sets group → group.top.stack ≡ record below { conds = below.conds ++ value ∷ [] } → after ≡ record group { top = record (group.top) { position = group.top.position + site.size; stack = below } } → outcomes ≡ shared.Go after ∷ [] → Gives site.program.now (λ s. Go (at_position s (s.top.position + site.size) (drop 1 s.top.operands))) sets sets group outcomes
+put-gives {S = S} {I = I} site sets group after below value outcomes alone popped same made heap tree h s =
+    let P : Conditionals Slot S I → Type 0 = λ row. IsRow slot_cmp sets row in
+    let parts = IsRow-popped slot_cmp sets below value (subst P popped (IsFrame-stack sets group.top (IsGroup-top sets group alone))) in
+    let stack : after.top.stack ≡ below = ap (λ (g : GroupView S I). g.top.stack) same in
+    let moved : after ≡ record group { top = record (group.top) { position = group.top.position + site.size; stack = after.top.stack } } = same ∙ (λ i. record group { top = record (group.top) { position = group.top.position + site.size; stack = sym stack i } }) in
+    jumped-gives site.program.now sets group after 1 (group.top.position + site.size) outcomes moved (subst P (sym stack) parts.0) (ap (λ (r : Conditionals Slot S I). r.scope) stack ∙ sym (ap (λ (r : Conditionals Slot S I). r.scope) popped) ∙ stack_scope sets group alone) (λ c. ap (λ r. operands_at sets r c) stack ∙ ap (drop 1) (sym (ap (λ r. operands_at sets r c) popped ∙ operands_at-push sets below value c))) made heap tree h s
+
+-- ---- those that go on behind those that stop
+
+if_yes : {T : Type 0} (b : Bool) (x y : T) → b ≡ true → x ≡ (if b then x else y)
+if_yes b x y h = rw h refl
+
+if_no : {T : Type 0} (b : Bool) (x y : T) → (a : Bool) → (a && not b) ≡ true → y ≡ (if b then x else y)
+if_no true x y true h = cc
+if_no true x y false h = cc
+if_no false x y a h = refl
+
+either : (a b : Bool) → ((a && not b) || (a && b)) ≡ a
+either true true = refl
+either true false = refl
+either false b = refl
+
+apart : (a b : Bool) → (a && not b) ≡ true → (a && b) ≡ false
+apart true true h = cc
+apart true false h = refl
+apart false b h = refl
+
+pub going-gives : {S I : Type 0} (p : Program) {s0 s1 s2 : Sets I} (proceeds : List Bool → Bool) (group going : GroupView S I) (stops goes : HeapView S I → List Bool → State → PlainOutcome) (others made : List (Outcome S I)) (heap : HeapView S I) → Extends s0 s1 → IsPartOf s0 s1 (λ c. s0.test (path_of group) c && proceeds c) group going → GivesWithin p stops (λ c. s0.test (path_of group) c && not (proceeds c)) s0 s1 group others heap → Extends s1 s2 → GivesAt p goes s1 s2 going made heap → GivesAt p (λ h c s. if proceeds c then goes h c s else stops h c s) s0 s2 group (others ++ made) heap
+going-gives {S = S} {I = I} p {s0 = s0} {s1 = s1} {s2 = s2} proceeds group going stops goes others made heap e q stopped f went tree h s =
+    let path = s0.test (path_of group) in
+    let a : List Bool → Bool = λ c. path c && not (proceeds c) in
+    let b : List Bool → Bool = λ c. path c && proceeds c in
+    let says : HeapView S I → List Bool → State → PlainOutcome = λ h c s. if proceeds c then goes h c s else stops h c s in
+    let what : List Bool → PlainOutcome = λ c. says heap c (state_at s0 heap tree group c) in
+    let later = IsHeap-extends e heap h in
+    let xs = CameTo-extends p s0 tree f heap later group what a others (CameTo-same p s0 s1 heap tree group (λ c. stops heap c (state_at s0 heap tree group c)) what a a others (λ c. refl) (λ c t. if_no (proceeds c) (goes heap c (state_at s0 heap tree group c)) (stops heap c (state_at s0 heap tree group c)) (path c) t) (stopped tree h s)) in
+    let ys = GivesWithin-part p b group going says goes made heap e (λ c t. both_first (path c) (proceeds c) t) q (λ c t s. if_yes (proceeds c) (goes heap c s) (stops heap c s) (both_second (path c) (proceeds c) t)) went tree h s in
+    CameTo-same p s0 s2 heap tree group what what (λ c. a c || b c) path (others ++ made) (λ c. either (path c) (proceeds c)) (λ c t. refl) (CameTo-append p s0 s2 heap tree group what a b others made (λ c t. apart (path c) (proceeds c) t) xs ys)
+
+-- a part has as many operands as the group
+pub part_operands : {S I : Type 0} (s0 s1 : Sets I) (set : List Bool → Bool) (group part : GroupView S I) → IsPartOf s0 s1 set group part → length part.top.stack.conds ≡ length group.top.stack.conds
+unfolding IsPartOf
+part_operands s0 s1 set group part q = ap (λ (s : Shape). s.part.depth) q.shape

@@ -1,0 +1,89 @@
+-- Static fields, for all configurations of a group at once (JVMS 6.5 getstatic, putstatic).
+use Rattle.std.specs.Prelude.{◌≡◌, ℕ, Bool, true, false, List, [], ◌∷◌, ◌&&◌, ◌==◌, Option, Some, None, is_some, slice_set}
+use Rattle.vx_cond.specs.Cond.{IsInside}
+use Rattle.vx_desc.specs.Names.{is_clinit}
+use Rattle.vx_group.specs.Group.{GroupView, IsGroup, path_of}
+use Rattle.vx_heap.specs.Heap.{Globals, HeapView, IsHeap, IsHeapFor, are_held}
+use Rattle.vx_java.specs.Checks.{width_of_type}
+use Rattle.vx_java.specs.Fields.{Found, declaring, static_value}
+use Rattle.vx_java.specs.Ids.{HasClassNumbers}
+use Rattle.vx_java.specs.Initialisation.{when_initialised}
+use Rattle.vx_java.specs.Machine.{Here, Outcome, Value, go, has_room, illegal, when}
+use Rattle.vx_java.specs.declared.operation.Operation.{Operation}
+use Rattle.vx_java.specs.declared.operation.Operation.TheVariants.{GetStatic, PutStatic}
+use Rattle.vx_java.specs.declared.operation.Sort.{Sort}
+use Rattle.vx_java.specs.declared.operation.Sort.TheVariants as sort
+use Rattle.vx_link.specs.Parts.{field_at, method_at}
+use Rattle.vx_link.specs.declared.program.Program.{Program}
+use Rattle.vx_space.specs.Sets.{Sets}
+use Rattle.vx_stands.specs.Answering.{operands_at}
+use Rattle.vx_stands.specs.Sites.{HasPast}
+use Rattle.vx_stands.specs.declared.site.Site.{Site}
+use Rattle.vx_value.specs.Arithmetic.{narrow_of}
+use Rattle.vx_value.specs.declared.operation.Narrow.{Narrow}
+use Rattle.vx_value.specs.declared.slot.Slot.{Slot}
+use Rattle.vx_value.specs.declared.slot.Slot.TheVariants.{Top, Int, Long, Null, Ref}
+
+-- the operations of this family
+abbrev pub is_of_statics : Operation → Bool
+is_of_statics (GetStatic i) = true
+is_of_statics (PutStatic i) = true
+is_of_statics _ = false
+
+-- ---- one configuration
+
+-- getstatic of a field that is there
+abbrev pub got : Found → Here → Outcome
+got found h =
+    when (has_room h (width_of_type found.type) h.state.top.operands)
+    (when_initialised h (declaring h found) (λ g. go g (static_value g.state found ∷ g.state.top.operands)))
+    (illegal h)
+
+-- what a slot has to be for a field of a sort
+abbrev pub slot_is_of : Sort → Slot → Bool
+slot_is_of sort.Int (Int n) = true
+slot_is_of sort.Long (Long n) = true
+slot_is_of sort.Reference Null = true
+slot_is_of sort.Reference (Ref r) = true
+slot_is_of _ _ = false
+
+abbrev pub slot_fits : Option Sort → Slot → Bool
+slot_fits None slot = false
+slot_fits (Some sort) slot = slot_is_of sort slot
+
+-- the operand on top fits
+abbrev pub top_fits : Option Sort → List Slot → Bool
+top_fits sort [] = false
+top_fits sort (slot ∷ slots) = slot_fits sort slot
+
+abbrev pub top_of : List Slot → Slot
+top_of [] = Top
+top_of (slot ∷ slots) = slot
+
+-- the slot of a store
+abbrev pub narrowed_slot : Option Narrow → Slot → Slot
+narrowed_slot (Some narrow) (Int n) = Int (narrow_of narrow n)
+narrowed_slot _ slot = slot
+
+-- an option keeps its value where the <clinit> of its own class writes it
+abbrev pub keeps_option : Program → (method field : ℕ) → Bool
+keeps_option p method field =
+    is_some (field_at p field).option
+    && (is_clinit (method_at p method).name && ((method_at p method).class.0 == (field_at p field).class.0))
+
+-- a store to a static field
+abbrev pub stored : (keeps : Bool) → (field : ℕ) → Value → Globals → Globals
+stored true field v g = g
+stored false field v g = record g { statics = slice_set g.statics field v }
+
+-- ---- a group
+
+-- a group runs at an instruction
+pub record IsRunning {S I : Type 0} (site : Site) (sets : Sets I) (heap : HeapView S I) (group : GroupView S I) : Type 0 where
+  pub classes : HasClassNumbers site.program.now
+  pub is_heap : IsHeap sets heap
+  pub is_for : IsHeapFor site.program.now heap
+  pub is_group : IsGroup sets group
+  pub runs : IsInside sets (path_of group) heap.allowed
+  pub past : HasPast site group
+  pub held : (c : List Bool) → sets.test (path_of group) c ≡ true → are_held sets heap c (operands_at sets group.top.stack c) ≡ true

@@ -1,0 +1,163 @@
+//! What a store or a load of a static field asks of the operands, at each configuration of a group.
+
+ghost use Rattle.std.specs.Prelude.{◌≡◌, ◌&&◌, ◌+◌, ◌-◌, ◌<◌, ◌^◌, Bool, IfOk, List, Some, length, nat_le, slice_get, true};
+ghost use Rattle.vx_cond.specs.Cond.{IsCond, IsInside};
+ghost use Rattle.vx_cond.specs.Slots.{slot_at, slots_at};
+ghost use Rattle.vx_group.specs.Group.{IsGroup, path_of};
+ghost use Rattle.vx_java.specs.Checks.{sort_of, width_of_type};
+ghost use Rattle.vx_java.specs.FirstObjects.{narrow_of_type};
+ghost use Rattle.vx_space.specs.Sets.{Extends, IsKnown, IsSet};
+ghost use Rattle.vx_stands.specs.Answering.{operands_at};
+ghost use Rattle.vx_stands.specs.Widths.{slots_size};
+ghost use Rattle.vx_value.specs.Slot.{slot_cmp};
+ghost use Rattle.vx_fields.specs.Statics.{narrowed_slot, slot_fits, slot_is_of, top_fits, top_of};
+
+use crate::initialising::where_yes;
+use crate::references::sort_of;
+use std::alloc::Global;
+use vx_cond::Cond;
+use vx_desc::{Base, JavaType};
+use vx_group::Group;
+use vx_java::Sort;
+use vx_numbers::narrow;
+use vx_space::{Space, SpaceFault};
+use vx_stands::stack_size;
+use vx_value::{Narrow, Slot};
+
+/// How many words a value of a type takes on the operand stack; a float or a double is never one.
+fn width_of(field_type: JavaType) -> u64
+    ensures { result ≡ width_of_type field_type }
+{
+    match sort_of(field_type) {
+        Some(Sort::Long) => 2,
+        Some(Sort::Int | Sort::Reference) => 1,
+        None => 0,
+    }
+}
+
+/// Whether a value of so many words fits beside operands of a size.
+fn has_room(size: u64, width: u64, room: u16) -> bool
+    ensures { result ≡ nat_le (width + size) room }
+{
+    size.saturating_add(width) <= u64::from(room)
+}
+
+fn is_of(sort: Sort, slot: Slot) -> bool
+    ensures { result ≡ slot_is_of sort slot }
+{
+    match (sort, slot) {
+        (Sort::Int, Slot::Int(_))
+        | (Sort::Long, Slot::Long(_))
+        | (Sort::Reference, Slot::Null | Slot::Ref(_)) => true,
+        _ => false,
+    }
+}
+
+/// Whether a slot is of the sort of a type.
+fn fits(field_type: JavaType, slot: Slot) -> bool
+    ensures { result ≡ slot_fits (sort_of field_type) slot }
+{
+    match sort_of(field_type) {
+        Some(sort) => is_of(sort, slot),
+        None => false,
+    }
+}
+
+/// What a store to a field of a type narrows an int to.
+fn narrow_of(field_type: JavaType) -> Option<Narrow>
+    ensures { result ≡ narrow_of_type field_type }
+{
+    if field_type.dimensions != 0 {
+        return None;
+    }
+    match field_type.base {
+        Base::Byte => Some(Narrow::Byte),
+        Base::Char => Some(Narrow::Char),
+        Base::Short => Some(Narrow::Short),
+        Base::Bool => Some(Narrow::Bool),
+        Base::Double | Base::Float | Base::Long | Base::Class | Base::Int => None,
+    }
+}
+
+/// The slot that a store to a field of a type puts there (JVMS 6.5 putstatic).
+fn narrowed(field_type: JavaType, slot: Slot) -> Slot
+    ensures { result ≡ narrowed_slot (narrow_of_type field_type) slot }
+{
+    match (narrow_of(field_type), slot) {
+        (Some(to), Slot::Int(n)) => Slot::Int(narrow(to, n)),
+        _ => slot,
+    }
+}
+
+/// The configurations of a group in which a value of a type has room on the operands.
+pub(crate) fn where_room<S: Space>(
+    alloc: Global,
+    space: &mut S,
+    group: &Group<S>,
+    field_type: JavaType,
+    room: u16,
+) -> Result<S::Id, SpaceFault>
+    requires group { IsGroup (S.sets space.old) group.now }
+    requires few { length group.now.top.stack.conds < 2 ^ 32 }
+    ensures extends { Extends (S.sets space.old) (S.sets space.new) }
+    ensures set { IfOk result (λ r. IsSet (S.sets space.new) r (λ c. (S.sets space.old).test (path_of group.now) c && nat_le (width_of_type field_type + slots_size (slots_at (S.sets space.old) group.now.top.stack c)) room)) }
+{
+    let width = width_of(field_type);
+    let sizes = stack_size(alloc, space, &group.top_frame().stack)?;
+    let is_within = |size: u64| -> bool
+        ensures { result ≡ nat_le (width + size) room }
+    { has_room(size, width, room) };
+    let answers = sizes.map(space, is_within)?;
+    Ok(where_yes(space, &answers))
+}
+
+/// The operand on top.
+fn top_operand<S: Space>(group: &Group<S>) -> &Cond<Slot, S>
+    requires { 0 < length group.now.top.stack.conds }
+    ensures { Some result.now ≡ slice_get group.now.top.stack.conds (length group.now.top.stack.conds - 1) }
+{
+    let stack = &group.top_frame().stack;
+    stack.get(stack.len() - 1)
+}
+
+/// The configurations of a group, which has an operand, in which the operand on top is of the sort of a type.
+pub(crate) fn where_fitting<S: Space>(
+    space: &mut S,
+    group: &Group<S>,
+    field_type: JavaType,
+) -> Result<S::Id, SpaceFault>
+    requires group { IsGroup (S.sets space.old) group.now }
+    requires operand { 0 < length group.now.top.stack.conds }
+    ensures extends { Extends (S.sets space.old) (S.sets space.new) }
+    ensures set { IfOk result (λ r. IsSet (S.sets space.new) r (λ c. (S.sets space.old).test (path_of group.now) c && top_fits (sort_of field_type) (operands_at (S.sets space.old) group.now.top.stack c))) }
+{
+    let is_fitting = |slot: Slot| -> bool
+        ensures { result ≡ slot_fits (sort_of field_type) slot }
+    { fits(field_type, slot) };
+    let answers = top_operand(group).map(space, is_fitting)?;
+    Ok(where_yes(space, &answers))
+}
+
+/// The operand on top of a group, as a store to a field of a type puts it there, inside a path.
+pub(crate) fn narrowed_top<S: Space>(
+    space: &mut S,
+    group: &Group<S>,
+    field_type: JavaType,
+    path: S::Id,
+) -> Result<Cond<Slot, S>, SpaceFault>
+    requires group { IsGroup (S.sets space.old) group.now }
+    requires operand { 0 < length group.now.top.stack.conds }
+    requires known { IsKnown (S.sets space.old) path }
+    requires inside { IsInside (S.sets space.old) path (path_of group.now) }
+    ensures extends { Extends (S.sets space.old) (S.sets space.new) }
+    ensures cond { IfOk result (IsCond slot_cmp (S.sets space.new)) }
+    ensures scope { IfOk result (λ r. r.scope ≡ path) }
+    ensures at { IfOk result (λ r. (c : List Bool) → (S.sets space.old).test path c ≡ true → slot_at (S.sets space.new) r c ≡ narrowed_slot (narrow_of_type field_type) (top_of (operands_at (S.sets space.old) group.now.top.stack c))) }
+{
+    let inside = top_operand(group).restrict(space, path)?;
+    let as_stored = |slot: Slot| -> Slot
+        ensures { result ≡ narrowed_slot (narrow_of_type field_type) slot }
+    { narrowed(field_type, slot) };
+    let values = inside.map(space, as_stored)?;
+    Ok(values)
+}

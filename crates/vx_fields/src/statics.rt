@@ -1,0 +1,376 @@
+//! getstatic and putstatic for all configurations of a group at once (JVMS 6.5, 5.5).
+
+ghost use Rattle.std.specs.Prelude.{◌≡◌, ◌+◌, ◌<◌, ◌∷◌, ◌^◌, ℕ, Bool, IfOk, List, OnOk, drop, if◌then◌else◌, is_some, length, true};
+ghost use Rattle.vx_cond.specs.Cond.{IsInside};
+ghost use Rattle.vx_group.specs.Group.{IsGroup, path_of};
+ghost use Rattle.vx_heap.specs.Heap.{IsHeap, are_held, value_of};
+ghost use Rattle.vx_java.specs.Checks.{sort_of};
+ghost use Rattle.vx_java.specs.Fields.{put_value};
+ghost use Rattle.vx_java.specs.FirstObjects.{narrowed_value};
+ghost use Rattle.vx_java.specs.Machine.{Go, Top, at_position, go};
+ghost use Rattle.vx_java.specs.Named.{in_bytes};
+ghost use Rattle.vx_link.specs.Names.{member};
+ghost use Rattle.vx_link.specs.Parts.{class_at, field_at, is_static_field};
+ghost use Rattle.vx_list.specs.Places.{item_or};
+ghost use Rattle.vx_space.specs.Sets.{Extends, IsKnown};
+ghost use Rattle.vx_stands.specs.Answering.{operands_at};
+ghost use Rattle.vx_stands.specs.Sites.{Gives, GivesAt, HasPast, here};
+ghost use Rattle.vx_families.specs.Attempts.{AttemptsBy, IsAttemptBy, IsGiven};
+ghost use Rattle.vx_families.specs.Bounds.{IsBounded};
+ghost use Rattle.vx_fields.specs.Changing.{IsChanged};
+ghost use Rattle.vx_fields.specs.References.{IsFieldReference};
+ghost use Rattle.vx_fields.specs.Statics.{IsRunning, got, is_of_statics, keeps_option, stored, top_of};
+
+use crate::initialising::make_ready;
+use crate::operands::{narrowed_top, where_fitting, where_room};
+use crate::references::{FieldReference, field_reference};
+use crate::stopping::stop_others;
+use crate::unresolved::unresolved;
+use std::alloc::Global;
+use vx_desc::{JavaType, is_clinit};
+use vx_group::Group;
+use vx_heap::Heap;
+use vx_java::parts::{class_of_method, name_of_method};
+use vx_java::{MemberReference, Operation, member};
+use vx_link::Program;
+use vx_outcome::Outcomes;
+use vx_space::{Space, SpaceFault};
+use vx_stands::{Site, illegal};
+use vx_value::{ClassId, FieldId, MethodId};
+
+/// The class that declares a field.
+fn class_of_field(program: &Program, field: FieldId) -> ClassId
+    ensures { result ≡ (field_at program.now field.0).class }
+{
+    match program.fields.get(field.0 as usize) {
+        Some(field) => field.class,
+        None => ClassId(0),
+    }
+}
+
+fn is_option(program: &Program, field: FieldId) -> bool
+    ensures { result ≡ is_some (field_at program.now field.0).option }
+{
+    match program.fields.get(field.0 as usize) {
+        Some(field) => field.option.is_some(),
+        None => false,
+    }
+}
+
+/// Whether a field keeps its value where a method writes it: it is an option's, and the method is the `<clinit>` of its
+/// own class.
+fn keeps_option(program: &Program, method: MethodId, field: FieldId) -> bool
+    ensures { result ≡ keeps_option program.now method.0 field.0 }
+{
+    is_option(program, field)
+        && is_clinit(name_of_method(program, method))
+        && class_of_method(program, method).0 == class_of_field(program, field).0
+}
+
+/// Puts the value of a static field on the operands, and goes past the instruction. No runs come to no outcome.
+fn got_part<S: Space>(
+    alloc: Global,
+    site: &Site,
+    space: &mut S,
+    heap: &Heap<S>,
+    group: Group<S>,
+    field: FieldId,
+) -> Result<Outcomes<S>, SpaceFault>
+    requires group { IsGroup (S.sets space.old) group }
+    requires past { HasPast site.now group }
+    requires few { length group.top.stack.conds + 1 < 2 ^ 32 }
+    requires heap { IsHeap (S.sets space.old) heap.now }
+    requires runs { IsInside (S.sets space.old) (path_of group) heap.now.allowed }
+    requires field { field.0 < length heap.now.statics }
+    ensures extends { Extends (S.sets space.old) (S.sets space.new) }
+    ensures gives { IfOk result (λ r. GivesAt site.now.program.now (λ _ _ s. go (here site.now s) (item_or s.statics field.0 Top ∷ s.top.operands)) (S.sets space.old) (S.sets space.new) group r.items.items heap.now) }
+{
+    let path = group.path();
+    if space.is_never(path) {
+        return Ok(Outcomes::new(alloc));
+    }
+    let value = heap.read_static(space, field, path)?;
+    let (below, mut frame) = group.take_top();
+    frame.stack.push(value)?;
+    frame.position += site.size;
+    let outcomes = Outcomes::go(alloc, below.put_top(frame))?;
+    Ok(outcomes)
+}
+
+/// Takes an operand off, and goes past the instruction. No runs come to no outcome.
+fn put_part<S: Space>(
+    alloc: Global,
+    site: &Site,
+    space: &S,
+    group: Group<S>,
+) -> Result<Outcomes<S>, SpaceFault>
+    requires group { IsGroup (S.sets space.now) group }
+    requires past { HasPast site.now group }
+    requires operand { 0 < length group.top.stack.conds }
+    ensures { IfOk result (λ r. Gives site.now.program.now (λ s. Go (at_position s (s.top.position + site.now.size) (drop 1 s.top.operands))) (S.sets space.now) (S.sets space.now) group r.items.items) }
+{
+    if space.is_never(group.path()) {
+        return Ok(Outcomes::new(alloc));
+    }
+    let (below, mut frame) = group.take_top();
+    let Some(_operand) = frame.stack.pop() else {
+        unreachable!()
+    };
+    frame.position += site.size;
+    let outcomes = Outcomes::go(alloc, below.put_top(frame))?;
+    Ok(outcomes)
+}
+
+/// Writes the operand on top to a static field inside a path, unless the field keeps its value.
+fn store<S: Space>(
+    program: &Program,
+    space: &mut S,
+    heap: &mut Heap<S>,
+    group: &Group<S>,
+    field: FieldId,
+    field_type: JavaType,
+    path: S::Id,
+) -> Result<(), SpaceFault>
+    requires heap { IsHeap (S.sets space.old) heap.old }
+    requires group { IsGroup (S.sets space.old) group.now }
+    requires operand { 0 < length group.now.top.stack.conds }
+    requires field { field.0 < length heap.old.statics }
+    requires known { IsKnown (S.sets space.old) path }
+    requires inside { IsInside (S.sets space.old) path (path_of group.now) }
+    requires runs { IsInside (S.sets space.old) (path_of group.now) heap.old.allowed }
+    requires held { (c : List Bool) → (S.sets space.old).test (path_of group.now) c ≡ true → are_held (S.sets space.old) heap.old c (operands_at (S.sets space.old) group.now.top.stack c) ≡ true }
+    ensures extends { Extends (S.sets space.old) (S.sets space.new) }
+    ensures ok { OnOk result (IsChanged (S.sets space.old) (S.sets space.new) heap.old heap.new (λ c x. if (S.sets space.old).test path c then stored (keeps_option program.now group.now.top.method.0 field.0) field.0 (narrowed_value field_type (value_of (S.sets space.old) heap.old c (top_of (operands_at (S.sets space.old) group.now.top.stack c)))) x else x)) }
+{
+    if keeps_option(program, group.top_frame().method, field) {
+        return Ok(());
+    }
+    let value = narrowed_top(space, group, field_type, path)?;
+    heap.write_static(space, field, &value)?;
+    Ok(())
+}
+
+/// getstatic of a static field that is there.
+fn get_found<S: Space>(
+    alloc: Global,
+    site: &Site,
+    space: &mut S,
+    heap: &mut Heap<S>,
+    group: Group<S>,
+    field: FieldId,
+    field_type: JavaType,
+) -> Result<Outcomes<S>, SpaceFault>
+    requires running { IsRunning site.now (S.sets space.old) heap.old group }
+    requires field { is_static_field site.now.program.now field.0 ≡ true }
+    requires few { length group.top.stack.conds < site.now.code.now.max_stack }
+    ensures extends { Extends (S.sets space.old) (S.sets space.new) }
+    ensures ok { IfOk result (λ r. (named : ℕ) → AttemptsBy site.now (λ s. got (record { named = named; field = field.0; type = field_type }) (here site.now s)) (S.sets space.old) (S.sets space.new) heap.old heap.new group r.items.items) }
+{
+    let class = class_of_field(site.program, field);
+    let needs = where_room(alloc, space, &group, field_type, site.code.max_stack)?;
+    let readiness = make_ready(alloc, site.program, space, heap, class, needs)?;
+    let (going, mut outcomes) = stop_others(alloc, site, space, group, class, needs, &readiness)?;
+    let made = got_part(alloc, site, space, heap, going, field)?;
+    outcomes.append(made)?;
+    Ok(outcomes)
+}
+
+/// getstatic of a static field that is there. A value takes a word at least, so where there are as many operands as the
+/// method's greatest stack has words, it has no room (JVMS 2.6.2, 4.7.3).
+fn get_fitting<S: Space>(
+    alloc: Global,
+    site: &Site,
+    space: &mut S,
+    heap: &mut Heap<S>,
+    group: Group<S>,
+    field: FieldId,
+    field_type: JavaType,
+) -> Result<Outcomes<S>, SpaceFault>
+    requires running { IsRunning site.now (S.sets space.old) heap.old group }
+    requires field { is_static_field site.now.program.now field.0 ≡ true }
+    requires sort { is_some (sort_of field_type) ≡ true }
+    ensures extends { Extends (S.sets space.old) (S.sets space.new) }
+    ensures ok { IfOk result (λ r. (named : ℕ) → AttemptsBy site.now (λ s. got (record { named = named; field = field.0; type = field_type }) (here site.now s)) (S.sets space.old) (S.sets space.new) heap.old heap.new group r.items.items) }
+{
+    if group.top_frame().stack.len() >= usize::from(site.code.max_stack) {
+        let ended = illegal(alloc, site.program, &group)?;
+        return Ok(ended);
+    }
+    let outcomes = get_found(alloc, site, space, heap, group, field, field_type)?;
+    Ok(outcomes)
+}
+
+/// putstatic of a static field that is there, in runs that have an operand.
+fn put_found<S: Space>(
+    alloc: Global,
+    site: &Site,
+    space: &mut S,
+    heap: &mut Heap<S>,
+    group: Group<S>,
+    field: FieldId,
+    field_type: JavaType,
+) -> Result<Outcomes<S>, SpaceFault>
+    requires running { IsRunning site.now (S.sets space.old) heap.old group }
+    requires field { is_static_field site.now.program.now field.0 ≡ true }
+    requires operand { 0 < length group.top.stack.conds }
+    ensures extends { Extends (S.sets space.old) (S.sets space.new) }
+    ensures ok { IfOk result (λ r. (named : ℕ) → AttemptsBy site.now (λ s. put_value (here site.now s) (record { named = named; field = field.0; type = field_type }) s.top.operands) (S.sets space.old) (S.sets space.new) heap.old heap.new group r.items.items) }
+{
+    let program = site.program;
+    let class = class_of_field(program, field);
+    let needs = where_fitting(space, &group, field_type)?;
+    let readiness = make_ready(alloc, program, space, heap, class, needs)?;
+    store(
+        program,
+        space,
+        heap,
+        &group,
+        field,
+        field_type,
+        readiness.proceeds,
+    )?;
+    let (going, mut outcomes) = stop_others(alloc, site, space, group, class, needs, &readiness)?;
+    let made = put_part(alloc, site, space, going)?;
+    outcomes.append(made)?;
+    Ok(outcomes)
+}
+
+/// putstatic of a static field that is there.
+fn put_fitting<S: Space>(
+    alloc: Global,
+    site: &Site,
+    space: &mut S,
+    heap: &mut Heap<S>,
+    group: Group<S>,
+    field: FieldId,
+    field_type: JavaType,
+) -> Result<Outcomes<S>, SpaceFault>
+    requires running { IsRunning site.now (S.sets space.old) heap.old group }
+    requires field { is_static_field site.now.program.now field.0 ≡ true }
+    ensures extends { Extends (S.sets space.old) (S.sets space.new) }
+    ensures ok { IfOk result (λ r. (named : ℕ) → AttemptsBy site.now (λ s. put_value (here site.now s) (record { named = named; field = field.0; type = field_type }) s.top.operands) (S.sets space.old) (S.sets space.new) heap.old heap.new group r.items.items) }
+{
+    if group.top_frame().stack.len() == 0 {
+        let ended = illegal(alloc, site.program, &group)?;
+        return Ok(ended);
+    }
+    let outcomes = put_found(alloc, site, space, heap, group, field, field_type)?;
+    Ok(outcomes)
+}
+
+/// The static field that an entry of the pool of a class names.
+fn static_field(program: &Program, class: ClassId, index: u16) -> FieldReference
+    requires { IsBounded program.now }
+    ensures { IsFieldReference program.now (class_at program.now class.0).pool index true result }
+{
+    match program.classes.get(class.0 as usize) {
+        Some(class) => field_reference(program, &class.pool, index, true),
+        None => FieldReference::NoType,
+    }
+}
+
+/// The member that an entry of the pool of a class names.
+fn named_member(program: &Program, class: ClassId, index: u16) -> MemberReference<'_>
+    ensures { in_bytes result ≡ member (class_at program.now class.0).pool index }
+{
+    match program.classes.get(class.0 as usize) {
+        Some(class) => member(&class.pool, index),
+        None => MemberReference {
+            class: &[],
+            name: &[],
+            descriptor: &[],
+            by_interface: false,
+        },
+    }
+}
+
+/// getstatic.
+fn get_static<S: Space>(
+    alloc: Global,
+    site: &Site,
+    space: &mut S,
+    heap: &mut Heap<S>,
+    index: u16,
+    group: Group<S>,
+) -> Result<Outcomes<S>, SpaceFault>
+    requires { IsGiven site.now (Operation.GetStatic index) (S.sets space.old) heap.old group }
+    ensures extends { Extends (S.sets space.old) (S.sets space.new) }
+    ensures ok { IfOk result (λ r. IsAttemptBy site.now (Operation.GetStatic index) (S.sets space.old) (S.sets space.new) heap.old heap.new group r.items.items) }
+{
+    let class = class_of_method(site.program, group.top_frame().method);
+    match static_field(site.program, class, index) {
+        FieldReference::Found {
+            field,
+            field_type,
+            ..
+        } => {
+            let outcomes = get_fitting(alloc, site, space, heap, group, field, field_type)?;
+            Ok(outcomes)
+        }
+        missing => {
+            let named = named_member(site.program, class, index);
+            let outcomes = unresolved(alloc, site, group, missing, &named)?;
+            Ok(outcomes)
+        }
+    }
+}
+
+/// putstatic.
+fn put_static<S: Space>(
+    alloc: Global,
+    site: &Site,
+    space: &mut S,
+    heap: &mut Heap<S>,
+    index: u16,
+    group: Group<S>,
+) -> Result<Outcomes<S>, SpaceFault>
+    requires { IsGiven site.now (Operation.PutStatic index) (S.sets space.old) heap.old group }
+    ensures extends { Extends (S.sets space.old) (S.sets space.new) }
+    ensures ok { IfOk result (λ r. IsAttemptBy site.now (Operation.PutStatic index) (S.sets space.old) (S.sets space.new) heap.old heap.new group r.items.items) }
+{
+    let class = class_of_method(site.program, group.top_frame().method);
+    match static_field(site.program, class, index) {
+        FieldReference::Found {
+            field,
+            field_type,
+            ..
+        } => {
+            let outcomes = put_fitting(alloc, site, space, heap, group, field, field_type)?;
+            Ok(outcomes)
+        }
+        missing => {
+            let named = named_member(site.program, class, index);
+            let outcomes = unresolved(alloc, site, group, missing, &named)?;
+            Ok(outcomes)
+        }
+    }
+}
+
+/// Does a getstatic or a putstatic for all configurations of a group (JVMS 6.5, 5.5). The class of the field is made ready
+/// where it has to be; where that isn't possible in the same attempt, its initialisation begins. After a refusal heap and
+/// group are given up.
+pub fn attempt<S: Space>(
+    alloc: Global,
+    site: &Site,
+    space: &mut S,
+    heap: &mut Heap<S>,
+    operation: Operation,
+    group: Group<S>,
+) -> Result<Outcomes<S>, SpaceFault>
+    requires given { IsGiven site.now operation (S.sets space.old) heap.old group }
+    requires family { is_of_statics operation ≡ true }
+    ensures extends { Extends (S.sets space.old) (S.sets space.new) }
+    ensures ok { IfOk result (λ r. IsAttemptBy site.now operation (S.sets space.old) (S.sets space.new) heap.old heap.new group r.items.items) }
+{
+    match operation {
+        Operation::GetStatic(index) => {
+            let got = get_static(alloc, site, space, heap, index, group)?;
+            Ok(got)
+        }
+        Operation::PutStatic(index) => {
+            let put = put_static(alloc, site, space, heap, index, group)?;
+            Ok(put)
+        }
+        _ => unreachable!(),
+    }
+}

@@ -1,0 +1,85 @@
+//! Instructions of fields whose reference names no field that they can take (JVMS 5.4.3.2, 6.5).
+
+ghost use Rattle.std.specs.Prelude.{◌≡◌, IfOk, false};
+ghost use Rattle.vx_java.specs.Fields.{Found, field_text};
+ghost use Rattle.vx_java.specs.Ids.{HasClassNumbers};
+ghost use Rattle.vx_java.specs.Machine.{Outcome as PlainOutcome};
+ghost use Rattle.vx_java.specs.Named.{in_bytes};
+ghost use Rattle.vx_space.specs.Sets.{Sets};
+ghost use Rattle.vx_stands.specs.Sites.{Gives, here};
+ghost use Rattle.vx_fields.specs.References.{by_reference, is_found};
+
+use crate::references::FieldReference;
+use std::alloc::{AllocError, Global};
+use vx_families::{raise, unsupported};
+use vx_group::Group;
+use vx_java::MemberReference;
+use vx_outcome::Outcomes;
+use vx_space::{Space, SpaceFault};
+use vx_stands::{Site, illegal};
+use vx_value::Name;
+
+/// The words for what ends a run as unsupported: a float or a double, a class, a field.
+const FLOAT_WORD: u8 = 1;
+
+const CLASS_WORD: u8 = 6;
+
+const FIELD_WORD: u8 = 7;
+
+/// The class, the name and the descriptor of a field, as reports name it.
+fn field_text(alloc: Global, named: &MemberReference<'_>) -> Result<Name, AllocError>
+    ensures { IfOk result (λ text. text ≡ field_text (in_bytes named.now)) }
+{
+    let mut text = Vec::from_slice(alloc, named.class)?;
+    text.extend_from_slice(b".")?;
+    text.extend_from_slice(named.name)?;
+    text.extend_from_slice(b":")?;
+    text.extend_from_slice(named.descriptor)?;
+    Ok(Name::from_vec(text))
+}
+
+/// All runs of a group end or raise, as the reference says whose field isn't found.
+pub(crate) fn unresolved<S: Space>(
+    alloc: Global,
+    site: &Site,
+    group: Group<S>,
+    reference: FieldReference,
+    named: &MemberReference<'_>,
+) -> Result<Outcomes<S>, SpaceFault>
+    requires classes { HasClassNumbers site.now.program.now }
+    requires unresolved { is_found reference ≡ false }
+    ensures { IfOk result (λ r. (sets : Sets S.Id) (rest : Found → PlainOutcome) → Gives site.now.program.now (λ s. by_reference (here site.now s) (in_bytes named.now) reference rest) sets sets group r.items.items) }
+{
+    let program = site.program;
+    match reference {
+        FieldReference::Found { .. } => unreachable!(),
+        FieldReference::NoType => {
+            let ended = illegal(alloc, program, &group)?;
+            Ok(ended)
+        }
+        FieldReference::Floating => {
+            let what = Name::of(alloc, b"-")?;
+            let floating = unsupported(alloc, program, &group, FLOAT_WORD, what)?;
+            Ok(floating)
+        }
+        FieldReference::NoClass => {
+            let what = Name::of(alloc, named.class)?;
+            let no_class = unsupported(alloc, program, &group, CLASS_WORD, what)?;
+            Ok(no_class)
+        }
+        FieldReference::NoField => {
+            let what = field_text(alloc, named)?;
+            let no_field = unsupported(alloc, program, &group, FIELD_WORD, what)?;
+            Ok(no_field)
+        }
+        FieldReference::Disagrees => {
+            let raised = raise(
+                alloc,
+                program,
+                group,
+                b"java/lang/IncompatibleClassChangeError",
+            )?;
+            Ok(raised)
+        }
+    }
+}

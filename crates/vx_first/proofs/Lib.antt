@@ -1,0 +1,5 @@
+pub mod Keys
+pub mod Gathering
+pub mod DefaultLaws
+pub mod Zips
+pub mod ObjectLaws

@@ -1,0 +1,5 @@
+pub mod Literals
+pub mod Defaults
+pub mod Classes
+pub mod First
+pub mod Objects

@@ -1,0 +1,4 @@
+pub mod CutLaws
+pub mod CutLoops
+pub mod OrderLaws
+pub mod FormLaws

@@ -1,0 +1,46 @@
+-- The derived orders of cuts and of their parts are exact.
+use Rattle.std.specs.Prelude.{◌≡◌, refl}
+use Rattle.std.specs.Ordering.{ordering_then}
+use Rattle.std.specs.declared.cmp.Ordering.{Ordering}
+use Rattle.std.specs.declared.cmp.Ordering.TheVariants.{Less, Equal, Greater}
+use Rattle.vx_forms.specs.declared.cut.Part.{Part}
+use Rattle.vx_forms.specs.declared.cut.Part.TheVariants.{Zero, One, Two, Word, Words, Second}
+use Rattle.vx_forms.specs.declared.cut.Cut.{Cut}
+use Rattle.vx_forms.specs.declared.cut.Cut.TheVariants.{Divided, Parts}
+use Rattle.vx_forms.specs.contracts.cut.PartOrd.TheImpl as part_ord
+use Rattle.vx_forms.specs.contracts.cut.CutOrd.TheImpl as cut_ord
+
+abbrev pub part_cmp : Part → Part → Ordering
+part_cmp = part_ord.ghosts.cmp
+
+-- by the upper words, then by those under them
+abbrev pub cut_cmp : Cut → Cut → Ordering
+cut_cmp = cut_ord.ghosts.cmp
+
+pub part_exact : (a b : Part) → part_cmp a b ≡ Equal → a ≡ b
+part_exact Zero Zero h = refl
+part_exact One One h = refl
+part_exact Two Two h = refl
+part_exact Word Word h = refl
+part_exact Words Words h = refl
+part_exact Second Second h = refl
+part_exact _ _ h = cc
+
+-- an order that answers Equal for the first, and then the second, answers it for each
+then_first : (a b : Ordering) → ordering_then a b ≡ Equal → a ≡ Equal
+then_first Less b h = h
+then_first Equal b h = refl
+then_first Greater b h = h
+
+then_second : (a b : Ordering) → ordering_then a b ≡ Equal → b ≡ Equal
+then_second Less b h = cc
+then_second Equal b h = h
+then_second Greater b h = cc
+
+pub cut_exact : (a b : Cut) → cut_cmp a b ≡ Equal → a ≡ b
+cut_exact Divided Divided h = refl
+cut_exact (Parts a b) (Parts c d) h =
+    let upper = part_exact a c (then_first (part_cmp a c) (part_cmp b d) h) in
+    let lower = part_exact b d (then_second (part_cmp a c) (part_cmp b d) h) in
+    λ i. Parts (upper i) (lower i)
+cut_exact _ _ h = cc

@@ -1,0 +1,3 @@
+pub mod Named
+pub mod Called
+pub mod Receivers

@@ -1,0 +1,10 @@
+//! The family of calls, as far as it is built: invokevirtual of println of an int.
+#![tactic(auto)]
+
+pub mod call;
+pub mod invoking;
+pub mod reference;
+
+pub use call::{Call, Receiver};
+pub use invoking::attempt;
+pub use reference::Reference;

@@ -1,0 +1,84 @@
+//! What the instruction names, and what it comes to in a program alone (JVMS 5.4.3.3, 6.5).
+
+ghost use Rattle.std.specs.Prelude.{◌≡◌, IfOk};
+ghost use Rattle.vx_java.specs.Calls.{member_text};
+ghost use Rattle.vx_java.specs.Ids.{HasClassNumbers};
+ghost use Rattle.vx_java.specs.Machine.{method_text};
+ghost use Rattle.vx_class.specs.Members.{STATIC};
+ghost use Rattle.vx_link.specs.Parts.{has, method_at};
+ghost use Rattle.vx_invoke.specs.Named.{IsReference, println};
+
+use bitflags::Flags;
+use std::alloc::{AllocError, Global};
+use vx_java::parts::{
+    class_of_method, descriptor_of_method, flags_of_method, is_interface, name_of_class,
+    name_of_method,
+};
+use vx_java::{class_named, resolve_method};
+use vx_link::{AccessFlags, Program};
+use vx_value::{ClassId, MethodId, Name};
+
+/// What a program makes of the name of println of an int.
+#[derive(Clone, Copy, Debug)]
+pub enum Reference {
+    /// The class that is named, and the method that the name is resolved to, which is not static.
+    Found { named: ClassId, resolved: MethodId },
+    /// The program has no class of the name.
+    NoClass,
+    /// The class has no such method.
+    NoMethod,
+    /// The name is that of an interface, or the method is static.
+    WrongKind,
+}
+
+fn is_static(program: &Program, method: MethodId) -> bool
+    ensures { result ≡ has STATIC (method_at program.now method.0).flags }
+{
+    flags_of_method(program, method).contains(AccessFlags::STATIC)
+}
+
+/// Resolves the name of println of an int.
+pub fn println_reference(program: &Program) -> Reference
+    requires { HasClassNumbers program.now }
+    ensures { IsReference program.now result }
+{
+    let Some(named) = class_named(program, b"java/io/PrintStream") else {
+        return Reference::NoClass;
+    };
+    if is_interface(program, named) {
+        return Reference::WrongKind;
+    }
+    let Some(resolved) = resolve_method(program, named, b"println", b"(I)V") else {
+        return Reference::NoMethod;
+    };
+    if is_static(program, resolved) {
+        return Reference::WrongKind;
+    }
+    Reference::Found { named, resolved }
+}
+
+/// The name of the class.
+pub fn println_class(alloc: Global) -> Result<Name, AllocError>
+    ensures { IfOk result (λ name. name ≡ println.class) }
+{
+    Name::of(alloc, b"java/io/PrintStream")
+}
+
+/// The class, the name and the descriptor.
+pub fn println_text(alloc: Global) -> Result<Name, AllocError>
+    ensures { IfOk result (λ name. name ≡ member_text println) }
+{
+    Name::of(alloc, b"java/io/PrintStream.println(I)V")
+}
+
+/// The class, the name and the descriptor of a method, as `CLASS.NAMEDESC`.
+pub fn method_name(alloc: Global, program: &Program, method: MethodId) -> Result<Name, AllocError>
+    ensures { IfOk result (λ name. name ≡ method_text program.now (method_at program.now method.0)) }
+{
+    let mut text = Vec::new(alloc);
+    text.extend_from_slice(name_of_class(program, class_of_method(program, method)))?;
+    text.extend_from_slice(b".")?;
+    text.extend_from_slice(name_of_method(program, method))?;
+    text.extend_from_slice(descriptor_of_method(program, method))?;
+    Ok(Name::from_vec(text))
+}
