@@ -24,3 +24,4 @@ pub mod Beginning
 pub mod Marking
 pub mod MainGroup
 pub mod Started
+pub mod Whole

@@ -1,6 +1,6 @@
 -- Outcomes without a place come from attempts that aren't built.
 use Rattle.std.proofs.Common.{◌≡◌, ℕ, Bool, true, false, List, [], ◌∷◌, ◌++◌, refl, sym, ◌∙◌, ap, subst, inl, inr}
-use Rattle.std.specs.Prelude.{◌==◌, ◌⊎◌, ◌&&◌, not, Option, Some, None}
+use Rattle.std.specs.Prelude.{◌==◌, ◌⊎◌, ◌&&◌, bytes_eq, codes, not, Option, Some, None}
 use Rattle.std.proofs.lemmas.Bool.Decides.{nat_tests}
 use Rattle.std.proofs.Common.{arith}
 use Rattle.vx_space.specs.Sets.{Sets}
@@ -78,11 +78,11 @@ native_unbuilt p (Go s) h = cc h
 native_unbuilt p (Raise class message s) h = cc h
 native_unbuilt p (Throw r s) h = cc h
 native_unbuilt p (Begin class s) h = refl
-native_unbuilt p (Native m s) h = cases ((method_at p m).native == println_int) refl
+native_unbuilt p (Native m s) h = cases ((method_at p m).native == println_int) (bytes_eq (method_at p m).descriptor (codes "(I)V")) refl
   where
-    cases : (b : Bool) → ((method_at p m).native == println_int) ≡ b → b ≡ false
-    cases true e = cc (h, carried_no_native _ (method_at p m) (same_number (method_at p m).native e))
-    cases false e = refl
+    cases : (a b : Bool) → ((method_at p m).native == println_int) ≡ a → (a && b) ≡ false
+    cases true b e = cc (h, carried_no_native _ (method_at p m) (same_number (method_at p m).native e))
+    cases false b e = refl
 native_unbuilt p (Write stream units s) h = cc h
 native_unbuilt p (Ended end) h = cc h
 

@@ -98,9 +98,7 @@ fn make<S: Space>(
         heap,
         limit,
     };
-    let Ok(()) = place_all(alloc, &setting, space, round, attempts, outcomes.items) else {
-        return Err(AttemptFault::NoMemory);
-    };
+    place_all(alloc, &setting, space, round, attempts, outcomes.items)?;
     Ok(())
 }
 
@@ -147,27 +145,12 @@ pub fn step_group<S: Space>(
     ensures not_yet { result ≡ Err AttemptFault.NotYet → (group : GroupView S S.Id) × (slice_get state.old.groups which ≡ Some group) × IsStuck program.now (S.sets space.old) state.old group }
     ensures based { OnOk result ((S.sets space.new).counts ≡ true → IsNumberUnder (map (S.sets space.old).test (state_ids state.old)) (S.sets space.new).base) }
 {
-    let Ok(()) = compact(alloc, space, state) else {
-        return Err(AttemptFault::NoMemory);
-    };
+    compact(alloc, space, state)?;
     let (begun, group) = begin_round(alloc, state, which);
     let mut round = begun;
-    let Ok((spent, attempts)) = spend(space, group) else {
-        return Err(AttemptFault::NoMemory);
-    };
+    let (spent, attempts) = spend(space, group)?;
     let limit = state.limit;
-    make(
-        alloc,
-        program,
-        space,
-        &mut state.heap,
-        limit,
-        &mut round,
-        spent,
-        &attempts,
-    )?;
-    let Ok(()) = end_round(alloc, state, round) else {
-        return Err(AttemptFault::NoMemory);
-    };
+    make(alloc, program, space, &mut state.heap, limit, &mut round, spent, &attempts)?;
+    end_round(alloc, state, round)?;
     Ok(())
 }
