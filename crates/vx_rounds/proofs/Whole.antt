@@ -107,3 +107,17 @@ IsStuck-met p s0 s1 s2 e allowed st begun_st which was group spent_group attempt
       stands = sym (same_standing p s0 s1 allowed st h k c) ∙ standing_at-by s1 st c ∙ ap (λ w. standing_by w (output_at s1 st.found c) (value_at s1 (leaves_of st.ends) c) (value_at s1 (leaves_of st.spent) c)) waits;
       unbuilt = ap (λ s. is_built p s) (sym (spent_state e st.heap h1.is_heap st.tree group spent_group attempts running.stands.is_group q c)) ∙ u.unbuilt st.tree (spent_stands p e st.heap h1.is_heap st.tree group spent_group attempts running.stands q);
     }
+
+-- ---- the parts as the code has them
+
+pub IsTurn-made : {S I : Type 0} (p : Program) {s1 s2 s3 : Sets I} (allowed : I) (st begun_st : StateView S I) (which : ℕ) (was : Round S I) (group spent_group : GroupView S I) (attempts : Conditional ℕ S I) (before heap : HeapView S I) (limit : ℕ) (round : Round S I) → IsState p s1 allowed st → IsBegun st begun_st which was group → Extends s1 s2 → IsSpent s1 s2 group spent_group attempts → Extends s2 s3 → before ≡ st.heap → limit ≡ st.limit → IsMade p s2 s3 before heap limit spent_group was round → IsTurn p s1 s2 s3 allowed st begun_st which was group spent_group attempts heap round
+IsTurn-made {S = S} {I = I} p {s2 = s2} {s3 = s3} allowed st begun_st which was group spent_group attempts before heap limit round h b e q f same_heap same_limit m = record {
+  state = h;
+  begun = b;
+  extends = e;
+  spent = q;
+  later = f;
+  made = let P : HeapView S I → Type 0 = λ x. IsMade p s2 s3 x heap st.limit spent_group was round in
+      let Q : ℕ → Type 0 = λ n. IsMade p s2 s3 before heap n spent_group was round in
+      subst P same_heap (subst Q same_limit m);
+}

@@ -53,8 +53,8 @@ place_all-requires-clause-vacant g c = vacant_made c.args.program.now c.in_ok-ou
 pub place_all-requires-clause-unwritten : goal.place_all-requires-clause-unwritten
 place_all-requires-clause-unwritten g c = unwritten_made c.args.program.now c.in_ok-outcomes.ensures.extends c.args.heap.now c.args.limit c.args.group c.args.attempts.now c.args.round.now c.requires.given c.requires.attempts c.requires.underway c.requires.unwritten
 
-pub returns-in_default-clause-extends : goal.returns-in_default-clause-extends
-returns-in_default-clause-extends g c = Extends-trans c.in_ok-outcomes.ensures.extends c.place_all.ensures.extends
+pub returns-in_err-place_all-clause-extends : goal.returns-in_err-place_all-clause-extends
+returns-in_err-place_all-clause-extends g c = Extends-trans c.in_ok-outcomes.ensures.extends c.place_all.ensures.extends
 
 pub returns-clause-extends : goal.returns-clause-extends
 returns-clause-extends g c = Extends-trans c.in_ok-outcomes.ensures.extends c.place_all.ensures.extends
@@ -62,4 +62,4 @@ returns-clause-extends g c = Extends-trans c.in_ok-outcomes.ensures.extends c.pl
 pub returns-clause-made : goal.returns-clause-made
 returns-clause-made g c =
     let a = attempt_of c.args.program.now _ _ c.args.heap.now c.attempt.new.heap c.args.group c.in_ok-outcomes.outcomes.items.items c.requires.single c.requires.given c.in_ok-outcomes.ensures.ok in
-    IsMade-placed c.args.program.now c.in_ok-outcomes.ensures.extends c.place_all.ensures.extends c.args.heap.now c.attempt.new.heap c.args.limit c.args.group c.args.attempts.now c.in_ok-outcomes.outcomes.items.items c.args.round.now c.place_all.new.round c.requires.given c.requires.attempts c.in_ok-outcomes.ensures.ok.is_for a c.requires.underway c.requires.vacant c.in-Ok.ensures.placed
+    IsMade-placed c.args.program.now c.in_ok-outcomes.ensures.extends c.place_all.ensures.extends c.args.heap.now c.attempt.new.heap c.args.limit c.args.group c.args.attempts.now c.in_ok-outcomes.outcomes.items.items c.args.round.now c.place_all.new.round c.requires.given c.requires.attempts c.in_ok-outcomes.ensures.ok.is_for a c.requires.underway c.requires.vacant c.in_ok-place_all.ensures.placed

@@ -1,0 +1,76 @@
+use Rattle.std.proofs.Common.{refl, sym, ap, ◌∙◌}
+use Rattle.vx_rounds.specs.State.{StateView}
+use Rattle.vx_rounds.proofs.Closing.{closed_nodes, rounds_small}
+use Rattle.vx_rounds.proofs.Going.{IsVacant-inside}
+use Rattle.vx_rounds.proofs.Keeping.{state_known}
+use Rattle.vx_rounds.proofs.Opening.{begun_underway, begun_unwritten, begun_vacant, chosen_is_group, may_spend, spent_count, spent_kind, spent_may}
+use Rattle.vx_rounds.proofs.Putting.{IsUnderway-extends}
+use Rattle.vx_rounds.proofs.Whole.{IsRound-closed, IsStuck-met, IsTurn-made, compacted_state}
+use Rattle.vx_rounds.proofs.stepping.step_group.Goals as goal
+
+pub compact-requires : goal.compact-requires
+compact-requires g c = state_known c.args.program.now _ c.args.state.now.heap.allowed c.args.state.now c.requires.state
+
+pub spend-requires-clause-group : goal.spend-requires-clause-group
+spend-requires-clause-group g c =
+    let h = compacted_state c.args.program.now _ _ c.args.state.now.heap.allowed c.args.state.now c.requires.state c.in_ok-compact.ensures.compacted in
+    chosen_is_group c.args.program.now _ c.args.state.now.heap.allowed c.args.state.now c.begin_round-begun.new.state c.args.which c.begin_round-begun.result.0 c.begin_round-begun.result.1 h c.begin_round-begun.ensures
+
+pub spend-requires-clause-below : goal.spend-requires-clause-below
+spend-requires-clause-below g c =
+    let h = compacted_state c.args.program.now _ _ c.args.state.now.heap.allowed c.args.state.now c.requires.state c.in_ok-compact.ensures.compacted in
+    may_spend c.args.program.now _ c.args.state.now.heap.allowed c.args.state.now c.begin_round-begun.new.state c.args.which c.begin_round-begun.result.0 c.begin_round-begun.result.1 h c.begin_round-begun.ensures
+
+pub make-requires-clause-given : goal.make-requires-clause-given
+make-requires-clause-given g c =
+    let h = compacted_state c.args.program.now _ _ c.args.state.now.heap.allowed c.args.state.now c.requires.state c.in_ok-compact.ensures.compacted in
+    rw (ap (λ (x : StateView g.row.S.Denot g.row.S-Id.Denot). x.heap) (c.state.view_is ∙ c.begin_round-begun.ensures.state))
+    (spent_may c.args.program.now c.in_ok-spent.ensures.extends c.args.state.now.heap.allowed c.args.state.now c.begin_round-begun.new.state c.args.which c.begin_round-begun.result.0 c.begin_round-begun.result.1 c.in_ok-spent.spent c.in_ok-spent.attempts h c.begin_round-begun.ensures c.in_ok-spent.ensures.spent)
+
+pub make-requires-clause-kind : goal.make-requires-clause-kind
+make-requires-clause-kind g c =
+    let h = compacted_state c.args.program.now _ _ c.args.state.now.heap.allowed c.args.state.now c.requires.state c.in_ok-compact.ensures.compacted in
+    (spent_kind c.args.program.now _ _ c.args.state.now.heap.allowed c.args.state.now c.begin_round-begun.new.state c.args.which c.begin_round-begun.result.0 c.begin_round-begun.result.1 c.in_ok-spent.spent c.in_ok-spent.attempts h c.begin_round-begun.ensures c.in_ok-spent.ensures.spent).0
+
+pub make-requires-clause-single : goal.make-requires-clause-single
+make-requires-clause-single g c =
+    let h = compacted_state c.args.program.now _ _ c.args.state.now.heap.allowed c.args.state.now c.requires.state c.in_ok-compact.ensures.compacted in
+    (spent_kind c.args.program.now _ _ c.args.state.now.heap.allowed c.args.state.now c.begin_round-begun.new.state c.args.which c.begin_round-begun.result.0 c.begin_round-begun.result.1 c.in_ok-spent.spent c.in_ok-spent.attempts h c.begin_round-begun.ensures c.in_ok-spent.ensures.spent).1
+
+pub make-requires-clause-underway : goal.make-requires-clause-underway
+make-requires-clause-underway g c =
+    let h = compacted_state c.args.program.now _ _ c.args.state.now.heap.allowed c.args.state.now c.requires.state c.in_ok-compact.ensures.compacted in
+    let u = begun_underway c.args.program.now _ c.args.state.now.heap.allowed c.args.state.now c.begin_round-begun.new.state c.args.which c.begin_round-begun.result.0 c.begin_round-begun.result.1 h c.begin_round-begun.ensures in
+    rw (ap (λ (x : StateView g.row.S.Denot g.row.S-Id.Denot). x.heap) (c.state.view_is ∙ c.begin_round-begun.ensures.state), ap (λ (x : StateView g.row.S.Denot g.row.S-Id.Denot). x.limit) (c.state.view_is ∙ c.begin_round-begun.ensures.state))
+    (IsUnderway-extends c.args.program.now c.in_ok-spent.ensures.extends c.args.state.now.heap h.is_heap c.args.state.now.limit c.begin_round-begun.result.0 u)
+
+pub make-requires-clause-attempts : goal.make-requires-clause-attempts
+make-requires-clause-attempts g c =
+    let h = compacted_state c.args.program.now _ _ c.args.state.now.heap.allowed c.args.state.now c.requires.state c.in_ok-compact.ensures.compacted in
+    rw (ap (λ (x : StateView g.row.S.Denot g.row.S-Id.Denot). x.limit) (c.state.view_is ∙ c.begin_round-begun.ensures.state))
+    (spent_count c.args.program.now c.in_ok-spent.ensures.extends c.args.state.now.heap.allowed c.args.state.now c.begin_round-begun.new.state c.args.which c.begin_round-begun.result.0 c.begin_round-begun.result.1 c.in_ok-spent.spent c.in_ok-spent.attempts h c.begin_round-begun.ensures c.in_ok-spent.ensures.spent)
+
+pub make-requires-clause-vacant : goal.make-requires-clause-vacant
+make-requires-clause-vacant g c =
+    let h = compacted_state c.args.program.now _ _ c.args.state.now.heap.allowed c.args.state.now c.requires.state c.in_ok-compact.ensures.compacted in
+    let u = begun_underway c.args.program.now _ c.args.state.now.heap.allowed c.args.state.now c.begin_round-begun.new.state c.args.which c.begin_round-begun.result.0 c.begin_round-begun.result.1 h c.begin_round-begun.ensures in
+    let n = begun_vacant c.args.program.now c.in_ok-spent.ensures.extends c.args.state.now.heap.allowed c.args.state.now c.begin_round-begun.new.state c.args.which c.begin_round-begun.result.0 c.begin_round-begun.result.1 c.in_ok-spent.spent c.in_ok-spent.attempts h c.begin_round-begun.ensures c.in_ok-spent.ensures.spent in
+    IsVacant-inside c.args.program.now c.in_ok-spent.ensures.extends c.args.state.now.heap h.is_heap c.args.state.now.limit c.begin_round-begun.result.0 _ _ u (λ d t. t) n
+
+pub make-requires-clause-unwritten : goal.make-requires-clause-unwritten
+make-requires-clause-unwritten g c = begun_unwritten c.args.state.now c.begin_round-begun.new.state c.args.which c.begin_round-begun.result.0 c.begin_round-begun.result.1 _ _ c.begin_round-begun.ensures
+
+pub returns-in_err-make-clause-not_yet : goal.returns-in_err-make-clause-not_yet
+returns-in_err-make-clause-not_yet g c = ?
+
+pub end_round-requires-clause-callers : goal.end_round-requires-clause-callers
+end_round-requires-clause-callers g c = ?
+
+pub end_round-requires-clause-rounds : goal.end_round-requires-clause-rounds
+end_round-requires-clause-rounds g c = ?
+
+pub returns-clause-ok : goal.returns-clause-ok
+returns-clause-ok g c = ?
+
+pub returns-clause-based : goal.returns-clause-based
+returns-clause-based g c = ?
