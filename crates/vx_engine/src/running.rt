@@ -69,6 +69,7 @@ pub fn run_with<S: Space, K: Picker>(
         IfOk result (λ f. (list : List Config) (version : ℕ) → AreAllowed (S.sets space.old).options ((S.sets space.old).test allowed) list →
         lock_report program.now list limit version ≡ report_by (S.sets space.new) list limit version f) }
 
+    ensures options { IfOk result (λ _. (S.sets space.new).options ≡ (S.sets space.old).options) }
     ensures not_yet { result ≡ Err AttemptFault.NotYet → MeetsUnbuilt program.now ((S.sets space.old).test allowed) limit }
 {
     let mut state = start(alloc, program, space, allowed, limit)?;

@@ -2,4 +2,3 @@ pub mod Bounds
 pub mod Attempts
 pub mod Pushing
 pub mod Built
-pub mod Natives

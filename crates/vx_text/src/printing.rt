@@ -255,8 +255,8 @@ fn called<S: Space>(
 
 /// Carries out println of an int for a group that stands at the call, with the argument on top of its operands and the
 /// receiver under it. The decimal spelling of the int and a line feed are written on the stream of the receiver: out where its
-/// cell 0 is the int 0, else err. All runs end that have no int on top, or under it no object of the method's class. After
-/// want of memory heap and group are given up.
+/// cell 0 is the int 0, else err. All runs end that have no int on top, or under it no object of the method's class. The heap
+/// has more texts afterwards and is else the same. After want of memory heap and group are given up.
 pub fn native<S: Space>(
     alloc: Global,
     site: &Site,
@@ -268,6 +268,7 @@ pub fn native<S: Space>(
     requires given { (operation : Operation) × IsGiven site.now operation (S.sets space.old) heap.old group }
     requires method { is_println_method (method_at site.now.program.now method.0) ≡ true }
     ensures extends { Extends (S.sets space.old) (S.sets space.new) }
+    ensures more { OnOk result (HasMoreTexts heap.old heap.new) }
     ensures ok { IfOk result (λ r. AttemptsBy site.now (λ s. native_of site.now.program.now s method.0) (S.sets space.old) (S.sets space.new) heap.old heap.new group r.items.items) }
 {
     if is_static(site.program, method) {

@@ -54,3 +54,6 @@ returns-clause-lockstep g c =
     let rounds = c.rounds-rounds.ensures in
     reported c.args.program.now (g.S.Space.sets c.rounds.space) (g.S.Space.sets c.args.space.now).options ((g.S.Space.sets c.args.space.now).test c.args.allowed) c.args.limit _ c.rounds.state _ (g.met.S.Space.lawful c.rounds.space) c.rounds.invariant
     (is_last c.rounds.state _ c.groups.result.now c.is_empty.result c.rounds-test.false c.is_empty.ensures c.groups.ensures (λ i. record { rounds = rounds i; found = found.found i; ends = found.ends i; spent = found.spent i }))
+
+pub returns-clause-options : goal.returns-clause-options
+returns-clause-options g c = c.rounds.invariant.all_options
