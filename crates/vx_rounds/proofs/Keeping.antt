@@ -109,13 +109,15 @@ AreGroups-kept : {S I : Type 0} (old new : Sets I) → new.never ≡ old.never �
 AreGroups-kept old new e tree t [] k a = tt
 AreGroups-kept old new e tree t (group ∷ groups) k a =
     let here = AreKept-append_left old new (group_ids group) (flat_map group_ids groups) k in
-    let rest = AreKept-append_right old new (group_ids group) (flat_map group_ids groups) k in
-    (record {
-      is_group = IsGroupIn-of new tree (group_at old tree group) group (IsGroupOf-kept old new tree group e here t a.0.is_group);
-      nonempty = λ q. a.0.nonempty (q ∙ e);
-      apart = apart_kept old new (path_of group) (path_kept old new group here) groups rest a.0.apart;
-      fresh = a.0.fresh;
-    }, AreGroups-kept old new e tree t groups rest a.1)
+    let rest = AreKept-append_right old new (group_ids group) (flat_map group_ids groups) k in (
+      record {
+        is_group = IsGroupIn-of new tree (group_at old tree group) group (IsGroupOf-kept old new tree group e here t a.0.is_group);
+        nonempty = λ q. a.0.nonempty (q ∙ e);
+        apart = apart_kept old new (path_of group) (path_kept old new group here) groups rest a.0.apart;
+        fresh = a.0.fresh;
+      },
+      AreGroups-kept old new e tree t groups rest a.1,
+    )
 
 standing_kept : {S I : Type 0} (old new : Sets I) → new.never ≡ old.never → (tree : List (Option (Caller S I))) → AreKept old new (tree_ids tree) → (groups : List (GroupView S I)) → AreKept old new (flat_map group_ids groups) → sched.AreGroups old tree groups → (c : List Bool) → sched.standing_at new tree groups c ≡ sched.standing_at old tree groups c
 standing_kept old new e tree t [] k a c = refl
@@ -235,14 +237,14 @@ IsState-kept p old new allowed st e o k h =
       spent = leaves_kept nat_cmp old new e st.spent k.spent h.spent;
       everywhere = λ c t. ap is_some (stands c) ∙ h.everywhere c (sym (allowed_kept c) ∙ t);
       nowhere = λ c t. let n = h.nowhere c (sym (allowed_kept c) ∙ t) in record {
-          group = group_of-kept old new st.groups c k.groups ∙ n.group;
-          output = output_kept old new st.found c k.found ∙ n.output;
-          end = values_kept old new st.ends c k.ends ∙ n.end;
-          spent = values_kept old new st.spent c k.spent ∙ n.spent;
-        };
+        group = group_of-kept old new st.groups c k.groups ∙ n.group;
+        output = output_kept old new st.found c k.found ∙ n.output;
+        end = values_kept old new st.ends c k.ends ∙ n.end;
+        spent = values_kept old new st.spent c k.spent ∙ n.spent;
+      };
       goes_on = λ c t. let g = h.goes_on c (ap is_some (sym (group_of-kept old new st.groups c k.groups)) ∙ t) in record {
-          end = values_kept old new st.ends c k.ends ∙ g.end;
-          spent = values_kept old new st.spent c k.spent ∙ g.spent;
-        };
+        end = values_kept old new st.ends c k.ends ∙ g.end;
+        spent = values_kept old new st.spent c k.spent ∙ g.spent;
+      };
       counted = rw (left_kept old new e o st k h.groups, o) h.counted;
     }

@@ -98,13 +98,14 @@ rest_good {S = S} {I = I} sets heap tree limit group groups a c h = cases (sets.
 
 pub AreRunning-waiting : {S I : Type 0} (p : Program) (sets : Sets I) (st : StateView S I) (groups : List (GroupView S I)) → AreWaiting p sets st.heap st.tree st.limit groups → AreRunning p sets st groups
 AreRunning-waiting p sets st [] w = tt
-AreRunning-waiting {S = S} {I = I} p sets st (group ∷ groups) w =
-    (running_of p sets st group w.are_groups.0.is_group (both_first (is_one p (shapes_of st.tree group)) (sched.are_shaped (is_one p) st.tree groups) w.single) (λ c t. here c (sets.test (path_of group) c) t (w.good c)),
-    AreRunning-waiting p sets st groups (record {
-      are_groups = w.are_groups.1;
-      single = both_second (is_one p (shapes_of st.tree group)) (sched.are_shaped (is_one p) st.tree groups) w.single;
-      good = λ c. rest_good sets st.heap st.tree st.limit group groups w.are_groups.0.apart c (w.good c);
-    }))
+AreRunning-waiting {S = S} {I = I} p sets st (group ∷ groups) w = (
+  running_of p sets st group w.are_groups.0.is_group (both_first (is_one p (shapes_of st.tree group)) (sched.are_shaped (is_one p) st.tree groups) w.single) (λ c t. here c (sets.test (path_of group) c) t (w.good c)),
+  AreRunning-waiting p sets st groups (record {
+    are_groups = w.are_groups.1;
+    single = both_second (is_one p (shapes_of st.tree group)) (sched.are_shaped (is_one p) st.tree groups) w.single;
+    good = λ c. rest_good sets st.heap st.tree st.limit group groups w.are_groups.0.apart c (w.good c);
+  }),
+)
   where
     here : (c : List Bool) (b : Bool) → b ≡ true → IsGood sets st.heap st.limit c (if b then Some (group_at sets st.tree group c) else sched.standing_at sets st.tree groups c) → IsGoodGroup sets st.heap st.limit c (group_at sets st.tree group c)
     here c true h k = k

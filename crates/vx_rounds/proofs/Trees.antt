@@ -35,13 +35,15 @@ running_single p sets st (group ∷ groups) r =
 
 pub AreGroups-tree : {S I : Type 0} (sets : Sets I) (tree other : List (Option (Caller S I))) (groups : List (GroupView S I)) → AllSingle groups → sched.AreGroups sets tree groups → sched.AreGroups sets other groups
 AreGroups-tree sets tree other [] s a = tt
-AreGroups-tree sets tree other (group ∷ groups) s a =
-    (record {
-      is_group = IsGroupIn-one sets other group (IsGroupIn-group sets tree group a.0.is_group) s.0.below s.0.caller;
-      nonempty = a.0.nonempty;
-      apart = a.0.apart;
-      fresh = a.0.fresh;
-    }, AreGroups-tree sets tree other groups s.1 a.1)
+AreGroups-tree sets tree other (group ∷ groups) s a = (
+  record {
+    is_group = IsGroupIn-one sets other group (IsGroupIn-group sets tree group a.0.is_group) s.0.below s.0.caller;
+    nonempty = a.0.nonempty;
+    apart = a.0.apart;
+    fresh = a.0.fresh;
+  },
+  AreGroups-tree sets tree other groups s.1 a.1,
+)
 
 pub waiting_at-tree : {S I : Type 0} (sets : Sets I) (heap : HeapView S I) (tree other : List (Option (Caller S I))) (groups : List (GroupView S I)) (c : List Bool) → AllSingle groups → waiting_at sets heap other groups c ≡ waiting_at sets heap tree groups c
 waiting_at-tree sets heap tree other [] c s = refl
@@ -64,13 +66,15 @@ stands_in p sets heap tree other group s h =
 
 pub AreRunning-tree : {S I : Type 0} (p : Program) (sets : Sets I) (st other : StateView S I) (groups : List (GroupView S I)) → other.heap ≡ st.heap → other.limit ≡ st.limit → AllSingle groups → AreRunning p sets st groups → AreRunning p sets other groups
 AreRunning-tree p sets st other [] e l s r = tt
-AreRunning-tree {S = S} {I = I} p sets st other (group ∷ groups) e l s r =
-    (record {
-      stands = let P : HeapView S I → Type 0 = λ heap. StandsIn p sets heap other.tree group in subst P (sym e) (stands_in p sets st.heap st.tree other.tree group s.0 r.0.stands);
-      kind = r.0.kind;
-      single = r.0.single;
-      left = λ c t. let P : ℕ → Type 0 = λ n. attempts_at sets group c < n in subst P (sym l) (r.0.left c t);
-    }, AreRunning-tree p sets st other groups e l s.1 r.1)
+AreRunning-tree {S = S} {I = I} p sets st other (group ∷ groups) e l s r = (
+  record {
+    stands = let P : HeapView S I → Type 0 = λ heap. StandsIn p sets heap other.tree group in subst P (sym e) (stands_in p sets st.heap st.tree other.tree group s.0 r.0.stands);
+    kind = r.0.kind;
+    single = r.0.single;
+    left = λ c t. let P : ℕ → Type 0 = λ n. attempts_at sets group c < n in subst P (sym l) (r.0.left c t);
+  },
+  AreRunning-tree p sets st other groups e l s.1 r.1,
+)
 
 -- ---- the sweep
 

@@ -150,7 +150,16 @@ pub fn step_group<S: Space>(
     let mut round = begun;
     let (spent, attempts) = spend(space, group)?;
     let limit = state.limit;
-    make(alloc, program, space, &mut state.heap, limit, &mut round, spent, &attempts)?;
+    make(
+        alloc,
+        program,
+        space,
+        &mut state.heap,
+        limit,
+        &mut round,
+        spent,
+        &attempts,
+    )?;
     end_round(alloc, state, round)?;
     Ok(())
 }

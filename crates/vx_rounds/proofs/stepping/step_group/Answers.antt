@@ -65,16 +65,18 @@ pub returns-in_err-make-clause-not_yet : goal.returns-in_err-make-clause-not_yet
 returns-in_err-make-clause-not_yet g c e =
     let b = c.begin_round-begun.ensures in
     let same_heap = ap (λ (x : StateView g.row.S.Denot g.row.S-Id.Denot). x.heap) (c.state.view_is ∙ b.state) in
-    let u = rw same_heap at (c.in_err-make.ensures.not_yet (let k = err_from_is_err_and c.from_residual-in_err-make.result c.from_residual-in_err-make.ensures.1 in cc (e, k.1, k.2))) in
-    (c.begin_round-begun.result.1, b.chosen,
-     IsStuck-met c.args.program.now (g.S.Space.sets c.args.space.now) (g.S.Space.sets c.compact.new.space) (g.S.Space.sets c.spend.new.space) c.in_ok-spent.ensures.extends c.args.state.now.heap.allowed c.args.state.now c.begin_round-begun.new.state c.args.which c.begin_round-begun.result.0 c.begin_round-begun.result.1 c.in_ok-spent.spent c.in_ok-spent.attempts c.requires.state c.in_ok-compact.ensures.compacted b c.in_ok-spent.ensures.spent u)
+    let u = rw same_heap at (c.in_err-make.ensures.not_yet (let k = err_from_is_err_and c.from_residual-in_err-make.result c.from_residual-in_err-make.ensures.1 in cc (e, k.1, k.2))) in (
+      c.begin_round-begun.result.1,
+      b.chosen,
+      IsStuck-met c.args.program.now (g.S.Space.sets c.args.space.now) (g.S.Space.sets c.compact.new.space) (g.S.Space.sets c.spend.new.space) c.in_ok-spent.ensures.extends c.args.state.now.heap.allowed c.args.state.now c.begin_round-begun.new.state c.args.which c.begin_round-begun.result.0 c.begin_round-begun.result.1 c.in_ok-spent.spent c.in_ok-spent.attempts c.requires.state c.in_ok-compact.ensures.compacted b c.in_ok-spent.ensures.spent u,
+    )
 
 pub end_round-requires-clause-callers : goal.end_round-requires-clause-callers
 end_round-requires-clause-callers g c =
     let b = c.begin_round-begun.ensures in
     let h = compacted_state c.args.program.now _ _ c.args.state.now.heap.allowed c.args.state.now c.requires.state c.in_ok-compact.ensures.compacted in
     let t = IsTurn-made c.args.program.now c.args.state.now.heap.allowed c.args.state.now c.begin_round-begun.new.state c.args.which c.begin_round-begun.result.0 c.begin_round-begun.result.1 c.in_ok-spent.spent c.in_ok-spent.attempts c.state.inside.heap c.make.new.heap c.state.inside.limit c.make.new.round h b c.in_ok-spent.ensures.extends c.in_ok-spent.ensures.spent c.in_ok-make.ensures.extends
-        (ap (λ (x : StateView g.row.S.Denot g.row.S-Id.Denot). x.heap) (c.state.view_is ∙ b.state)) (ap (λ (x : StateView g.row.S.Denot g.row.S-Id.Denot). x.limit) (c.state.view_is ∙ b.state)) c.in_ok-make.ensures.made in
+    (ap (λ (x : StateView g.row.S.Denot g.row.S-Id.Denot). x.heap) (c.state.view_is ∙ b.state)) (ap (λ (x : StateView g.row.S.Denot g.row.S-Id.Denot). x.limit) (c.state.view_is ∙ b.state)) c.in_ok-make.ensures.made in
     closed_nodes c.args.program.now c.args.state.now.heap.allowed c.args.state.now c.begin_round-begun.new.state c.args.which c.begin_round-begun.result.0 c.begin_round-begun.result.1 c.in_ok-spent.spent c.in_ok-spent.attempts c.make.new.heap c.make.new.round t
 
 pub end_round-requires-clause-rounds : goal.end_round-requires-clause-rounds
@@ -87,10 +89,12 @@ returns-clause-ok g c =
     let b = c.begin_round-begun.ensures in
     let h = compacted_state c.args.program.now _ _ c.args.state.now.heap.allowed c.args.state.now c.requires.state c.in_ok-compact.ensures.compacted in
     let t = IsTurn-made c.args.program.now c.args.state.now.heap.allowed c.args.state.now c.begin_round-begun.new.state c.args.which c.begin_round-begun.result.0 c.begin_round-begun.result.1 c.in_ok-spent.spent c.in_ok-spent.attempts c.state.inside.heap c.make.new.heap c.state.inside.limit c.make.new.round h b c.in_ok-spent.ensures.extends c.in_ok-spent.ensures.spent c.in_ok-make.ensures.extends
-        (ap (λ (x : StateView g.row.S.Denot g.row.S-Id.Denot). x.heap) (c.state.view_is ∙ b.state)) (ap (λ (x : StateView g.row.S.Denot g.row.S-Id.Denot). x.limit) (c.state.view_is ∙ b.state)) c.in_ok-make.ensures.made in
-    (c.begin_round-begun.result.1, b.chosen,
-     IsRound-closed c.args.program.now (g.S.Space.sets c.args.space.now) (g.met.S.Space.lawful c.compact.new.space) c.args.state.now.heap.allowed c.args.state.now c.begin_round-begun.new.state _ c.end_round.new.state c.args.which c.begin_round-begun.result.0 c.begin_round-begun.result.1 c.in_ok-spent.spent c.in_ok-spent.attempts c.make.new.heap c.make.new.round c.requires.state c.in_ok-compact.ensures.compacted t
-        (ap (λ (x : StateView g.row.S.Denot g.row.S-Id.Denot). record x { heap = c.make.new.heap }) c.state.view_is) c.in_ok-end_round.ensures)
+    (ap (λ (x : StateView g.row.S.Denot g.row.S-Id.Denot). x.heap) (c.state.view_is ∙ b.state)) (ap (λ (x : StateView g.row.S.Denot g.row.S-Id.Denot). x.limit) (c.state.view_is ∙ b.state)) c.in_ok-make.ensures.made in (
+      c.begin_round-begun.result.1,
+      b.chosen,
+      IsRound-closed c.args.program.now (g.S.Space.sets c.args.space.now) (g.met.S.Space.lawful c.compact.new.space) c.args.state.now.heap.allowed c.args.state.now c.begin_round-begun.new.state _ c.end_round.new.state c.args.which c.begin_round-begun.result.0 c.begin_round-begun.result.1 c.in_ok-spent.spent c.in_ok-spent.attempts c.make.new.heap c.make.new.round c.requires.state c.in_ok-compact.ensures.compacted t
+          (ap (λ (x : StateView g.row.S.Denot g.row.S-Id.Denot). record x { heap = c.make.new.heap }) c.state.view_is) c.in_ok-end_round.ensures,
+    )
 
 pub returns-clause-based : goal.returns-clause-based
 returns-clause-based g c q =
