@@ -1,10 +1,9 @@
 -- The state after a round.
-use Rattle.std.proofs.Common.{◌≡◌, ℕ, ◌<◌, ◌≤◌, ◌+◌, ◌*◌, Bool, true, false, List, [], ◌∷◌, ◌++◌, refl, sym, ◌∙◌, ap, subst, length, suc, zero, map, arith, append-nil}
-use Rattle.std.specs.Prelude.{◌≢◌, ◌^◌, ◌-◌, cond, Option, Some, None, if◌then◌else◌, is_some, sum}
-use Rattle.std.specs.Ordering.{nat_cmp}
+use Rattle.std.proofs.Common.{◌≡◌, ℕ, ◌<◌, ◌≤◌, ◌+◌, ◌*◌, Bool, true, false, List, [], ◌∷◌, ◌++◌, refl, sym, ◌∙◌, ap, suc, arith, append-nil}
+use Rattle.std.specs.Prelude.{◌^◌, ◌-◌, Option, Some, None, if◌then◌else◌, is_some}
 use Rattle.std.proofs.Math.Nat.{mul-le-mul_left}
 use Rattle.std.proofs.lemmas.Nat.{pow-add, pow_pos}
-use Rattle.vx_space.specs.Sets.{Sets, AreKept, AreKnown, Extends, IsLawful}
+use Rattle.vx_space.specs.Sets.{Sets, Extends, IsLawful}
 use Rattle.vx_space.proofs.Spaces.{Extends-trans}
 use Rattle.vx_cond.specs.Cond.{Conditional}
 use Rattle.vx_cond.specs.Leaves.{value_at}
@@ -15,24 +14,18 @@ use Rattle.vx_heap.specs.Heap.{HeapView}
 use Rattle.vx_heap.proofs.Known.{AreKept-extends, AreKnown-append}
 use Rattle.vx_findings.specs.Orders.{piece_cmp}
 use Rattle.vx_findings.specs.Shared.{leaves_of}
-use Rattle.vx_findings.specs.declared.piece.Piece.{Piece}
 use Rattle.vx_findings.specs.declared.shared.Shared.{Shared}
-use Rattle.vx_families.specs.Built.{is_built}
 use Rattle.vx_java.specs.Lockstep.{piece_of}
 use Rattle.vx_java.specs.Machine.{Outcome as PlainOutcome}
-use Rattle.vx_java.specs.Step.{Progress, next, step, text_of}
+use Rattle.vx_java.specs.Step.{Progress, next, text_of}
 use Rattle.vx_link.specs.declared.program.Program.{Program}
-use Rattle.vx_sched.specs.Groups as sched
 use Rattle.vx_stands.specs.Stands.{state_at}
 use Rattle.vx_stands.proofs.StateLaws.{allowed_known}
-use Rattle.vx_value.specs.Ends.{compare_ends}
-use Rattle.vx_value.specs.declared.end.End.{End}
-use Rattle.vx_value.specs.declared.end.Stream.{Stream}
 use Rattle.vx_rounds.specs.declared.placing.Round.{Round}
 use Rattle.vx_rounds.specs.Attempted.{carried_out_row}
-use Rattle.vx_rounds.specs.Placing.{AreWaiting, Waiting, end_after, piece_after, spent_after, waiting_at, waiting_in, waits_after}
-use Rattle.vx_rounds.specs.Rounds.{IsRound, after_round, pieces_in, written}
-use Rattle.vx_rounds.specs.State.{AreRunning, GoesOn, IsNowhere, IsState, Runs, Standing, StateView, attempts_left, configurations, group_of, left_of, most_attempts, output_at, progress_at, shared_ids, standing_at, standing_of}
+use Rattle.vx_rounds.specs.Placing.{end_after, piece_after, spent_after, waiting_at, waiting_in, waits_after}
+use Rattle.vx_rounds.specs.Rounds.{after_round, pieces_in, written}
+use Rattle.vx_rounds.specs.State.{GoesOn, IsNowhere, IsState, Runs, StateView, attempts_left, group_of, output_at, shared_ids, standing_at}
 use Rattle.vx_rounds.proofs.Opening.{chosen_running}
 use Rattle.vx_rounds.proofs.Keeping.{AreKnown-kept, findings_known, output_kept}
 use Rattle.vx_rounds.proofs.Running.{AreRunning-waiting, standing_at-by, standing_by}

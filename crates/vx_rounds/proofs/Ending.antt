@@ -1,20 +1,19 @@
 -- Ends and numbers of attempts that are found.
 use Rattle.std.proofs.Common.{◌≡◌, ℕ, ◌<◌, ◌≤◌, Bool, true, false, List, [], ◌∷◌, refl, sym, ◌∙◌, ap, subst, arith, inl, inr, length, get_or, zero, suc}
 use Rattle.std.specs.Prelude.{◌≢◌, ◌==◌, ◌+◌, ◌⊎◌, cond, nat_lt, not, Option, Some, None, if◌then◌else◌, position}
-use Rattle.std.specs.List.{position_or_len, prefix_len}
+use Rattle.std.specs.List.{position_or_len}
 use Rattle.std.specs.Option.{option_or}
 use Rattle.std.proofs.lemmas.Bool.Decides.{nat_tests}
 use Rattle.std.proofs.lemmas.List.Quantifiers.{position-Some}
 use Rattle.std.specs.Ordering.{nat_cmp}
-use Rattle.std.specs.declared.cmp.Ordering.{Ordering}
-use Rattle.std.specs.declared.cmp.Ordering.TheVariants.{Less, Equal, Greater}
+use Rattle.std.specs.declared.cmp.Ordering.TheVariants.{Less}
 use Rattle.vx_space.specs.Sets.{Sets, Extends}
 use Rattle.vx_space.proofs.Spaces.{Extends-trans}
 use Rattle.vx_cond.specs.declared.cond.Leaf.{Leaf}
 use Rattle.vx_cond.specs.Cond.{Conditional, IsCond, IsCondOf, cond_at}
 use Rattle.vx_cond.specs.Leaves.{AreLeaves, AreLeavesApart, AreLeavesOf, IsApart, IsBelow, first_of, value_at, value_under, value_within}
 use Rattle.vx_cond.proofs.CondLaws.{IsCond-of, cond_at-of}
-use Rattle.vx_cond.proofs.LeafLaws.{AreLeaves-extends, IsApart-extends, value_at-extends}
+use Rattle.vx_cond.proofs.LeafLaws.{AreLeaves-extends, value_at-extends}
 use Rattle.vx_findings.specs.Shared.{leaves_of}
 use Rattle.vx_findings.specs.declared.shared.Shared.{Shared}
 use Rattle.vx_stands.proofs.Gathering.{AreLeaves-of}

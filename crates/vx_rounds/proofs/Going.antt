@@ -1,14 +1,13 @@
 -- Runs that go on: those that have attempts left, and those that have used them up.
-use Rattle.std.proofs.Common.{◌≡◌, ℕ, ◌<◌, ◌≤◌, Bool, true, false, List, [], ◌∷◌, refl, sym, ◌∙◌, ap, subst, arith, inl, inr, length, zero, suc}
-use Rattle.std.specs.Prelude.{◌≢◌, ◌==◌, ◌⊎◌, ◌&&◌, not, Option, Some, None, cond, if◌then◌else◌, nat_lt, unwrap_or}
+use Rattle.std.proofs.Common.{◌≡◌, ℕ, ◌<◌, ◌≤◌, Bool, true, false, List, [], ◌∷◌, refl, sym, ◌∙◌, ap, subst, arith, inl, inr, length}
+use Rattle.std.specs.Prelude.{◌≢◌, ◌==◌, ◌⊎◌, ◌&&◌, not, Option, Some, None, if◌then◌else◌, nat_lt, unwrap_or}
 use Rattle.std.specs.Option.{option_or}
 use Rattle.std.proofs.lemmas.Bool.Decides.{nat_tests}
 use Rattle.std.specs.Ordering.{nat_cmp}
 use Rattle.vx_space.specs.Sets.{Sets, Extends}
-use Rattle.vx_space.proofs.Spaces.{Extends-trans}
-use Rattle.vx_cond.specs.Cond.{Conditional, IsCond, IsInside, cond_at}
+use Rattle.vx_cond.specs.Cond.{Conditional, IsCond, cond_at}
 use Rattle.vx_cond.specs.Leaves.{AreLeaves, AreLeavesOf, IsApart, value_at, value_under}
-use Rattle.vx_cond.proofs.LeafLaws.{AreLeaves-extends, value_at-extends}
+use Rattle.vx_cond.proofs.LeafLaws.{value_at-extends}
 use Rattle.vx_group.specs.Group.{GroupView, IsPartOf, attempts_at, path_of}
 use Rattle.vx_group.proofs.GroupLaws.{IsGroupIn-group, IsGroup-attempts, IsGroup-path_known, attempts_at-extends}
 use Rattle.vx_heap.specs.Heap.{HeapView, IsHeap}
@@ -18,12 +17,11 @@ use Rattle.vx_findings.specs.Orders.{piece_cmp}
 use Rattle.vx_findings.specs.Shared.{leaves_of}
 use Rattle.vx_findings.specs.declared.piece.Piece.{Piece}
 use Rattle.vx_findings.specs.declared.shared.Shared.{Shared}
-use Rattle.vx_frame.specs.Frame.{shape_of}
 use Rattle.vx_java.specs.Machine.{Ends, Goes, Next, State}
-use Rattle.vx_java.specs.Machine.{Outcome as PlainOutcome, Write}
+use Rattle.vx_java.specs.Machine.{Write}
 use Rattle.vx_java.specs.Step.{utf8_of}
 use Rattle.vx_link.specs.declared.program.Program.{Program}
-use Rattle.vx_stands.specs.Stands.{Continues, StandsIn, state_at}
+use Rattle.vx_stands.specs.Stands.{StandsIn, state_at}
 use Rattle.vx_stands.proofs.Gathering.{IsPartOf-group, part_path}
 use Rattle.vx_stands.proofs.StateLaws.{Continues-part, StandsIn-extends, StandsIn-part, both_first, both_second, state_at-extends, state_at-part}
 use Rattle.vx_value.specs.Ends.{compare_ends}
@@ -31,7 +29,7 @@ use Rattle.vx_value.specs.declared.end.End.{End}
 use Rattle.vx_value.specs.declared.end.End.TheVariants.{Unfinished}
 use Rattle.vx_value.specs.declared.end.Stream.{Stream}
 use Rattle.vx_rounds.specs.declared.placing.Round.{Round}
-use Rattle.vx_rounds.specs.Placing.{AreWritten, IsEnded, IsPut, IsUnderway, IsUnwritten, IsUsedUp, IsVacant, Waiting, end_after, leads_in, made_at, piece_after, piece_if, put_if, spent_after, waiting_at, waits_after}
+use Rattle.vx_rounds.specs.Placing.{AreWritten, IsEnded, IsPut, IsUnderway, IsUsedUp, IsVacant, Waiting, end_after, leads_in, made_at, piece_after, piece_if, put_if, spent_after, waiting_at, waits_after}
 use Rattle.vx_rounds.specs.State.{group_of}
 use Rattle.vx_rounds.proofs.Putting.{IsPut-before, IsPut-ended, IsPut-same, IsPut-then, IsUnderway-extends, IsVacant-put, some_inside}
 use Rattle.vx_rounds.proofs.Waiting.{no_group, none_waits, waiting_at-extends}

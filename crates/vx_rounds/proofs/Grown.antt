@@ -1,22 +1,21 @@
 -- What waits, where an attempt elsewhere gave the heap more objects and texts.
-use Rattle.std.proofs.Common.{◌≡◌, ℕ, ◌<◌, ◌≤◌, Bool, true, false, List, [], ◌∷◌, refl, sym, ◌∙◌, ap, subst, length, map, zero, suc, arith}
-use Rattle.std.specs.Prelude.{◌&&◌, Option, Some, None, if◌then◌else◌, nat_lt, option_map, slice_get, unwrap_or}
+use Rattle.std.proofs.Common.{◌≡◌, ℕ, ◌<◌, Bool, true, List, [], ◌∷◌, refl, sym, ◌∙◌, ap, subst, length, map, zero, suc, arith}
+use Rattle.std.specs.Prelude.{Option, Some, None, nat_lt, option_map, slice_get, unwrap_or}
 use Rattle.std.specs.List.{list_all}
 use Rattle.std.specs.Ordering.{nat_cmp}
 use Rattle.std.proofs.lemmas.Bool.Decides.{nat_tests}
-use Rattle.vx_list.specs.Places.{item_or}
 use Rattle.vx_space.specs.Sets.{Sets, Extends}
-use Rattle.vx_cond.proofs.LeafLaws.{AreLeaves-extends, value_at-extends}
+use Rattle.vx_cond.proofs.LeafLaws.{AreLeaves-extends}
 use Rattle.vx_frame.specs.Frame.{PlainFrame}
 use Rattle.vx_group.specs.declared.callers.Caller.{Caller}
-use Rattle.vx_group.specs.Group.{GroupView, PlainGroup, path_of}
+use Rattle.vx_group.specs.Group.{GroupView, PlainGroup}
 use Rattle.vx_group.proofs.CallerLaws.{Keeps-refl}
 use Rattle.vx_heap.specs.Heap.{HeapView, IsHeap, are_held, count_if, globals_at, is_held, is_object_held, name_at, value_of}
 use Rattle.vx_heap.specs.declared.object.HeapObject.{HeapObject}
 use Rattle.vx_heap.proofs.HeapLaws.{name_at-extends, is_held-extends}
 use Rattle.vx_findings.specs.Orders.{piece_cmp}
 use Rattle.vx_findings.specs.Shared.{leaves_of}
-use Rattle.vx_java.specs.Machine.{Ref as RefValue, Text as TextValue, Value}
+use Rattle.vx_java.specs.Machine.{Ref as RefValue, Text as TextValue}
 use Rattle.vx_link.specs.declared.program.Program.{Program}
 use Rattle.vx_sched.specs.Groups as sched
 use Rattle.vx_sched.proofs.GroupsLaws.{AreGroups-later, standing_at-later}
@@ -27,7 +26,7 @@ use Rattle.vx_value.specs.Texts.{text_at}
 use Rattle.vx_value.specs.declared.slot.Slot.{Slot}
 use Rattle.vx_value.specs.declared.slot.Slot.TheVariants.{Top, Int, Long, Null, Ref, Text}
 use Rattle.vx_rounds.specs.declared.placing.Round.{Round}
-use Rattle.vx_rounds.specs.Placing.{AreWaiting, IsGood, IsUnderway, Waiting, waiting_at}
+use Rattle.vx_rounds.specs.Placing.{AreWaiting, IsGood, IsUnderway, waiting_at}
 use Rattle.vx_rounds.proofs.Waiting.{no_frame, run_by, state_by, waiting_at-standing}
 
 -- ---- names and texts

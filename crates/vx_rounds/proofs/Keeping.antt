@@ -1,7 +1,7 @@
 -- A state over a later space in which its ids are kept: it is a state still, and the same stands in it.
-use Rattle.std.proofs.Common.{◌≡◌, ℕ, ◌<◌, ◌≤◌, ◌+◌, Bool, true, false, List, [], ◌∷◌, ◌++◌, refl, sym, ◌∙◌, ap, subst, length, map}
-use Rattle.std.specs.Prelude.{◌≢◌, ◌&&◌, ◌*◌, ◌^◌, Option, Some, None, if◌then◌else◌, is_some, option_map, sum}
-use Rattle.std.specs.List.{flat_map, list_all}
+use Rattle.std.proofs.Common.{◌≡◌, ℕ, Bool, true, false, List, [], ◌∷◌, ◌++◌, refl, sym, ◌∙◌, ap, subst, map}
+use Rattle.std.specs.Prelude.{◌&&◌, Option, Some, None, if◌then◌else◌, is_some, option_map, sum}
+use Rattle.std.specs.List.{flat_map}
 use Rattle.std.specs.Ordering.{nat_cmp}
 use Rattle.std.specs.declared.cmp.Ordering.{Ordering}
 use Rattle.vx_space.specs.Sets.{Sets, AreKept, AreKnown}
@@ -17,7 +17,7 @@ use Rattle.vx_group.specs.Callers.{tree_ids}
 use Rattle.vx_group.specs.Group.{GroupView, IsGroupIn, PlainGroup, group_at, group_ids, path_of}
 use Rattle.vx_group.proofs.GroupLaws.{IsGroupIn-group, IsGroupIn-of, IsGroup-attempts, IsGroup-top, group_at-of}
 use Rattle.vx_group_laws.proofs.KeepLaws.{IsGroupOf-kept}
-use Rattle.vx_heap.specs.Heap.{HeapView, IsHeap, are_held, globals_at, heap_ids, is_held, value_of}
+use Rattle.vx_heap.specs.Heap.{HeapView, heap_ids, is_held, value_of}
 use Rattle.vx_heap.specs.Keeping.{globals_at-kept, value_of-kept}
 use Rattle.vx_heap.proofs.HeapLaws.{IsHeap-kept, heap_known, is_held-kept}
 use Rattle.vx_heap.proofs.Known.{AreKnown-append, cond_known, row_known}
@@ -30,9 +30,8 @@ use Rattle.vx_sched.specs.Groups as sched
 use Rattle.vx_stands.specs.Stands.{frame_held, plain_frame, state_of}
 use Rattle.vx_value.specs.Ends.{compare_ends}
 use Rattle.vx_value.specs.Slot.{slot_cmp}
-use Rattle.vx_value.specs.declared.end.Stream.{Stream}
-use Rattle.vx_rounds.specs.Placing.{AreWaiting, IsGood, Waiting, waiting_at}
-use Rattle.vx_rounds.specs.State.{GoesOn, IsNowhere, IsState, Standing, StateView, attempts_left, configurations, group_of, left_of, output_at, shared_ids, standing_at, state_ids}
+use Rattle.vx_rounds.specs.Placing.{AreWaiting, IsGood, waiting_at}
+use Rattle.vx_rounds.specs.State.{IsState, StateView, attempts_left, configurations, group_of, left_of, output_at, shared_ids, standing_at, state_ids}
 use Rattle.vx_rounds.proofs.Running.{AreRunning-waiting, AreWaiting-running, left_by, left_of-by, standing_at-by, standing_by}
 use Rattle.vx_rounds.proofs.Waiting.{all_same, no_frame, run_by, state_by, waiting_at-standing}
 

@@ -1,37 +1,35 @@
 -- A group that makes its attempt.
-use Rattle.std.proofs.Common.{◌≡◌, ℕ, ◌<◌, ◌≤◌, Bool, true, false, List, [], ◌∷◌, refl, sym, ◌∙◌, ap, subst, length, map, get_or, zero, suc, arith}
-use Rattle.std.specs.Prelude.{◌≢◌, ◌&&◌, not, Contains, Option, Some, None, if◌then◌else◌, option_map}
-use Rattle.std.specs.List.{list_all}
+use Rattle.std.proofs.Common.{◌≡◌, ℕ, ◌<◌, ◌≤◌, Bool, true, false, List, [], ◌∷◌, refl, sym, ◌∙◌, ap, subst, length, get_or, zero, suc, arith}
+use Rattle.std.specs.Prelude.{◌&&◌, not, Option, Some, None, if◌then◌else◌, option_map}
 use Rattle.std.specs.Ordering.{nat_cmp}
-use Rattle.vx_space.specs.Sets.{Sets, AreKnown, Extends, IsLawful}
+use Rattle.vx_space.specs.Sets.{Sets, Extends, IsLawful}
 use Rattle.vx_space.proofs.Differences.{some_difference}
-use Rattle.vx_cond.specs.Cond.{Conditional, IsCond, IsInside}
+use Rattle.vx_cond.specs.Cond.{Conditional}
 use Rattle.vx_cond.specs.Leaves.{value_at}
 use Rattle.vx_cond.proofs.LeafLaws.{value_at-extends}
-use Rattle.vx_frame.specs.Frame.{shape_of}
 use Rattle.vx_group.specs.declared.callers.Caller.{Caller}
-use Rattle.vx_group.specs.Callers.{AreCallers, callers_of, frames_at}
+use Rattle.vx_group.specs.Callers.{AreCallers, callers_of}
 use Rattle.vx_group.specs.Group.{GroupView, attempts_at, path_of}
 use Rattle.vx_group.proofs.GroupLaws.{IsGroupIn-callers, IsGroupIn-group, IsGroupIn-one, IsGroup-path_known}
-use Rattle.vx_heap.specs.Heap.{HeapView, IsHeap, IsHeapFor, globals_at}
+use Rattle.vx_heap.specs.Heap.{HeapView, IsHeapFor}
 use Rattle.vx_heap.proofs.HeapLaws.{IsHeap-extends}
 use Rattle.vx_families.specs.Built.{is_built}
 use Rattle.vx_findings.specs.Orders.{piece_cmp}
 use Rattle.vx_findings.specs.Shared.{leaves_of}
-use Rattle.vx_java.specs.Machine.{Next, State}
+use Rattle.vx_java.specs.Machine.{Next}
 use Rattle.vx_java.specs.Machine.{Outcome as PlainOutcome}
 use Rattle.vx_java.specs.Step.{next}
 use Rattle.vx_link.specs.declared.program.Program.{Program}
 use Rattle.vx_outcome.specs.Outcome.{Divide, condition_of}
 use Rattle.vx_outcome.specs.declared.outcome.Outcome.{Outcome}
 use Rattle.vx_outcome.specs.declared.outcome.Outcome.TheVariants as shared
-use Rattle.vx_stands.specs.Stands.{AreOutcomes, Attempts, Continues, Grows, IsOutcome, StandsIn, comes_to, frame_held, is_shaped, outcome_at, plain_frame, state_at}
+use Rattle.vx_stands.specs.Stands.{AreOutcomes, Attempts, Continues, IsOutcome, StandsIn, outcome_at, state_at}
 use Rattle.vx_stands.proofs.OutcomeStates.{condition_known}
 use Rattle.vx_value.specs.Ends.{compare_ends}
 use Rattle.vx_value.specs.declared.key.KeyPart.{KeyPart}
 use Rattle.vx_rounds.specs.declared.placing.Round.{Round}
 use Rattle.vx_rounds.specs.Attempted.{IsAttempted, IsUnbuiltThere, MayAttempt, carried_out_row}
-use Rattle.vx_rounds.specs.Placing.{AreConditionsKnown, ArePlaceable, HasGoing, HasUnplaced, IsGoing, IsOutcomePlaced, IsPlaceable, IsUnderway, IsUnwritten, IsVacant, end_after, is_refused, led_by, made_at, piece_after, put_if, said_in, spent_after, waiting_at, waits_after}
+use Rattle.vx_rounds.specs.Placing.{AreConditionsKnown, ArePlaceable, HasGoing, HasUnplaced, IsGoing, IsOutcomePlaced, IsUnderway, IsUnwritten, IsVacant, end_after, is_refused, led_by, made_at, piece_after, put_if, said_in, spent_after, waiting_at, waits_after}
 use Rattle.vx_rounds.specs.Stepping.{IsCount, IsMade, came_of}
 use Rattle.vx_rounds.proofs.Refusals.{refused_unbuilt, unplaced_refused}
 use Rattle.vx_rounds.proofs.Going.{IsVacant-inside}

@@ -1,35 +1,31 @@
 -- A round begins: the group that makes an attempt, and all else.
-use Rattle.std.proofs.Common.{◌≡◌, ℕ, ◌<◌, ◌≤◌, ◌+◌, Bool, true, false, List, [], ◌∷◌, refl, sym, ◌∙◌, ap, subst, length, get_or, zero, suc, arith}
-use Rattle.std.specs.Prelude.{◌≢◌, ◌^◌, ◌&&◌, Option, Some, None, if◌then◌else◌, is_some, slice_get}
+use Rattle.std.proofs.Common.{◌≡◌, ℕ, ◌<◌, Bool, true, false, List, [], ◌∷◌, refl, sym, ◌∙◌, ap, subst, zero, suc, arith}
+use Rattle.std.specs.Prelude.{◌^◌, Option, Some, None, if◌then◌else◌, is_some, slice_get}
 use Rattle.std.specs.List.{list_all, remove}
-use Rattle.std.specs.Ordering.{nat_cmp}
 use Rattle.vx_space.specs.Sets.{Sets, Extends}
 use Rattle.vx_space.proofs.Spaces.{Extends-refl}
-use Rattle.vx_cond.specs.Cond.{Conditional, IsCond}
-use Rattle.vx_cond.specs.Leaves.{AreLeaves, value_at}
+use Rattle.vx_cond.specs.Cond.{Conditional}
+use Rattle.vx_cond.specs.Leaves.{value_at}
 use Rattle.vx_group.specs.declared.callers.Caller.{Caller}
-use Rattle.vx_group.specs.Callers.{callers_of, frames_at}
+use Rattle.vx_group.specs.Callers.{frames_at}
 use Rattle.vx_group.specs.Group.{GroupView, IsGroup, IsGroupIn, PlainGroup, attempts_at, group_at, path_of, shapes_of, stack_of}
 use Rattle.vx_group.proofs.GroupLaws.{IsGroupIn-group, IsGroupIn-same_callers, IsGroup-path_known}
 use Rattle.vx_heap.specs.Heap.{HeapView, IsHeap}
 use Rattle.vx_heap.proofs.HeapLaws.{IsHeap-extends}
 use Rattle.vx_heap.proofs.Places.{place_of_some}
-use Rattle.vx_findings.specs.Orders.{piece_cmp}
 use Rattle.vx_findings.specs.Shared.{leaves_of}
 use Rattle.vx_link.specs.declared.program.Program.{Program}
 use Rattle.vx_sched.specs.Groups as sched
 use Rattle.vx_sched.proofs.GroupsLaws.{IsTaken, is_taken, shaped_taken}
 use Rattle.vx_stands.specs.Stands.{StandsIn, frame_held, is_shaped, state_at}
 use Rattle.vx_stands.proofs.StateLaws.{StandsIn-extends, state_at-extends}
-use Rattle.vx_value.specs.Ends.{compare_ends}
 use Rattle.vx_value.specs.declared.key.Kind.TheVariants.{Call}
 use Rattle.vx_rounds.specs.declared.placing.Round.{Round}
 use Rattle.vx_rounds.specs.Attempted.{MayAttempt}
-use Rattle.vx_rounds.specs.Placing.{AreWaiting, IsGood, IsUnderway, IsUnwritten, IsVacant, is_one, made_at, waiting_at}
-use Rattle.vx_rounds.specs.State.{AreRunning, IsRunning, IsState, StateView, group_of, most_attempts}
+use Rattle.vx_rounds.specs.Placing.{AreWaiting, IsGood, IsUnderway, IsUnwritten, IsVacant, is_one}
+use Rattle.vx_rounds.specs.State.{AreRunning, IsRunning, IsState, StateView, group_of}
 use Rattle.vx_rounds.specs.Stepping.{IsBegun, IsCount, IsSpent}
 use Rattle.vx_rounds.proofs.Grown.{some_within}
-use Rattle.vx_rounds.proofs.Putting.{IsUnderway-extends}
 use Rattle.vx_rounds.proofs.Running.{AreWaiting-running}
 use Rattle.vx_rounds.proofs.Waiting.{groups_apart}
 

@@ -1,15 +1,14 @@
 -- Outcomes that took their places.
-use Rattle.std.proofs.Common.{◌≡◌, ℕ, ◌<◌, ◌≤◌, Bool, true, false, List, [], ◌∷◌, refl, sym, ◌∙◌, ap, subst}
-use Rattle.std.specs.Prelude.{◌≢◌, Option, Some, None, if◌then◌else◌, option_map}
+use Rattle.std.proofs.Common.{◌≡◌, ℕ, Bool, true, false, List, [], refl, sym, ◌∙◌, ap}
+use Rattle.std.specs.Prelude.{Option, Some, None, if◌then◌else◌, option_map}
 use Rattle.std.specs.Ordering.{nat_cmp}
 use Rattle.vx_space.specs.Sets.{Sets, Extends}
-use Rattle.vx_cond.specs.Cond.{Conditional, IsCond, IsInside}
+use Rattle.vx_cond.specs.Cond.{Conditional, IsCond}
 use Rattle.vx_cond.specs.Leaves.{AreLeaves, value_at}
 use Rattle.vx_group.specs.Group.{GroupView, attempts_at, path_of}
 use Rattle.vx_heap.specs.Heap.{HeapView, IsHeap}
 use Rattle.vx_findings.specs.Orders.{piece_cmp}
 use Rattle.vx_findings.specs.Shared.{leaves_of}
-use Rattle.vx_findings.specs.declared.piece.Piece.{Piece}
 use Rattle.vx_java.specs.Machine.{Ends, Goes, Next, State}
 use Rattle.vx_java.specs.Machine.{Outcome as PlainOutcome}
 use Rattle.vx_java.specs.Machine as plain

@@ -1,18 +1,17 @@
 -- A group of one frame that waits among others.
-use Rattle.std.proofs.Common.{◌≡◌, ℕ, ◌<◌, Bool, true, false, List, [], ◌∷◌, refl, sym, ◌∙◌, ap, subst, length, map, zero, suc, arith}
-use Rattle.std.specs.Prelude.{◌&&◌, ◌==◌, Option, Some, None, cond, if◌then◌else◌, nat_lt, option_map, reverse}
+use Rattle.std.proofs.Common.{◌≡◌, ℕ, ◌<◌, Bool, true, false, List, [], ◌∷◌, refl, sym, ◌∙◌, ap, subst, length, map, arith}
+use Rattle.std.specs.Prelude.{◌==◌, Option, Some, None, if◌then◌else◌, nat_lt, option_map, reverse}
 use Rattle.std.specs.List.{list_all}
 use Rattle.std.proofs.lemmas.Bool.Decides.{nat_tests}
 use Rattle.std.specs.Ordering.{nat_cmp}
 use Rattle.std.specs.declared.cmp.Ordering.{Ordering}
 use Rattle.vx_space.specs.Sets.{Sets, Extends}
-use Rattle.vx_cond.specs.declared.cond.Leaf.{Leaf}
 use Rattle.vx_cond.specs.Leaves.{AreLeaves, value_at}
 use Rattle.vx_cond.proofs.LeafLaws.{AreLeaves-extends, value_at-extends}
 use Rattle.vx_frame.specs.Frame.{Shape, shape_of}
 use Rattle.vx_group.specs.declared.callers.Caller.{Caller}
-use Rattle.vx_group.specs.Callers.{AreCallers, callers_of, node_of}
-use Rattle.vx_group.specs.Group.{GroupView, IsGroupIn, PlainGroup, attempts_at, group_at, key_of, path_of, shapes_of}
+use Rattle.vx_group.specs.Callers.{AreCallers, callers_of}
+use Rattle.vx_group.specs.Group.{GroupView, IsGroupIn, PlainGroup, attempts_at, group_at, path_of, shapes_of}
 use Rattle.vx_group.proofs.GroupLaws.{IsGroupIn-callers, IsGroupIn-group, IsGroupIn-one}
 use Rattle.vx_heap.specs.Heap.{HeapView, IsHeap}
 use Rattle.vx_families.specs.Built.{is_call}
@@ -20,20 +19,18 @@ use Rattle.vx_findings.specs.Orders.{piece_cmp}
 use Rattle.vx_findings.specs.Shared.{leaves_of}
 use Rattle.vx_findings.specs.declared.shared.Shared.{Shared}
 use Rattle.vx_java.specs.Initialisation.{max_locals}
-use Rattle.vx_java.specs.Machine.{Goes, Next, State}
+use Rattle.vx_java.specs.Machine.{Goes}
 use Rattle.vx_link.specs.Parts.{method_at}
 use Rattle.vx_link.specs.declared.program.Program.{Program}
 use Rattle.vx_sched.specs.Groups as sched
 use Rattle.vx_sched.proofs.GroupsLaws.{key_of-shapes}
-use Rattle.vx_stands.specs.Stands.{StandsIn, frame_held, is_shaped, state_at}
+use Rattle.vx_stands.specs.Stands.{StandsIn, is_shaped, state_at}
 use Rattle.vx_stands.proofs.StateLaws.{both, both_first, both_second}
 use Rattle.vx_value.specs.Ends.{compare_ends}
-use Rattle.vx_value.specs.declared.end.End.{End}
-use Rattle.vx_value.specs.declared.end.End.TheVariants.{Unfinished}
 use Rattle.vx_value.specs.declared.key.KeyPart.{KeyPart}
 use Rattle.vx_rounds.specs.declared.placing.Round.{Round}
-use Rattle.vx_rounds.specs.Placing.{AreWaiting, IsGood, IsGoodGroup, IsPut, IsUnderway, IsVacant, Waiting, end_after, is_one, leads_in, put_if, spent_after, waiting_at, waits_after}
-use Rattle.vx_rounds.proofs.Waiting.{IsGood-extends, apart_from_groups, run_by, run_by-extends, waiting_at-standing}
+use Rattle.vx_rounds.specs.Placing.{AreWaiting, IsGood, IsGoodGroup, IsPut, IsUnderway, IsVacant, end_after, is_one, leads_in, put_if, spent_after, waiting_at, waits_after}
+use Rattle.vx_rounds.proofs.Waiting.{IsGood-extends, run_by, run_by-extends, waiting_at-standing}
 
 -- ---- one frame
 

@@ -1,14 +1,12 @@
 -- Which outcomes have a place.
-use Rattle.std.proofs.Common.{◌≡◌, ℕ, ◌<◌, ◌≤◌, ◌+◌, Bool, true, false, List, [], ◌∷◌, ◌++◌, refl, sym, ◌∙◌, ap, subst, arith, inl, inr, length, get_or, take, zero, suc}
-use Rattle.std.specs.Prelude.{◌≢◌, ◌⊎◌, ◌&&◌, Contains, IsTrue, map, not, Option, Some, None, if◌then◌else◌}
+use Rattle.std.proofs.Common.{◌≡◌, ℕ, ◌<◌, ◌≤◌, ◌+◌, Bool, true, false, List, [], ◌∷◌, ◌++◌, sym, ◌∙◌, ap, subst, arith, inl, inr, length, get_or, take, zero, suc}
+use Rattle.std.specs.Prelude.{Contains}
 use Rattle.std.proofs.lemmas.List.{take_all, take_more}
-use Rattle.vx_space.specs.Sets.{Sets, AreKnown, IsLawful}
-use Rattle.vx_heap.specs.Heap.{HeapView}
-use Rattle.vx_java.specs.Machine.{Outcome as PlainOutcome}
+use Rattle.vx_space.specs.Sets.{Sets, IsLawful}
 use Rattle.vx_link.specs.declared.program.Program.{Program}
 use Rattle.vx_outcome.specs.Outcome.{condition_of}
 use Rattle.vx_outcome.specs.declared.outcome.Outcome.{Outcome}
-use Rattle.vx_rounds.specs.Placing.{AreConditionsKnown, HasPlace, HasUnplaced, HavePlaces, has_place}
+use Rattle.vx_rounds.specs.Placing.{AreConditionsKnown, HasPlace, HavePlaces, has_place}
 
 pub never_condition : {S I : Type 0} {sets : Sets I} → IsLawful sets → (outcome : Outcome S I) (k : I) → k ≡ condition_of outcome → k ≡ sets.never → (c : List Bool) → sets.test (condition_of outcome) c ≡ false
 never_condition {sets = sets} l outcome k e n c = ap (λ i. sets.test i c) (sym e ∙ n) ∙ l.never_test c

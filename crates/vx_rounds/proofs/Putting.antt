@@ -1,15 +1,13 @@
 -- What is under way, where the space is extended and where one thing after the other takes its place.
-use Rattle.std.proofs.Common.{◌≡◌, ℕ, ◌<◌, ◌≤◌, Bool, true, false, List, [], ◌∷◌, refl, sym, ◌∙◌, ap, subst, arith}
-use Rattle.std.specs.Prelude.{◌≢◌, Option, Some, None, cond, if◌then◌else◌, is_some, nat_lt, unwrap_or}
+use Rattle.std.proofs.Common.{◌≡◌, ℕ, Bool, true, false, List, refl, ◌∙◌, ap}
+use Rattle.std.specs.Prelude.{Option, Some, None, if◌then◌else◌, is_some, unwrap_or}
 use Rattle.std.specs.Option.{option_or}
-use Rattle.std.proofs.lemmas.Bool.Decides.{nat_tests}
 use Rattle.std.specs.Ordering.{nat_cmp}
 use Rattle.vx_space.specs.Sets.{Sets, Extends}
 use Rattle.vx_cond.specs.Cond.{Conditional, IsCond, IsInside, cond_at}
-use Rattle.vx_cond.specs.Leaves.{AreLeaves, IsApart, value_at}
+use Rattle.vx_cond.specs.Leaves.{IsApart, value_at}
 use Rattle.vx_cond.proofs.LeafLaws.{AreLeaves-extends, value_at-extends}
 use Rattle.vx_cond.proofs.SideLaws.{cond_at-covers}
-use Rattle.vx_group.proofs.CallerLaws.{Keeps-refl}
 use Rattle.vx_heap.specs.Heap.{HeapView, IsHeap}
 use Rattle.vx_findings.specs.Orders.{piece_cmp}
 use Rattle.vx_findings.specs.Shared.{leaves_of}
@@ -18,9 +16,7 @@ use Rattle.vx_link.specs.declared.program.Program.{Program}
 use Rattle.vx_value.specs.Ends.{compare_ends}
 use Rattle.vx_value.specs.declared.end.End.{End}
 use Rattle.vx_rounds.specs.declared.placing.Round.{Round}
-use Rattle.vx_rounds.specs.Placing.{AreWaiting, IsEnded, IsPut, IsUnderway, IsUnwritten, IsVacant, end_after, leads_in, made_at, put_if, spent_after, waiting_at, waits_after}
-use Rattle.vx_rounds.specs.State.{group_of}
-use Rattle.vx_rounds.proofs.Placed.{findings_stay}
+use Rattle.vx_rounds.specs.Placing.{IsEnded, IsPut, IsUnderway, IsVacant, end_after, leads_in, made_at, put_if, spent_after, waiting_at, waits_after}
 use Rattle.vx_rounds.proofs.Waiting.{AreWaiting-extends, no_group, none_waits, waiting_at-extends}
 
 -- ---- a later space

@@ -1,5 +1,5 @@
 -- Raising in a method that catches nothing, in the only frame: the run ends.
-use Rattle.std.proofs.Common.{◌≡◌, ℕ, Bool, true, false, List, [], ◌∷◌, ◌++◌, refl, sym, ◌∙◌, ap, subst, arith, length, suc}
+use Rattle.std.proofs.Common.{◌≡◌, ℕ, Bool, true, List, [], ◌∷◌, ◌++◌, refl, sym, ◌∙◌, ap, arith, length, suc}
 use Rattle.std.specs.Prelude.{Option, Some, None, ◌+◌, ◌-◌, if◌then◌else◌, map}
 use Rattle.std.specs.Ordering.{nat_cmp}
 use Rattle.vx_space.specs.Sets.{Sets, Extends}
@@ -9,7 +9,7 @@ use Rattle.vx_group.specs.Group.{GroupView, path_of}
 use Rattle.vx_heap.specs.Heap.{HeapView, IsHeap}
 use Rattle.vx_class.specs.declared.class_file.Catch.{Catch}
 use Rattle.vx_families.specs.Built.{catches_of, has_none, is_call}
-use Rattle.vx_java.specs.Machine.{Ends, Frame, Null, Object, Ref, State, next_object, no_object, object_at, with_objects}
+use Rattle.vx_java.specs.Machine.{Ends, Null, Ref, State, next_object, no_object, object_at, with_objects}
 use Rattle.vx_java.specs.FirstObjects.{string_object}
 use Rattle.vx_java.specs.Selection.{handler_for, handler_in}
 use Rattle.vx_java.specs.Throwing.{exception_objects, handler_of, next_after_raise, next_in_handler, passed_object, passed_state, throwable, uncaught, unwind}

@@ -1,6 +1,6 @@
 -- Groups of a state as groups that wait, and what stands in a state by what waits and what was found.
-use Rattle.std.proofs.Common.{◌≡◌, ℕ, ◌<◌, Bool, true, false, List, [], ◌∷◌, refl, sym, ◌∙◌, ap, subst, length, map}
-use Rattle.std.specs.Prelude.{◌&&◌, ◌-◌, Option, Some, None, if◌then◌else◌, sum}
+use Rattle.std.proofs.Common.{◌≡◌, ℕ, Bool, true, false, List, [], ◌∷◌, refl, sym, ◌∙◌, ap, subst, length, map}
+use Rattle.std.specs.Prelude.{◌-◌, Option, Some, None, if◌then◌else◌}
 use Rattle.std.specs.List.{list_all}
 use Rattle.vx_space.specs.Sets.{Sets}
 use Rattle.vx_cond.specs.Leaves.{value_at}
@@ -8,22 +8,19 @@ use Rattle.vx_frame.specs.declared.frame.Frame.{Frame}
 use Rattle.vx_frame.specs.Frame.{Shape, part_of, shape_of}
 use Rattle.vx_group.specs.declared.callers.Caller.{Caller}
 use Rattle.vx_group.specs.Callers.{callers_of}
-use Rattle.vx_group.specs.Group.{GroupView, IsGroupIn, PlainGroup, attempts_at, group_at, path_of, shapes_of}
+use Rattle.vx_group.specs.Group.{GroupView, IsGroupIn, PlainGroup, group_at, path_of, shapes_of}
 use Rattle.vx_group.proofs.GroupLaws.{IsGroupIn-parts}
 use Rattle.vx_heap.specs.Heap.{HeapView}
 use Rattle.vx_families.specs.Built.{is_call}
 use Rattle.vx_findings.specs.Shared.{leaves_of}
 use Rattle.vx_link.specs.declared.program.Program.{Program}
 use Rattle.vx_sched.specs.Groups as sched
-use Rattle.vx_stands.specs.Stands.{StandsIn, is_shaped, state_at}
+use Rattle.vx_stands.specs.Stands.{is_shaped}
 use Rattle.vx_stands.proofs.StateLaws.{both, both_first, both_second}
 use Rattle.vx_value.specs.declared.end.End.{End}
 use Rattle.vx_value.specs.declared.end.Stream.{Stream}
-use Rattle.vx_value.specs.declared.key.Kind.{Kind}
-use Rattle.vx_value.specs.declared.key.Kind.TheVariants.{Call}
-use Rattle.vx_value.specs.declared.key.KeyPart.{KeyPart}
 use Rattle.vx_rounds.specs.Placing.{AreWaiting, IsGood, IsGoodGroup, Waiting, is_one, waiting_at, waiting_in}
-use Rattle.vx_rounds.specs.State.{AreRunning, IsRunning, Runs, Standing, StateView, attempts_left, came_to, come_to, configurations, group_of, left_of, output_at, standing_at, standing_in}
+use Rattle.vx_rounds.specs.State.{AreRunning, IsRunning, Runs, Standing, StateView, came_to, come_to, group_of, left_of, output_at, standing_at, standing_in}
 use Rattle.vx_rounds.proofs.Making.{no_below}
 use Rattle.vx_rounds.proofs.Raising.{is_kind}
 

@@ -1,31 +1,28 @@
 -- Outcomes that take their places one after the other.
-use Rattle.std.proofs.Common.{◌≡◌, ℕ, ◌<◌, ◌≤◌, ◌+◌, Bool, true, false, List, [], ◌∷◌, ◌++◌, refl, sym, ◌∙◌, ap, subst, arith, inl, inr, append_assoc, append-nil, length}
-use Rattle.std.specs.Prelude.{◌≢◌, ◌⊎◌, ◌&&◌, not, is_some, option_map, Option, Some, None, if◌then◌else◌, unwrap_or}
+use Rattle.std.proofs.Common.{◌≡◌, ℕ, ◌≤◌, Bool, true, false, List, [], ◌∷◌, ◌++◌, refl, sym, ◌∙◌, ap, subst, arith, inl, inr, append_assoc, append-nil, length}
+use Rattle.std.specs.Prelude.{◌&&◌, not, is_some, option_map, Option, Some, None, if◌then◌else◌, unwrap_or}
 use Rattle.std.specs.Option.{option_or}
 use Rattle.std.specs.Ordering.{nat_cmp}
 use Rattle.vx_list.specs.Places.{item_or}
 use Rattle.vx_space.specs.Sets.{Sets, Extends, IsLawful}
 use Rattle.vx_space.proofs.Spaces.{Extends-refl, Extends-trans}
-use Rattle.vx_cond.specs.Cond.{Conditional, IsCond, IsInside, cond_at}
+use Rattle.vx_cond.specs.Cond.{Conditional, IsCond}
 use Rattle.vx_cond.specs.Leaves.{value_at}
-use Rattle.vx_cond.proofs.CondLaws.{cond_at-extends, IsCond-extends}
-use Rattle.vx_group.specs.Group.{GroupView, attempts_at, path_of}
+use Rattle.vx_cond.proofs.CondLaws.{cond_at-extends}
+use Rattle.vx_group.specs.Group.{GroupView, path_of}
 use Rattle.vx_group.proofs.GroupLaws.{IsGroupIn-group, IsGroup-path_known, attempts_at-extends}
 use Rattle.vx_heap.specs.Heap.{HeapView, IsHeap}
-use Rattle.vx_heap.proofs.HeapLaws.{IsHeap-extends}
 use Rattle.vx_findings.specs.Shared.{leaves_of}
-use Rattle.vx_findings.specs.declared.piece.Piece.{Piece}
-use Rattle.vx_java.specs.Machine.{Next}
 use Rattle.vx_java.specs.Machine.{Go, Raise, Write, Outcome as PlainOutcome}
 use Rattle.vx_java.specs.Step.{next}
 use Rattle.vx_link.specs.declared.program.Program.{Program}
 use Rattle.vx_outcome.specs.Outcome.{Divide, condition_of}
 use Rattle.vx_outcome.specs.declared.outcome.Outcome.{Outcome}
 use Rattle.vx_outcome.specs.declared.outcome.Outcome.TheVariants as shared
-use Rattle.vx_stands.specs.Stands.{StandsIn, comes_to, message_of, outcome_at, state_at}
+use Rattle.vx_stands.specs.Stands.{message_of, outcome_at}
 use Rattle.vx_stands.proofs.StateLaws.{StandsIn-extends, both_first, both_second, state_at-extends}
 use Rattle.vx_rounds.specs.declared.placing.Round.{Round}
-use Rattle.vx_rounds.specs.Placing.{ArePlaceable, AreWritten, HasGoing, HasPlace, HavePlaces, IsGoing, IsOutcomePlaced, IsPlaceable, IsPut, IsUnderway, IsUnwritten, IsVacant, has_place, led_by, made_at, piece_after, put_if, said_by, said_in}
+use Rattle.vx_rounds.specs.Placing.{ArePlaceable, HasGoing, HasPlace, HavePlaces, IsGoing, IsOutcomePlaced, IsPlaceable, IsUnderway, IsUnwritten, IsVacant, has_place, led_by, made_at, piece_after, put_if, said_by, said_in}
 use Rattle.vx_rounds.proofs.Putting.{IsPut-same, IsPut-then, IsVacant-put}
 
 -- ---- over a later space

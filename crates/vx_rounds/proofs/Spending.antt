@@ -1,9 +1,9 @@
 -- A group that makes an attempt more.
-use Rattle.std.proofs.Common.{◌≡◌, ℕ, ◌+◌, Bool, true, false, List, refl, sym, ◌∙◌, ap, subst}
-use Rattle.std.specs.Prelude.{Option, Some, None, if◌then◌else◌, unwrap_or}
+use Rattle.std.proofs.Common.{◌≡◌, ℕ, ◌+◌, Bool, true, false, List, refl, sym, ◌∙◌, ap}
+use Rattle.std.specs.Prelude.{Option, None, if◌then◌else◌, unwrap_or}
 use Rattle.std.specs.Ordering.{nat_cmp}
 use Rattle.vx_space.specs.Sets.{Sets, Extends, IsLawful}
-use Rattle.vx_cond.specs.Cond.{Conditional, IsCond, IsCondOf, cond_at}
+use Rattle.vx_cond.specs.Cond.{Conditional, IsCondOf, cond_at}
 use Rattle.vx_cond.specs.Leaves.{value_within}
 use Rattle.vx_cond.proofs.CondLaws.{IsCond-of, cond_at-of}
 use Rattle.vx_group.specs.Group.{GroupView, IsGroup, attempts_at, path_of}

@@ -1,5 +1,5 @@
 -- What stands after a round, and what was written.
-use Rattle.std.proofs.Common.{◌≡◌, ℕ, Bool, true, false, List, [], ◌∷◌, ◌++◌, refl, sym, ◌∙◌, ap, subst, length, map, suc, append-nil, append_assoc}
+use Rattle.std.proofs.Common.{◌≡◌, ℕ, Bool, true, false, List, [], ◌∷◌, ◌++◌, refl, sym, ◌∙◌, ap, length, map, suc, append-nil, append_assoc}
 use Rattle.std.specs.Prelude.{cond, drop, Option, Some, None, if◌then◌else◌, is_some, nat_lt}
 use Rattle.vx_space.specs.Sets.{Sets}
 use Rattle.vx_cond.specs.Leaves.{AreLeaves, value_at}
@@ -7,11 +7,10 @@ use Rattle.vx_findings.specs.Orders.{piece_cmp}
 use Rattle.vx_findings.specs.Shared.{leaves_of}
 use Rattle.vx_findings.specs.declared.piece.Piece.{Piece}
 use Rattle.vx_findings.specs.declared.shared.Shared.{Shared}
-use Rattle.vx_java.specs.Lockstep.{live_progress, output_of, piece_of}
-use Rattle.vx_java.specs.Lockstep as lockstep
-use Rattle.vx_java.specs.Machine.{Begin, Ended, Ends, Go, Goes, Native, Next, Outcome, Raise, State, Throw, Write}
+use Rattle.vx_java.specs.Lockstep.{output_of, piece_of}
+use Rattle.vx_java.specs.Machine.{Begin, Ended, Ends, Go, Goes, Native, Next, Outcome, Raise, Throw, Write}
 use Rattle.vx_java.specs.Report.{bytes_of}
-use Rattle.vx_java.specs.Step.{Progress, next, outcome_carried_out, run_after, step, text_of, utf8_of}
+use Rattle.vx_java.specs.Step.{Progress, next, outcome_carried_out, run_after, text_of, utf8_of}
 use Rattle.vx_java.specs.Row.{row}
 use Rattle.vx_link.specs.declared.program.Program.{Program}
 use Rattle.vx_value.specs.declared.end.End.TheVariants.{Unfinished}

@@ -1,20 +1,19 @@
 -- Groups of one frame over other trees, and the tree that a sweep leaves.
 use Rattle.std.proofs.Common.{◌≡◌, ℕ, Bool, true, false, List, [], ◌∷◌, ◌++◌, refl, sym, ◌∙◌, ap, subst, length, get_or, zero, suc, arith, ◌<◌}
-use Rattle.std.specs.Prelude.{◌≢◌, Contains, Option, Some, None, if◌then◌else◌}
-use Rattle.std.specs.List.{flat_map}
+use Rattle.std.specs.Prelude.{Option, Some, None, if◌then◌else◌}
 use Rattle.vx_space.specs.Sets.{Sets, AreKnown}
 use Rattle.vx_group.specs.declared.callers.Caller.{Caller}
-use Rattle.vx_group.specs.Callers.{AreCallers, AreNodes, node_at, node_ids, tree_ids}
-use Rattle.vx_group.specs.Group.{GroupView, IsGroupIn, attempts_at, path_of}
+use Rattle.vx_group.specs.Callers.{node_at, node_ids, tree_ids}
+use Rattle.vx_group.specs.Group.{GroupView, attempts_at, path_of}
 use Rattle.vx_group.specs.Sweep.{IsReached, IsSwept, Reaches, StandIn, first, further}
 use Rattle.vx_group.proofs.CallerLaws.{AreCallers-nodes}
 use Rattle.vx_group.proofs.GroupLaws.{IsGroupIn-callers, IsGroupIn-group, IsGroupIn-one}
 use Rattle.vx_heap.specs.Heap.{HeapView}
 use Rattle.vx_link.specs.declared.program.Program.{Program}
 use Rattle.vx_sched.specs.Groups as sched
-use Rattle.vx_stands.specs.Stands.{StandsIn, state_at}
-use Rattle.vx_rounds.specs.Placing.{Waiting, waiting_at, waiting_in}
-use Rattle.vx_rounds.specs.State.{AreRunning, IsRunning, StateView, group_of}
+use Rattle.vx_stands.specs.Stands.{StandsIn}
+use Rattle.vx_rounds.specs.Placing.{waiting_at, waiting_in}
+use Rattle.vx_rounds.specs.State.{AreRunning, StateView, group_of}
 use Rattle.vx_rounds.proofs.Making.{alone_caller, no_below}
 
 -- a group of one frame

@@ -1,37 +1,33 @@
 -- A round from its beginning to its end, and what waits and was found then.
-use Rattle.std.proofs.Common.{◌≡◌, ℕ, ◌<◌, ◌≤◌, ◌+◌, ◌-◌, Bool, true, false, List, [], ◌∷◌, ◌++◌, refl, sym, ◌∙◌, ap, subst, length, suc, zero, map, arith}
-use Rattle.std.specs.Prelude.{◌≢◌, Contains, cond, Option, Some, None, if◌then◌else◌, is_some, nat_lt, option_map, sum}
+use Rattle.std.proofs.Common.{◌≡◌, ℕ, ◌<◌, ◌≤◌, ◌-◌, Bool, true, false, List, [], refl, sym, ◌∙◌, ap, suc, map, arith}
+use Rattle.std.specs.Prelude.{cond, Option, Some, None, if◌then◌else◌, nat_lt, option_map, sum}
 use Rattle.std.specs.List.{remove}
 use Rattle.std.specs.Ordering.{nat_cmp}
-use Rattle.vx_space.specs.Sets.{Sets, AreKnown, Extends, IsLawful}
+use Rattle.vx_space.specs.Sets.{Sets, Extends, IsLawful}
 use Rattle.vx_cond.specs.Cond.{Conditional}
 use Rattle.vx_cond.specs.Leaves.{value_at}
 use Rattle.vx_cond.proofs.LeafLaws.{value_at-extends}
 use Rattle.vx_group.specs.declared.callers.Caller.{Caller}
-use Rattle.vx_group.specs.Callers.{AreCallers, node_at, node_ids, tree_ids}
-use Rattle.vx_group.specs.Group.{GroupView, IsGroupIn, attempts_at, group_at, path_of}
-use Rattle.vx_group.specs.Sweep.{IsReached, IsSwept, Reaches, StandIn, first, further}
-use Rattle.vx_group.proofs.CallerLaws.{AreCallers-nodes}
-use Rattle.vx_group.proofs.GroupLaws.{IsGroupIn-callers, IsGroupIn-group, IsGroupIn-one, IsGroup-path_known}
+use Rattle.vx_group.specs.Group.{GroupView, attempts_at, path_of}
+use Rattle.vx_group.proofs.GroupLaws.{IsGroup-path_known}
 use Rattle.vx_heap.specs.Heap.{HeapView}
 use Rattle.vx_findings.specs.Shared.{leaves_of}
-use Rattle.vx_java.specs.Machine.{Next, State}
+use Rattle.vx_java.specs.Machine.{Next}
 use Rattle.vx_java.specs.Machine.{Outcome as PlainOutcome, Ends, Goes}
 use Rattle.vx_java.specs.Step.{next}
 use Rattle.vx_link.specs.declared.program.Program.{Program}
-use Rattle.vx_sched.specs.Groups as sched
 use Rattle.vx_sched.proofs.GroupsLaws.{IsTaken}
-use Rattle.vx_stands.specs.Stands.{StandsIn, state_at}
+use Rattle.vx_stands.specs.Stands.{state_at}
 use Rattle.vx_value.specs.Ends.{compare_ends}
 use Rattle.vx_rounds.specs.declared.placing.Round.{Round}
 use Rattle.vx_rounds.specs.Attempted.{carried_out_row}
-use Rattle.vx_rounds.specs.Placing.{AreWaiting, Waiting, end_after, led_by, piece_after, put_if, spent_after, waiting_at, waiting_in, waits_after}
-use Rattle.vx_rounds.specs.State.{AreRunning, IsRunning, IsState, StateView, attempts_left, configurations, group_of, left_of}
+use Rattle.vx_rounds.specs.Placing.{end_after, led_by, piece_after, put_if, spent_after, waiting_at, waits_after}
+use Rattle.vx_rounds.specs.State.{IsRunning, IsState, StateView, attempts_left, configurations, group_of, left_of}
 use Rattle.vx_rounds.specs.Stepping.{IsBegun, IsMade, IsSpent, came_of}
 use Rattle.vx_rounds.proofs.Opening.{begun_underway, chosen_is_group, chosen_running, chosen_taken, spent_path, spent_state}
 use Rattle.vx_rounds.proofs.Configurations.{Contains-configurations, member_of, sum_falls}
-use Rattle.vx_rounds.proofs.Making.{alone_caller, no_below, stands_alone, state_alone}
-use Rattle.vx_rounds.proofs.Running.{AreRunning-waiting, AreWaiting-running, left_by, left_of-by}
+use Rattle.vx_rounds.proofs.Making.{stands_alone, state_alone}
+use Rattle.vx_rounds.proofs.Running.{left_by, left_of-by}
 use Rattle.vx_rounds.proofs.Waiting.{run_by, waiting_at-extends, waiting_at-standing}
 
 -- a round, once its attempt took its place

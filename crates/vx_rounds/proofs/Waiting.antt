@@ -1,27 +1,22 @@
 -- What waits at a configuration, and what it keeps where the space is extended.
-use Rattle.std.proofs.Common.{◌≡◌, ℕ, ◌<◌, Bool, true, false, List, [], ◌∷◌, refl, sym, ◌∙◌, ap, subst, length, map}
-use Rattle.std.specs.Prelude.{◌&&◌, Option, Some, None, if◌then◌else◌, option_map, not}
+use Rattle.std.proofs.Common.{◌≡◌, ℕ, Bool, true, false, List, [], ◌∷◌, refl, sym, ◌∙◌, ap, subst, map}
+use Rattle.std.specs.Prelude.{◌&&◌, Option, Some, None, if◌then◌else◌, option_map}
 use Rattle.std.specs.List.{list_all}
 use Rattle.vx_space.specs.Sets.{Sets, Extends}
-use Rattle.vx_cond.specs.Cond.{IsInside}
-use Rattle.vx_frame.specs.Frame.{PlainFrame, Shape, frame_at, shape_of}
+use Rattle.vx_frame.specs.Frame.{PlainFrame}
 use Rattle.vx_group.specs.declared.callers.Caller.{Caller}
-use Rattle.vx_group.specs.Callers.{AreCallers, Keeps, callers_of, frames_at}
-use Rattle.vx_group.specs.Group.{GroupView, IsGroup, IsGroupIn, PlainGroup, attempts_at, group_at, path_of, shapes_of, stack_of}
+use Rattle.vx_group.specs.Group.{GroupView, PlainGroup, group_at, path_of}
 use Rattle.vx_group.proofs.CallerLaws.{Keeps-refl}
-use Rattle.vx_group.proofs.GroupLaws.{IsGroupIn-callers, IsGroupIn-group, IsGroupIn-one, IsGroup-path_known}
 use Rattle.vx_heap.specs.Heap.{HeapView, IsHeap, globals_at}
 use Rattle.vx_heap.proofs.HeapLaws.{globals_at-extends}
-use Rattle.vx_families.specs.Built.{is_call}
 use Rattle.vx_java.specs.Machine.{State}
 use Rattle.vx_link.specs.declared.program.Program.{Program}
 use Rattle.vx_sched.specs.Groups as sched
-use Rattle.vx_sched.proofs.GroupsLaws.{AreGroups-later, path_known, standing_at-later}
-use Rattle.vx_stands.specs.Stands.{StandsIn, frame_held, is_shaped, plain_frame, state_at, state_of}
-use Rattle.vx_stands.proofs.StateLaws.{allowed_known, both, both_first, both_second, frame_held-extends, plain_frame-extends}
-use Rattle.vx_value.specs.declared.key.Kind.{Kind}
-use Rattle.vx_value.specs.declared.key.Kind.TheVariants.{Call, Init, Wait}
-use Rattle.vx_rounds.specs.Placing.{AreWaiting, IsGood, IsGoodGroup, Waiting, is_one, waiting_at, waiting_in}
+use Rattle.vx_sched.proofs.GroupsLaws.{AreGroups-later, standing_at-later}
+use Rattle.vx_stands.specs.Stands.{frame_held, plain_frame, state_at, state_of}
+use Rattle.vx_stands.proofs.StateLaws.{allowed_known, frame_held-extends, plain_frame-extends}
+use Rattle.vx_value.specs.declared.key.Kind.TheVariants.{Call}
+use Rattle.vx_rounds.specs.Placing.{AreWaiting, IsGood, Waiting, waiting_at, waiting_in}
 use Rattle.vx_rounds.specs.State.{group_of}
 
 -- ---- tests

@@ -1,27 +1,24 @@
 -- A whole round: from a state, over a compaction, to the state after it; or a run that stands at what isn't built.
-use Rattle.std.proofs.Common.{◌≡◌, ℕ, ◌<◌, ◌≤◌, ◌+◌, Bool, true, false, List, [], ◌∷◌, ◌++◌, refl, sym, ◌∙◌, ap, subst, suc, zero, arith, map}
-use Rattle.std.specs.Prelude.{Option, Some, None, option_map, slice_get}
+use Rattle.std.proofs.Common.{◌≡◌, ℕ, ◌+◌, Bool, List, [], ◌∷◌, ◌++◌, refl, sym, ◌∙◌, ap, subst, suc, zero, arith}
+use Rattle.std.specs.Prelude.{Option, Some, option_map, slice_get}
 use Rattle.std.specs.List.{flat_map}
-use Rattle.vx_space.specs.Sets.{Sets, AreKept, AreKnown, Extends, IsCompacted, IsLawful}
+use Rattle.vx_space.specs.Sets.{Sets, AreKept, Extends, IsCompacted, IsLawful}
 use Rattle.vx_space.proofs.Spaces.{Extends-trans}
 use Rattle.vx_cond.specs.Cond.{Conditional}
 use Rattle.vx_cond.specs.Keeping.{AreKept-append_left, AreKept-append_right}
 use Rattle.vx_cond.specs.Leaves.{value_at}
-use Rattle.vx_group.specs.declared.callers.Caller.{Caller}
 use Rattle.vx_group.specs.Group.{GroupView, attempts_at, group_ids, path_of}
 use Rattle.vx_group.proofs.GroupLaws.{IsGroup-path_known}
 use Rattle.vx_heap.specs.Heap.{HeapView}
 use Rattle.vx_families.specs.Built.{is_built}
 use Rattle.vx_findings.specs.Shared.{leaves_of}
 use Rattle.vx_java.specs.Lockstep.{piece_of}
-use Rattle.vx_java.specs.Step.{Progress}
 use Rattle.vx_link.specs.declared.program.Program.{Program}
 use Rattle.vx_stands.specs.Stands.{state_at}
 use Rattle.vx_rounds.specs.declared.placing.Round.{Round}
 use Rattle.vx_rounds.specs.Attempted.{IsUnbuiltThere}
-use Rattle.vx_rounds.specs.Placing.{waiting_at}
 use Rattle.vx_rounds.specs.Rounds.{IsRound, IsStuck, after_round, written}
-use Rattle.vx_rounds.specs.State.{IsState, Runs, StateView, output_at, shared_ids, standing_at, state_ids}
+use Rattle.vx_rounds.specs.State.{IsState, StateView, output_at, shared_ids, standing_at, state_ids}
 use Rattle.vx_rounds.specs.Stepping.{IsBegun, IsClosed, IsMade, IsSpent}
 use Rattle.vx_rounds.proofs.Closing.{IsState-closed, closed_standing, closed_state, closed_wrote}
 use Rattle.vx_rounds.proofs.Keeping.{IsState-kept, standing_at-kept, state_kept}

@@ -1,5 +1,5 @@
 -- A round: the runs of one group make an attempt, and all others stay (own).
-use Rattle.std.specs.Prelude.{◌≡◌, ℕ, ◌++◌, suc, Bool, true, false, List, [], ◌∷◌, drop, length, slice_get, Option, Some, None}
+use Rattle.std.specs.Prelude.{◌≡◌, ℕ, ◌++◌, suc, Bool, true, false, List, [], ◌∷◌, drop, length, Option, Some, None}
 use Rattle.vx_space.specs.Sets.{Sets, AreKept}
 use Rattle.vx_cond.specs.Leaves.{AreLeaves, value_at}
 use Rattle.vx_group.specs.Group.{GroupView, path_of}
@@ -13,7 +13,7 @@ use Rattle.vx_java.specs.Lockstep as lockstep
 use Rattle.vx_java.specs.Step.{Config, Live, Progress, start, step, steps}
 use Rattle.vx_link.specs.declared.program.Program.{Program}
 use Rattle.vx_value.specs.declared.end.Stream.{Stream}
-use Rattle.vx_rounds.specs.State.{IsState, Standing, StateView, Came, Runs, shared_ids, standing_at, standing_of}
+use Rattle.vx_rounds.specs.State.{IsState, Standing, StateView, Runs, shared_ids, standing_at, standing_of}
 
 -- what stands after a round, where the group that made the attempt holds the configuration, and where not
 abbrev pub after_round : Program → (limit : ℕ) → (holds : Bool) → Option Standing → Option Standing

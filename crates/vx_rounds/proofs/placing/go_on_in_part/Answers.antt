@@ -7,7 +7,7 @@ use Rattle.vx_group.proofs.GroupLaws.{IsGroupIn-group, IsGroup-attempts, IsGroup
 use Rattle.vx_heap.proofs.HeapLaws.{IsHeap-extends}
 use Rattle.vx_stands.proofs.Gathering.{IsPartOf-group}
 use Rattle.vx_value.specs.Ends.{compare_ends}
-use Rattle.vx_rounds.proofs.Going.{IsPut-parted, ended_vacant, left_attempts, left_in, left_stands, left_vacant, part_kind, used_in, used_put}
+use Rattle.vx_rounds.proofs.Going.{IsPut-parted, ended_vacant, left_attempts, left_stands, left_vacant, part_kind, used_put}
 use Rattle.vx_rounds.proofs.Putting.{ends_apart, spent_apart}
 use Rattle.vx_rounds.proofs.placing.go_on_in_part.Goals as goal
 

@@ -1,4 +1,3 @@
-use Rattle.std.proofs.Common.{refl}
 use Rattle.vx_rounds.proofs.Places.{HavePlaces-all, HavePlaces-more, among, known_at}
 use Rattle.vx_rounds.proofs.placing.have_places.Goals as goal
 

@@ -1,11 +1,10 @@
-use Rattle.std.proofs.Common.{List, ap, arith, length, subst, sym, ◌∙◌}
+use Rattle.std.proofs.Common.{ap, arith, length}
 use Rattle.std.specs.Ordering.{nat_cmp}
 use Rattle.std.specs.Vec.Iter.{into_iter_items}
 use Rattle.vx_space.proofs.Spaces.{Extends-trans}
 use Rattle.vx_cond.proofs.CondLaws.{IsCond-extends}
 use Rattle.vx_heap.proofs.HeapLaws.{IsHeap-extends}
-use Rattle.vx_outcome.specs.declared.outcome.Outcome.{Outcome}
-use Rattle.vx_rounds.proofs.Sequence.{HasPlace-extends, IsPlaceable-extends, IsPlacing, IsPlacing-end, IsPlacing-start, IsPlacing-step, next_bound, next_unwritten, next_vacant, no_more}
+use Rattle.vx_rounds.proofs.Sequence.{HasPlace-extends, IsPlaceable-extends, IsPlacing-end, IsPlacing-start, IsPlacing-step, next_bound, next_unwritten, next_vacant, no_more}
 use Rattle.vx_rounds.proofs.placing.place_all.Goals as goal
 
 pub loop-outcome-init : goal.loop-outcome-init

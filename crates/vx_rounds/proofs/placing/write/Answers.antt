@@ -1,6 +1,4 @@
 use Rattle.std.proofs.Common.{refl, [], ◌∙◌, ap}
-use Rattle.std.specs.Ordering.{nat_cmp}
-use Rattle.vx_space.proofs.Spaces.{Extends-trans}
 use Rattle.vx_group.specs.Group.{path_of}
 use Rattle.vx_group.proofs.GroupLaws.{IsGroupIn-group, IsGroup-path_known}
 use Rattle.vx_heap.proofs.HeapLaws.{IsHeap-extends}

@@ -1,4 +1,3 @@
-use Rattle.std.proofs.Common.{refl}
 use Rattle.std.specs.Ordering.{nat_cmp}
 use Rattle.vx_space.proofs.Spaces.{Extends-trans}
 use Rattle.vx_cond.proofs.CondLaws.{IsCond-extends}

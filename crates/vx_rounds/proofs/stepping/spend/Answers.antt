@@ -1,4 +1,3 @@
-use Rattle.std.specs.Ordering.{nat_cmp}
 use Rattle.vx_space.proofs.Spaces.{Extends-trans}
 use Rattle.vx_group.proofs.GroupLaws.{IsGroup-attempts, IsGroup-path_known}
 use Rattle.vx_rounds.proofs.Spending.{IsSpent-made}
