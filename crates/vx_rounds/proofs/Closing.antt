@@ -22,7 +22,7 @@ use Rattle.vx_link.specs.declared.program.Program.{Program}
 use Rattle.vx_stands.specs.Stands.{state_at}
 use Rattle.vx_stands.proofs.StateLaws.{allowed_known}
 use Rattle.vx_rounds.specs.declared.placing.Round.{Round}
-use Rattle.vx_rounds.specs.Attempted.{carried_out_row}
+use Rattle.vx_attempt.specs.Attempted.{carried_out_row}
 use Rattle.vx_rounds.specs.Placing.{end_after, piece_after, spent_after, waiting_at, waiting_in, waits_after}
 use Rattle.vx_rounds.specs.Rounds.{after_round, pieces_in, written}
 use Rattle.vx_rounds.specs.State.{GoesOn, IsNowhere, IsState, Runs, StateView, attempts_left, group_of, output_at, shared_ids, standing_at}

@@ -21,7 +21,7 @@ use Rattle.vx_stands.specs.Stands.{StandsIn, frame_held, is_shaped, state_at}
 use Rattle.vx_stands.proofs.StateLaws.{StandsIn-extends, state_at-extends}
 use Rattle.vx_value.specs.declared.key.Kind.TheVariants.{Call}
 use Rattle.vx_rounds.specs.declared.placing.Round.{Round}
-use Rattle.vx_rounds.specs.Attempted.{MayAttempt}
+use Rattle.vx_attempt.specs.Attempted.{MayAttempt}
 use Rattle.vx_rounds.specs.Placing.{AreWaiting, IsGood, IsUnderway, IsUnwritten, IsVacant, is_one}
 use Rattle.vx_rounds.specs.State.{AreRunning, IsRunning, IsState, StateView, group_of}
 use Rattle.vx_rounds.specs.Stepping.{IsBegun, IsCount, IsSpent}

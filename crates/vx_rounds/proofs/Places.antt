@@ -6,7 +6,8 @@ use Rattle.vx_space.specs.Sets.{Sets, IsLawful}
 use Rattle.vx_link.specs.declared.program.Program.{Program}
 use Rattle.vx_outcome.specs.Outcome.{condition_of}
 use Rattle.vx_outcome.specs.declared.outcome.Outcome.{Outcome}
-use Rattle.vx_rounds.specs.Placing.{AreConditionsKnown, HasPlace, HavePlaces, has_place}
+use Rattle.vx_attempt.specs.Carrying.{AreConditionsKnown}
+use Rattle.vx_rounds.specs.Placing.{HasPlace, HavePlaces, has_place}
 
 pub never_condition : {S I : Type 0} {sets : Sets I} → IsLawful sets → (outcome : Outcome S I) (k : I) → k ≡ condition_of outcome → k ≡ sets.never → (c : List Bool) → sets.test (condition_of outcome) c ≡ false
 never_condition {sets = sets} l outcome k e n c = ap (λ i. sets.test i c) (sym e ∙ n) ∙ l.never_test c

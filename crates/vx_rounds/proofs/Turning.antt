@@ -20,7 +20,7 @@ use Rattle.vx_sched.proofs.GroupsLaws.{IsTaken}
 use Rattle.vx_stands.specs.Stands.{state_at}
 use Rattle.vx_value.specs.Ends.{compare_ends}
 use Rattle.vx_rounds.specs.declared.placing.Round.{Round}
-use Rattle.vx_rounds.specs.Attempted.{carried_out_row}
+use Rattle.vx_attempt.specs.Attempted.{carried_out_row}
 use Rattle.vx_rounds.specs.Placing.{end_after, led_by, piece_after, put_if, spent_after, waiting_at, waits_after}
 use Rattle.vx_rounds.specs.State.{IsRunning, IsState, StateView, attempts_left, configurations, group_of, left_of}
 use Rattle.vx_rounds.specs.Stepping.{IsBegun, IsMade, IsSpent, came_of}

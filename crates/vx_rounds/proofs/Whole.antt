@@ -16,7 +16,7 @@ use Rattle.vx_java.specs.Lockstep.{piece_of}
 use Rattle.vx_link.specs.declared.program.Program.{Program}
 use Rattle.vx_stands.specs.Stands.{state_at}
 use Rattle.vx_rounds.specs.declared.placing.Round.{Round}
-use Rattle.vx_rounds.specs.Attempted.{IsUnbuiltThere}
+use Rattle.vx_attempt.specs.Attempted.{IsUnbuiltThere}
 use Rattle.vx_rounds.specs.Rounds.{IsRound, IsStuck, after_round, written}
 use Rattle.vx_rounds.specs.State.{IsState, StateView, output_at, shared_ids, standing_at, state_ids}
 use Rattle.vx_rounds.specs.Stepping.{IsBegun, IsClosed, IsMade, IsSpent}

@@ -219,8 +219,6 @@ pub record HasUnplaced {S I : Type 0} (p : Program) (sets : Sets I) (outcomes : 
   pub among : Contains outcomes outcome
   pub is_unplaced : IsUnplaced p sets outcome
 
-abbrev pub AreConditionsKnown : {S I : Type 0} → Sets I → List (Outcome S I) → Type 0
-AreConditionsKnown sets outcomes = AreKnown sets (map condition_of outcomes)
 
 -- an outcome that has no place: it isn't built, or is a native method's, which is carried out before
 abbrev pub is_refused : Program → PlainOutcome → Bool

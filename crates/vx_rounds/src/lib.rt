@@ -2,7 +2,6 @@
 //! make an attempt.
 #![tactic(auto)]
 
-mod attempting;
 mod placing;
 pub mod starting;
 pub mod state;

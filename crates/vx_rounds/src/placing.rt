@@ -20,7 +20,8 @@ ghost use Rattle.vx_stands.specs.Stands.{StandsIn, state_at};
 ghost use Rattle.vx_value.specs.Ends.{compare_ends};
 ghost use Rattle.vx_families.specs.Bounds.{IsBounded};
 ghost use Rattle.vx_value.specs.Texts.{text_at};
-ghost use Rattle.vx_rounds.specs.Placing.{AreConditionsKnown, ArePlaceable, AreWritten, HasPlace, HasUnplaced, HavePlaces, IsEnded, IsOutcomePlaced, IsPlaceable, IsPut, IsUnderway, IsUnplaced, IsUnwritten, IsUsedUp, IsVacant, has_place, leads_in, made_at, piece_if, said_by, said_in};
+ghost use Rattle.vx_attempt.specs.Carrying.{AreConditionsKnown};
+ghost use Rattle.vx_rounds.specs.Placing.{ArePlaceable, AreWritten, HasPlace, HasUnplaced, HavePlaces, IsEnded, IsOutcomePlaced, IsPlaceable, IsPut, IsUnderway, IsUnplaced, IsUnwritten, IsUsedUp, IsVacant, has_place, leads_in, made_at, piece_if, said_by, said_in};
 
 use std::alloc::Global;
 use vx_cond::{Cond, Leaf};

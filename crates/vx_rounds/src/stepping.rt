@@ -7,17 +7,17 @@ ghost use Rattle.vx_group.specs.Group.{GroupView, IsGroup, attempts_at, path_of}
 ghost use Rattle.vx_group.specs.Sweep.{StandIn};
 ghost use Rattle.vx_families.specs.Bounds.{IsBounded};
 ghost use Rattle.vx_value.specs.declared.key.Kind.TheVariants.{Call};
-ghost use Rattle.vx_rounds.specs.Attempted.{IsUnbuiltThere, MayAttempt};
+ghost use Rattle.vx_attempt.specs.Attempted.{IsUnbuiltThere, MayAttempt};
 ghost use Rattle.vx_rounds.specs.Placing.{IsUnderway, IsUnwritten, IsVacant};
 ghost use Rattle.vx_rounds.specs.Rounds.{IsRound, IsStuck};
 ghost use Rattle.vx_rounds.specs.State.{IsState, state_ids};
 ghost use Rattle.vx_rounds.specs.Stepping.{IsBegun, IsClosed, IsMade, IsSpent, IsCount};
 
-use crate::attempting::attempt;
 use crate::placing::{Round, Setting, have_places, place_all};
 use crate::state::State;
 use std::alloc::{AllocError, Global};
 use std::mem;
+use vx_attempt::attempt;
 use vx_cond::Cond;
 use vx_families::AttemptFault;
 use vx_group::{Callers, Group};

@@ -1,0 +1,328 @@
+-- A native method is left to be carried out in the very state in which its call was attempted.
+use Rattle.std.proofs.Common.{◌≡◌, ℕ, ℤ, Bool, true, false, List, [], ◌∷◌, refl, ap, sym, ◌∙◌, subst, zero, suc}
+use Rattle.std.specs.Prelude.{Option, Some, None, ◌&&◌, ◌==◌, nat_lt, not}
+use Rattle.std.specs.Int.{w32, w64}
+use Rattle.vx_class.specs.Members.{STATIC}
+use Rattle.vx_class.specs.declared.class_file.Code.{Code}
+use Rattle.vx_desc.specs.Descriptors.{field_type}
+use Rattle.vx_desc.specs.declared.java_type.JavaType.{JavaType}
+use Rattle.vx_families.specs.Built.{is_built_operation, is_println, is_virtual}
+use Rattle.vx_java.specs.Calls.{arguments_off, call_instance, call_resolved, carry_out, clone_array, dispatch, enter, if_arguments, if_method, invoke, is_receiver, on_class, on_receiver, selection, state_in_callee, wrong_kind}
+use Rattle.vx_java.specs.Checks.{fits_type, if_there, is_of, non_null, same_bool, sort_of, width_of_type, with_class}
+use Rattle.vx_java.specs.FirstObjects.{literal_object}
+use Rattle.vx_java.specs.Calculation.{int_arithmetic, int_result, int_shift, long_arithmetic, long_compare, long_result, long_shift, on_int, on_long}
+use Rattle.vx_java.specs.Jumps.{branch, if_int, if_ints, if_null, jump, switch_lookup, switch_table}
+use Rattle.vx_java.specs.Locals.{increase, load, locals_with, store, with_locals}
+use Rattle.vx_java.specs.Constants.{push_entry}
+use Rattle.vx_java.specs.Fields.{Found, declaring, get_static, if_agreeing, if_field, if_sort, if_type, put_static, put_value, static_value, with_written}
+use Rattle.vx_java.specs.Initialisation.{by_state, when_initialised, when_not}
+use Rattle.vx_java.specs.Machine.{Frame, Here, Outcome, State, Value, Go, Raise, Throw, Begin, Native, Write, Ended, depth, fit, frame_bound, go, has_room, illegal, init_at, method_text, object_at, past, push, push_new, raise, settle, unsupported, when, Top, Int, Long, Null, Ref, Text}
+use Rattle.vx_java.specs.Operation.{native_word}
+use Rattle.vx_java.specs.Returns.{agrees, fits_caller, frame_resumed, return_to, return_value, values_returned}
+use Rattle.vx_java.specs.Row.{row_of}
+use Rattle.vx_java.specs.StackForms.{lower_taken, upper_taken}
+use Rattle.vx_java.specs.declared.operation.Mode.{Mode}
+use Rattle.vx_java.specs.declared.operation.Mode.TheVariants as mode
+use Rattle.vx_java.specs.declared.operation.Operation.{Operation}
+use Rattle.vx_java.specs.declared.operation.Operation.TheVariants as operation
+use Rattle.vx_java.specs.declared.operation.Shuffle.{Shuffle}
+use Rattle.vx_java.specs.declared.operation.Test.{Test}
+use Rattle.vx_value.specs.Arithmetic.{compare_long_of, long_to_int, narrow_of, negation, shift_int_of, shift_long_of}
+use Rattle.vx_value.specs.declared.operation.IntOp.{IntOp}
+use Rattle.vx_value.specs.declared.operation.ShiftOp.{ShiftOp}
+use Rattle.vx_java.specs.declared.operation.Sort.{Sort}
+use Rattle.vx_java.specs.declared.selected.Selected.{Selected}
+use Rattle.vx_java.specs.declared.selected.Selected.TheVariants as selected
+use Rattle.vx_link.specs.ClassNames.{class_named}
+use Rattle.vx_link.specs.Names.{Member, member, utf8}
+use Rattle.vx_link.specs.Assignability.{assignable}
+use Rattle.vx_link.specs.Parts.{has, is_interface, method_at}
+use Rattle.vx_link.specs.Resolution.{is_array_clone, resolve_field, resolve_method}
+use Rattle.vx_link.specs.Signature.{signature}
+use Rattle.vx_pool.specs.declared.pool.Entry.{Entry}
+use Rattle.vx_pool.specs.declared.pool.Entry.TheVariants as entry
+use Rattle.vx_pool.specs.declared.pool.Pool.{Pool}
+use Rattle.vx_value.specs.declared.key.Kind.{Kind}
+use Rattle.vx_value.specs.declared.key.Kind.TheVariants as kind
+use Rattle.vx_value.specs.declared.slot.InitState.{InitState}
+use Rattle.vx_value.specs.declared.slot.InitState.TheVariants as init
+
+-- an outcome that is a native method's stands in this state
+abbrev pub StaysIn : State → Outcome → Type 0
+StaysIn s (Native m t) = t ≡ s
+StaysIn s _ = Unit {0}
+
+module _ (s : State) where
+  by_when : (b : Bool) (x y : Outcome) → StaysIn s x → StaysIn s y → StaysIn s (when b x y)
+  by_when true x y h g = h
+  by_when false x y h g = g
+
+  -- ---- what rows ask first
+
+  by_there : (h : Here) (name : List ℕ) (o : Option ℕ) (rest : ℕ → Outcome) → ((n : ℕ) → StaysIn s (rest n)) → StaysIn s (if_there h name o rest)
+  by_there h name None rest f = tt
+  by_there h name (Some n) rest f = f n
+
+  by_non_null : (h : Here) (v : Value) (rest : ℕ → Outcome) → ((n : ℕ) → StaysIn s (rest n)) → StaysIn s (non_null h v rest)
+  by_non_null h (Ref r) rest f = f r
+  by_non_null h Top rest f = tt
+  by_non_null h (Int n) rest f = tt
+  by_non_null h (Long n) rest f = tt
+  by_non_null h Null rest f = tt
+  by_non_null h (Text t) rest f = tt
+
+  by_init : (h : Here) (c : ℕ) (i : InitState) (quiet : Bool) (rest : Here → Outcome) → ((g : Here) → StaysIn s (rest g)) → StaysIn s (by_state h c i rest)
+  by_init h c init.Done quiet rest f = f h
+  by_init h c init.Running quiet rest f = f h
+  by_init h c init.Failed quiet rest f = tt
+  by_init h c init.Not quiet rest f = quietly _
+    where
+      quietly : (b : Bool) → StaysIn s (when_not h c b rest)
+      quietly true = f _
+      quietly false = tt
+
+module _ (h : Here) where
+  abbrev Stays : Outcome → Type 0
+  Stays = StaysIn h.state
+
+  settled : (operands : List Value) → Stays (settle h operands)
+  settled operands = by_when h.state (fit h operands) (go h operands) (illegal h) tt tt
+
+  pushed : (v : Value) (operands : List Value) → Stays (push h v operands)
+  pushed v operands = settled (v ∷ operands)
+
+  -- ---- constants and locals
+
+  constant : (e : Option Entry) → Stays (push_entry h e)
+  constant (Some (entry.Integer n)) = pushed (Int n) h.state.top.operands
+  constant (Some (entry.Long n)) = pushed (Long n) h.state.top.operands
+  constant (Some (entry.Text i)) = pushed (Ref (literal_object h.program h.pool (entry.Text i))) h.state.top.operands
+  constant (Some (entry.Class i)) =
+      let operands = h.state.top.operands in
+      let made = Ref (literal_object h.program h.pool (entry.Class i)) in
+      by_there h.state h (utf8 h.pool i) (class_named h.program (utf8 h.pool i)) (λ c. push h made operands) (λ c. pushed made operands)
+  constant (Some (entry.Float n)) = tt
+  constant (Some (entry.Double n)) = tt
+  constant (Some (entry.MethodHandle kind i)) = tt
+  constant (Some (entry.MethodType i)) = tt
+  constant _ = tt
+
+  loaded : (sort : Sort) (n : ℕ) → Stays (load h sort n)
+  loaded sort n = by_when h.state _ _ (illegal h) (pushed _ h.state.top.operands) tt
+
+  stored : (sort : Sort) (n : ℕ) (operands : List Value) → Stays (store h sort n operands)
+  stored sort n [] = tt
+  stored sort n (v ∷ operands) = by_when h.state (is_of sort v) (Go (past h (with_locals h.state (locals_with h.state.top.locals n v)) operands)) (illegal h) tt tt
+
+  increased : (n : ℕ) (by : ℤ) (v : Value) → Stays (increase h n by v)
+  increased n by (Int a) = tt
+  increased n by _ = tt
+
+  -- ---- numbers
+
+  int_made : (rest : List Value) (n : Option ℤ) → Stays (int_result h rest n)
+  int_made rest (Some n) = pushed (Int n) rest
+  int_made rest None = tt
+
+  long_made : (rest : List Value) (n : Option ℤ) → Stays (long_result h rest n)
+  long_made rest (Some n) = pushed (Long n) rest
+  long_made rest None = tt
+
+  of_ints : (op : IntOp) (operands : List Value) → Stays (int_arithmetic h op operands)
+  of_ints op (Int b ∷ Int a ∷ rest) = int_made rest _
+  of_ints op _ = tt
+
+  of_longs : (op : IntOp) (operands : List Value) → Stays (long_arithmetic h op operands)
+  of_longs op (Long b ∷ Long a ∷ rest) = long_made rest _
+  of_longs op _ = tt
+
+  of_int : (f : ℤ → Value) (operands : List Value) → Stays (on_int h f operands)
+  of_int f (Int a ∷ rest) = pushed (f a) rest
+  of_int f _ = tt
+
+  of_long : (f : ℤ → Value) (operands : List Value) → Stays (on_long h f operands)
+  of_long f (Long a ∷ rest) = pushed (f a) rest
+  of_long f _ = tt
+
+  int_shifted : (op : ShiftOp) (operands : List Value) → Stays (int_shift h op operands)
+  int_shifted op (Int n ∷ Int a ∷ rest) = pushed (Int (shift_int_of op a n)) rest
+  int_shifted op _ = tt
+
+  long_shifted : (op : ShiftOp) (operands : List Value) → Stays (long_shift h op operands)
+  long_shifted op (Int n ∷ Long a ∷ rest) = pushed (Long (shift_long_of op a n)) rest
+  long_shifted op _ = tt
+
+  longs_compared : (operands : List Value) → Stays (long_compare h operands)
+  longs_compared (Long b ∷ Long a ∷ rest) = pushed (Int (compare_long_of a b)) rest
+  longs_compared _ = tt
+
+  -- ---- jumps
+
+  branched : (taken : Bool) (offset : ℤ) (operands : List Value) → Stays (branch h taken offset operands)
+  branched taken offset operands = by_when h.state taken (jump h offset operands) (go h operands) tt tt
+
+  of_test : (test : Test) (offset : ℤ) (operands : List Value) → Stays (if_int h test offset operands)
+  of_test test offset (Int a ∷ rest) = branched _ offset rest
+  of_test test offset _ = tt
+
+  of_tests : (test : Test) (offset : ℤ) (operands : List Value) → Stays (if_ints h test offset operands)
+  of_tests test offset (Int b ∷ Int a ∷ rest) = branched _ offset rest
+  of_tests test offset _ = tt
+
+  of_null : (wanted : Bool) (offset : ℤ) (operands : List Value) → Stays (if_null h wanted offset operands)
+  of_null wanted offset (Null ∷ rest) = branched _ offset rest
+  of_null wanted offset (Ref r ∷ rest) = branched _ offset rest
+  of_null wanted offset _ = tt
+
+  of_table : (fallback low high : ℤ) (first : ℕ) (operands : List Value) → Stays (switch_table h fallback low high first operands)
+  of_table fallback low high first (Int key ∷ rest) = tt
+  of_table fallback low high first _ = tt
+
+  of_lookup : (fallback : ℤ) (pairs first : ℕ) (operands : List Value) → Stays (switch_lookup h fallback pairs first operands)
+  of_lookup fallback pairs first (Int key ∷ rest) = tt
+  of_lookup fallback pairs first _ = tt
+
+  -- ---- stack forms and returns
+
+  lower_stays : (form : Shuffle) (a : List Value) (o : Option (List Value × List Value)) → Stays (lower_taken h form a o)
+  lower_stays form a None = tt
+  lower_stays form a (Some (b, rest)) = settled _
+
+  upper_stays : (form : Shuffle) (o : Option (List Value × List Value)) → Stays (upper_taken h form o)
+  upper_stays form None = tt
+  upper_stays form (Some (a, rest)) = lower_stays form a _
+
+  returned_to : (kind : Kind) (value : List Value) (callers : List Frame) → Stays (return_to h kind value callers)
+  returned_to kind value [] = tt
+  returned_to kind.Call value (f ∷ below) = by_when h.state (fits_caller h.program f value) (Go (record (h.state) { top = frame_resumed h.program f value; callers = below })) (illegal h) tt tt
+  returned_to _ value (f ∷ below) = tt
+
+  returned : (o : Option (List Value)) → Stays (return_value h o)
+  returned None = tt
+  returned (Some value) = returned_to h.state.top.kind value h.state.callers
+
+  -- ---- static fields
+
+  of_agreeing : (b : Bool) (found : Found) (rest : Found → Outcome) → ((f : Found) → Stays (rest f)) → Stays (if_agreeing h b found rest)
+  of_agreeing true found rest f = f found
+  of_agreeing false found rest f = tt
+
+  of_field : (m : Member) (static : Bool) (t : JavaType) (named : ℕ) (o : Option ℕ) (rest : Found → Outcome) → ((f : Found) → Stays (rest f)) → Stays (if_field h m static t named o rest)
+  of_field m static t named None rest f = tt
+  of_field m static t named (Some n) rest f = of_agreeing _ _ rest f
+
+  of_sort : (o : Option Sort) (rest : Outcome) → Stays rest → Stays (if_sort h o rest)
+  of_sort None rest f = tt
+  of_sort (Some sort) rest f = f
+
+  of_type : (m : Member) (static : Bool) (o : Option JavaType) (rest : Found → Outcome) → ((f : Found) → Stays (rest f)) → Stays (if_type h m static o rest)
+  of_type m static None rest f = tt
+  of_type m static (Some t) rest f =
+      let found : ℕ → Option ℕ = λ named. resolve_field h.program named m.name m.descriptor in
+      let then : ℕ → Outcome = λ named. if_field h m static t named (found named) rest in
+      of_sort (sort_of t) (with_class h m.class then) (by_there h.state h m.class (class_named h.program m.class) then (λ named. of_field m static t named (found named) rest f))
+
+  got : (i : ℕ) → Stays (get_static h i)
+  got i =
+      let m = member h.pool i in
+      let value : Found → Here → Outcome = λ found g. go g (static_value g.state found ∷ g.state.top.operands) in
+      let then : Found → Outcome = λ found. when_initialised h (declaring h found) (value found) in
+      of_type m true (field_type m.descriptor) (λ found. when (has_room h (width_of_type found.type) h.state.top.operands) (then found) (illegal h)) (λ found.
+          by_when h.state (has_room h (width_of_type found.type) h.state.top.operands) (then found) (illegal h) (by_init h.state h (declaring h found) (init_at h.state.inits (declaring h found)) true (value found) (λ g. tt)) tt)
+
+  put_stays : (found : Found) (operands : List Value) → Stays (put_value h found operands)
+  put_stays found [] = tt
+  put_stays found (v ∷ rest) =
+      let then : Here → Outcome = λ g. Go (past g (with_written g found v) rest) in
+      by_when h.state (fits_type found.type v) (when_initialised h (declaring h found) then) (illegal h) (by_init h.state h (declaring h found) (init_at h.state.inits (declaring h found)) true then (λ g. tt)) tt
+
+  put : (i : ℕ) → Stays (put_static h i)
+  put i = of_type (member h.pool i) true (field_type (member h.pool i).descriptor) (λ found. put_value h found h.state.top.operands) (λ found. put_stays found h.state.top.operands)
+
+  -- ---- virtual calls
+
+  entered : (m : ℕ) (code : Option Code) (values rest : List Value) → Stays (enter h m code values rest)
+  entered m None values rest = by_when h.state ((method_at h.program m).native == 0) (unsupported h native_word (method_text h.program (method_at h.program m))) (Native m h.state) tt refl
+  entered m (Some code) values rest = by_when h.state (nat_lt (depth h.state) frame_bound) (Go (state_in_callee h m values rest)) (raise h "java/lang/StackOverflowError") tt tt
+
+  selected_stays : (values rest : List Value) (o : Selected) → Stays (carry_out h values rest o)
+  selected_stays values rest (selected.Method m) = entered m.0 (method_at h.program m.0).code values rest
+  selected_stays values rest selected.Abstract = tt
+  selected_stays values rest selected.Conflict = tt
+
+  on_receiver_stays : (m : Member) (named : ℕ) (operands : List Value) (next : ℕ → List Value → Outcome) → ((r : ℕ) (rest : List Value) → Stays (next r rest)) → Stays (on_receiver h m named operands next)
+  on_receiver_stays m named [] next f = tt
+  on_receiver_stays m named (o ∷ rest) next f = by_when h.state (is_receiver h m named o) (non_null h o (λ r. next r rest)) (illegal h) (by_non_null h.state h o (λ r. next r rest) (λ r. f r rest)) tt
+
+  arguments_stay : (o : Option (List Value × List Value)) (next : List Value → List Value → Outcome) → ((values rest : List Value) → Stays (next values rest)) → Stays (if_arguments h o next)
+  arguments_stay None next f = tt
+  arguments_stay (Some (values, rest)) next f = f values rest
+
+  instance_stays : (m : Member) (named resolved : ℕ) → Stays (call_instance h mode.Virtual m named resolved)
+  instance_stays m named resolved = arguments_stay (arguments_off (signature m.descriptor).arguments h.state.top.operands) (λ values below. on_receiver h m named below (dispatch h mode.Virtual m named resolved values)) (λ values below. on_receiver_stays m named below (dispatch h mode.Virtual m named resolved values) (λ r rest. dispatched values r rest))
+    where
+      dispatched : (values : List Value) (r : ℕ) (rest : List Value) → Stays (dispatch h mode.Virtual m named resolved values r rest)
+      dispatched values r rest =
+          let receiver = (object_at h.state r).class in
+          let which = selection h mode.Virtual m named resolved receiver in
+          by_when h.state (m.by_interface && not (assignable h.program receiver named)) (wrong_kind h) (carry_out h (Ref r ∷ values) rest which) tt (selected_stays (Ref r ∷ values) rest which)
+
+  method_stays : (m : Member) (named : ℕ) (o : Option ℕ) → Stays (if_method h mode.Virtual m named o)
+  method_stays m named None = tt
+  method_stays m named (Some resolved) = by_when h.state (has STATIC (method_at h.program resolved).flags) (wrong_kind h) (call_instance h mode.Virtual m named resolved) tt (instance_stays m named resolved)
+
+  on_class_stays : (m : Member) (named : ℕ) → Stays (on_class h mode.Virtual m named)
+  on_class_stays m named = by_clone (is_array_clone h.program named m.name m.descriptor)
+    where
+      by_clone : (b : Bool) → Stays (elim b [ true ↦ clone_array h mode.Virtual m named | false ↦ if_method h mode.Virtual m named (resolve_method h.program named m.name m.descriptor) ])
+      by_clone true = on_receiver_stays m named h.state.top.operands (λ r rest. push_new h (object_at h.state r) rest) (λ r rest. tt)
+      by_clone false = method_stays m named (resolve_method h.program named m.name m.descriptor)
+
+  invoked : (i : ℕ) → Stays (invoke h mode.Virtual i)
+  invoked i =
+      let m = member h.pool i in
+      let then : ℕ → Outcome = λ named. when (same_bool m.by_interface (is_interface h.program named)) (on_class h mode.Virtual m named) (wrong_kind h) in
+      by_there h.state h m.class (class_named h.program m.class) then (λ named. by_when h.state (same_bool m.by_interface (is_interface h.program named)) (on_class h mode.Virtual m named) (wrong_kind h) (on_class_stays m named) tt)
+
+  virtual_stays : (mode : Mode) (i : ℕ) → is_virtual mode && is_println (member h.pool i) ≡ true → Stays (invoke h mode i)
+  virtual_stays mode.Virtual i e = invoked i
+  virtual_stays mode.Special i e = cc e
+  virtual_stays mode.Static i e = cc e
+  virtual_stays mode.Interface i e = cc e
+
+  -- ---- each operation that is built
+
+  pub row_stays : (o : Operation) → is_built_operation h.pool o ≡ true → Stays (row_of h o h.state.top.operands)
+  row_stays operation.Nop e = tt
+  row_stays operation.PushNull e = pushed Null h.state.top.operands
+  row_stays (operation.PushInt n) e = pushed (Int n) h.state.top.operands
+  row_stays (operation.PushLong n) e = pushed (Long n) h.state.top.operands
+  row_stays (operation.PushEntry i) e = constant _
+  row_stays (operation.Load sort n) e = loaded sort n
+  row_stays (operation.Store sort n) e = stored sort n h.state.top.operands
+  row_stays (operation.Stack form) e = upper_stays form _
+  row_stays (operation.IntArithmetic op) e = of_ints op h.state.top.operands
+  row_stays (operation.LongArithmetic op) e = of_longs op h.state.top.operands
+  row_stays operation.IntNegate e = of_int (λ a. Int (negation w32 a)) h.state.top.operands
+  row_stays operation.LongNegate e = of_long (λ a. Long (negation w64 a)) h.state.top.operands
+  row_stays (operation.IntShift op) e = int_shifted op h.state.top.operands
+  row_stays (operation.LongShift op) e = long_shifted op h.state.top.operands
+  row_stays (operation.Increase n by) e = increased n by _
+  row_stays operation.IntToLong e = of_int (λ a. Long a) h.state.top.operands
+  row_stays operation.LongToInt e = of_long (λ a. Int (long_to_int a)) h.state.top.operands
+  row_stays (operation.IntNarrow to) e = of_int (λ a. Int (narrow_of to a)) h.state.top.operands
+  row_stays operation.LongCompare e = longs_compared h.state.top.operands
+  row_stays (operation.IfInt test offset) e = of_test test offset h.state.top.operands
+  row_stays (operation.IfInts test offset) e = of_tests test offset h.state.top.operands
+  row_stays (operation.IfNull wanted offset) e = of_null wanted offset h.state.top.operands
+  row_stays (operation.Goto offset) e = tt
+  row_stays (operation.SwitchTable fallback low high first) e = of_table fallback low high first h.state.top.operands
+  row_stays (operation.SwitchLookup fallback pairs first) e = of_lookup fallback pairs first h.state.top.operands
+  row_stays (operation.Return sort) e =
+      let value = values_returned sort h.state.top.operands in
+      by_when h.state (agrees sort (signature (method_at h.program h.state.top.method).descriptor).result) (return_value h value) (illegal h) (returned value) tt
+  row_stays (operation.GetStatic i) e = got i
+  row_stays (operation.PutStatic i) e = put i
+  row_stays (operation.Invoke mode i) e = virtual_stays mode i e
+  row_stays (operation.Refuse word) e = tt
+  row_stays _ e = cc e

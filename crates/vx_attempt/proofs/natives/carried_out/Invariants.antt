@@ -1,0 +1,7 @@
+use Rattle.std.proofs.Common.{◌≡◌, length}
+use Rattle.std.specs.Vec.Iter.{into_iter_items, into_iter_len}
+use Rattle.vx_attempt.proofs.Carrying.{IsCarrying}
+use Rattle.vx_attempt.proofs.natives.carried_out.Given as goal
+
+abbrev pub invariant-loop-outcome : goal.invariant-loop-outcome
+invariant-loop-outcome g l = (into_iter_len l.outcome-iterator ≡ length (into_iter_items l.outcome-iterator)) × IsCarrying l.site (g.S.Space.sets l.fn.space) (g.S.Space.sets l.space) l.fn.heap l.heap l.fn.outcomes.items.items (into_iter_items l.outcome-iterator) l.made.items.items

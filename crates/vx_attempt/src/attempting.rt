@@ -1,0 +1,171 @@
+//! One attempt of a group: the instruction where it stands, by its family, and what a native method makes of it.
+
+ghost use Rattle.std.specs.Prelude.{◌≡◌, Err, IfOk, Some, [], length, option_copied, true};
+ghost use Rattle.vx_space.specs.Sets.{Extends};
+ghost use Rattle.vx_link.specs.Parts.{class_at, method_at};
+ghost use Rattle.vx_families.specs.Attempts.{IsAttemptBy, IsGiven, MeetsUnbuilt};
+ghost use Rattle.vx_families.specs.Built.{is_built_operation};
+ghost use Rattle.vx_invoke.specs.Named.{pool_of};
+ghost use Rattle.vx_attempt.specs.Attempted.{IsAttempted, IsUnbuiltThere, MayAttempt};
+ghost use Rattle.vx_attempt.specs.Families.{is_of};
+ghost use Rattle.vx_value.specs.declared.key.Kind.TheVariants.{Call};
+
+use crate::family::{Family, family_of};
+use crate::natives::carried_out;
+use std::alloc::Global;
+use vx_class::Code;
+use vx_families::AttemptFault;
+use vx_group::Group;
+use vx_heap::Heap;
+use vx_java::Operation;
+use vx_java::decoding::operation;
+use vx_java::parts::class_of_method;
+use vx_link::Program;
+use vx_opcode::decode;
+use vx_outcome::Outcomes;
+use vx_space::Space;
+use vx_stands::{Site, illegal};
+use vx_value::MethodId;
+
+/// The code of a method.
+fn code_of(program: &Program, method: MethodId) -> Option<&Code>
+    ensures { option_copied result ≡ (method_at program.now method.0).code }
+{
+    match program.methods.get(method.0 as usize) {
+        Some(method) => method.code.as_ref(),
+        None => None,
+    }
+}
+
+/// The attempt of an instruction by its family. `NotYet` where some run comes to what isn't built.
+fn by_family<S: Space>(
+    alloc: Global,
+    site: &Site,
+    space: &mut S,
+    heap: &mut Heap<S>,
+    family: Family,
+    operation: Operation,
+    group: Group<S>,
+) -> Result<Outcomes<S>, AttemptFault>
+    requires given { IsGiven site.now operation (S.sets space.old) heap.old group }
+    requires family { is_of family (pool_of site.now group) operation ≡ true }
+    requires single { group.below ≡ [] }
+    ensures extends { Extends (S.sets space.old) (S.sets space.new) }
+    ensures ok { IfOk result (λ r. IsAttemptBy site.now operation (S.sets space.old) (S.sets space.new) heap.old heap.new group r.items.items) }
+    ensures not_yet { result ≡ Err AttemptFault.NotYet → MeetsUnbuilt site.now (S.sets space.old) heap.old group }
+{
+    match family {
+        Family::Numbers => {
+            let made = vx_arith::attempt(alloc, site, space, heap, operation, group)?;
+            Ok(made)
+        }
+        Family::Locals => {
+            let made = vx_locals::attempt(alloc, site, space, heap, operation, group)?;
+            Ok(made)
+        }
+        Family::Forms => {
+            let made = vx_forms::attempt(alloc, site, space, heap, operation, group)?;
+            Ok(made)
+        }
+        Family::Returns => {
+            let made = vx_returns::attempt(alloc, site, space, heap, operation, group)?;
+            Ok(made)
+        }
+        Family::Statics => {
+            let made = vx_fields::attempt(alloc, site, space, heap, operation, group)?;
+            Ok(made)
+        }
+        Family::Calls => vx_invoke::attempt(alloc, site, space, heap, operation, group),
+    }
+}
+
+/// The attempt of an instruction where it stands.
+fn attempt_at<S: Space>(
+    alloc: Global,
+    site: &Site,
+    space: &mut S,
+    heap: &mut Heap<S>,
+    family: Family,
+    operation: Operation,
+    group: Group<S>,
+) -> Result<Outcomes<S>, AttemptFault>
+    requires may { MayAttempt site.now.program.now (S.sets space.old) heap.old group }
+    requires given { IsGiven site.now operation (S.sets space.old) heap.old group }
+    requires family { is_of family (pool_of site.now group) operation ≡ true }
+    requires built { is_built_operation (pool_of site.now group) operation ≡ true }
+    requires kind { group.top.kind ≡ Call }
+    requires single { group.below ≡ [] }
+    ensures extends { Extends (S.sets space.old) (S.sets space.new) }
+    ensures ok { IfOk result (λ r. IsAttempted site.now.program.now (S.sets space.old) (S.sets space.new) heap.old heap.new group r.items.items) }
+    ensures not_yet { result ≡ Err AttemptFault.NotYet → IsUnbuiltThere site.now.program.now (S.sets space.old) heap.old group }
+{
+    let outcomes = by_family(alloc, site, space, heap, family, operation, group)?;
+    carried_out(alloc, site, space, heap, outcomes)
+}
+
+/// The attempt in the code of the group's method. Behind the last instruction the run ends (JVMS 4.9.2).
+fn attempt_in<S: Space>(
+    alloc: Global,
+    program: &Program,
+    space: &mut S,
+    heap: &mut Heap<S>,
+    code: &Code,
+    group: Group<S>,
+) -> Result<Outcomes<S>, AttemptFault>
+    requires may { MayAttempt program.now (S.sets space.old) heap.old group }
+    requires code { (method_at program.now group.top.method.0).code ≡ Some code.now }
+    requires kind { group.top.kind ≡ Call }
+    requires single { group.below ≡ [] }
+    ensures extends { Extends (S.sets space.old) (S.sets space.new) }
+    ensures ok { IfOk result (λ r. IsAttempted program.now (S.sets space.old) (S.sets space.new) heap.old heap.new group r.items.items) }
+    ensures not_yet { result ≡ Err AttemptFault.NotYet → IsUnbuiltThere program.now (S.sets space.old) heap.old group }
+{
+    let top = group.top_frame();
+    match decode(code.bytes.as_slice(), top.position) {
+        Ok(instruction) => {
+            let class = class_of_method(program, top.method);
+            let operation = operation(&instruction);
+            match family_of(program, class, operation) {
+                Some(family) => {
+                    let site = Site {
+                        program,
+                        code,
+                        size: instruction.length,
+                    };
+                    attempt_at(alloc, &site, space, heap, family, operation, group)
+                }
+                None => Err(AttemptFault::NotYet),
+            }
+        }
+        Err(_fault) => {
+            let ended = illegal(alloc, program, &group)?;
+            Ok(ended)
+        }
+    }
+}
+
+/// Makes one attempt of each run of a group of one frame (JVMS 2.11, 6.5): the instruction where it stands, and a native method
+/// where one is called. `NotYet` comes only where one of the runs stands at what isn't built. After a refusal heap and group are
+/// given up.
+pub fn attempt<S: Space>(
+    alloc: Global,
+    program: &Program,
+    space: &mut S,
+    heap: &mut Heap<S>,
+    group: Group<S>,
+) -> Result<Outcomes<S>, AttemptFault>
+    requires given { MayAttempt program.now (S.sets space.old) heap.old group }
+    requires kind { group.top.kind ≡ Call }
+    requires single { group.below ≡ [] }
+    ensures extends { Extends (S.sets space.old) (S.sets space.new) }
+    ensures ok { IfOk result (λ r. IsAttempted program.now (S.sets space.old) (S.sets space.new) heap.old heap.new group r.items.items) }
+    ensures not_yet { result ≡ Err AttemptFault.NotYet → IsUnbuiltThere program.now (S.sets space.old) heap.old group }
+{
+    match code_of(program, group.top_frame().method) {
+        Some(code) => attempt_in(alloc, program, space, heap, code, group),
+        None => {
+            let ended = illegal(alloc, program, &group)?;
+            Ok(ended)
+        }
+    }
+}

@@ -1,0 +1,142 @@
+//! Native methods, carried out where a family left them.
+
+ghost use Rattle.std.specs.Prelude.{◌≡◌, ◌∷◌, [], Err, IfOk, OnOk};
+ghost use Rattle.vx_space.specs.Sets.{Extends, IsKnown};
+ghost use Rattle.vx_group.specs.Group.{path_of};
+ghost use Rattle.vx_outcome.specs.Outcome.{condition_of};
+ghost use Rattle.vx_heap.specs.Heap.{IsHeap};
+ghost use Rattle.vx_families.specs.Built.{is_println_method};
+ghost use Rattle.vx_link.specs.Parts.{method_at};
+ghost use Rattle.vx_outcome.specs.declared.outcome.Outcome.TheVariants.{Begin, Native};
+ghost use Rattle.vx_attempt.specs.Carrying.{AreCarriedOut, AreConditionsKnown, HasCall, HasUnbuilt, HaveCalls};
+ghost use Rattle.vx_families.specs.Texts.{HasMoreTexts};
+
+use std::alloc::{AllocError, Global};
+use vx_families::AttemptFault;
+use vx_group::Group;
+use vx_heap::Heap;
+use vx_link::Program;
+use vx_outcome::{Outcome, Outcomes};
+use vx_space::Space;
+use vx_stands::Site;
+use vx_text::native;
+use vx_value::{ClassId, MethodId};
+
+/// The number of the native method `println` of an int.
+const PRINTLN_INT: u32 = 49;
+
+fn is_println(program: &Program, method: MethodId) -> bool
+    ensures { result ≡ is_println_method (method_at program.now method.0) }
+{
+    match program.methods.get(method.0 as usize) {
+        Some(method) => method.native == PRINTLN_INT && method.descriptor.bytes() == b"(I)V".as_slice(),
+        None => false,
+    }
+}
+
+/// The outcome of a native method: `NotYet` where some run comes to one that isn't built.
+fn native_carried_out<S: Space>(
+    alloc: Global,
+    site: &Site,
+    space: &mut S,
+    heap: &mut Heap<S>,
+    group: Group<S>,
+    method: MethodId,
+) -> Result<Outcomes<S>, AttemptFault>
+    requires heap { IsHeap (S.sets space.old) heap.old }
+    requires known { IsKnown (S.sets space.old) (path_of group) }
+    requires call { HasCall site.now (S.sets space.old) heap.old (Native group method) }
+    ensures extends { Extends (S.sets space.old) (S.sets space.new) }
+    ensures more { OnOk result (HasMoreTexts heap.old heap.new) }
+    ensures carried { IfOk result (λ r. AreCarriedOut site.now.program.now (S.sets space.old) (S.sets space.new) heap.old heap.new (Native group method ∷ []) r.items.items) }
+    ensures not_yet { result ≡ Err AttemptFault.NotYet → HasUnbuilt site.now.program.now (S.sets space.old) heap.old (Native group method ∷ []) }
+{
+    if space.is_never(group.path()) {
+        return Ok(Outcomes::new(alloc));
+    }
+    if !is_println(site.program, method) {
+        return Err(AttemptFault::NotYet);
+    }
+    let printed = native(alloc, site, space, heap, group, method)?;
+    Ok(printed)
+}
+
+/// The outcome of a beginning: `NotYet` where some run comes to it.
+fn no_beginning<S: Space>(
+    alloc: Global,
+    site: &Site,
+    space: &S,
+    heap: &Heap<S>,
+    group: Group<S>,
+    class: ClassId,
+) -> Result<Outcomes<S>, AttemptFault>
+    requires known { IsKnown (S.sets space.now) (path_of group) }
+    ensures carried { IfOk result (λ r. AreCarriedOut site.now.program.now (S.sets space.now) (S.sets space.now) heap.now heap.now (Begin group class ∷ []) r.items.items) }
+    ensures not_yet { result ≡ Err AttemptFault.NotYet → HasUnbuilt site.now.program.now (S.sets space.now) heap.now (Begin group class ∷ []) }
+{
+    if space.is_never(group.path()) {
+        return Ok(Outcomes::new(alloc));
+    }
+    Err(AttemptFault::NotYet)
+}
+
+fn only<S: Space>(alloc: Global, outcome: Outcome<S>) -> Result<Outcomes<S>, AllocError>
+    ensures { IfOk result (λ r. r.items.items ≡ outcome ∷ []) }
+{
+    let mut outcomes = Outcomes::new(alloc);
+    outcomes.push(outcome)?;
+    Ok(outcomes)
+}
+
+/// One outcome.
+fn outcome_carried_out<S: Space>(
+    alloc: Global,
+    site: &Site,
+    space: &mut S,
+    heap: &mut Heap<S>,
+    outcome: Outcome<S>,
+) -> Result<Outcomes<S>, AttemptFault>
+    requires heap { IsHeap (S.sets space.old) heap.old }
+    requires known { IsKnown (S.sets space.old) (condition_of outcome) }
+    requires call { HasCall site.now (S.sets space.old) heap.old outcome }
+    ensures extends { Extends (S.sets space.old) (S.sets space.new) }
+    ensures more { OnOk result (HasMoreTexts heap.old heap.new) }
+    ensures carried { IfOk result (λ r. AreCarriedOut site.now.program.now (S.sets space.old) (S.sets space.new) heap.old heap.new (outcome ∷ []) r.items.items) }
+    ensures not_yet { result ≡ Err AttemptFault.NotYet → HasUnbuilt site.now.program.now (S.sets space.old) heap.old (outcome ∷ []) }
+{
+    match outcome {
+        Outcome::Native { group, method } => {
+            native_carried_out(alloc, site, space, heap, group, method)
+        }
+        Outcome::Begin { group, class } => no_beginning(alloc, site, space, heap, group, class),
+        other => {
+            let same = only(alloc, other)?;
+            Ok(same)
+        }
+    }
+}
+
+/// Outcomes with native methods carried out. `NotYet` where some run comes to a beginning, or to a native method that isn't
+/// built.
+pub(crate) fn carried_out<S: Space>(
+    alloc: Global,
+    site: &Site,
+    space: &mut S,
+    heap: &mut Heap<S>,
+    outcomes: Outcomes<S>,
+) -> Result<Outcomes<S>, AttemptFault>
+    requires heap { IsHeap (S.sets space.old) heap.old }
+    requires known { AreConditionsKnown (S.sets space.old) outcomes.items.items }
+    requires calls { HaveCalls site.now (S.sets space.old) heap.old outcomes.items.items }
+    ensures extends { Extends (S.sets space.old) (S.sets space.new) }
+    ensures more { OnOk result (HasMoreTexts heap.old heap.new) }
+    ensures carried { IfOk result (λ r. AreCarriedOut site.now.program.now (S.sets space.old) (S.sets space.new) heap.old heap.new outcomes.items.items r.items.items) }
+    ensures not_yet { result ≡ Err AttemptFault.NotYet → HasUnbuilt site.now.program.now (S.sets space.old) heap.old outcomes.items.items }
+{
+    let mut made = Outcomes::new(alloc);
+    for outcome in outcomes.items {
+        let some = outcome_carried_out(alloc, site, space, heap, outcome)?;
+        made.append(some)?;
+    }
+    Ok(made)
+}
