@@ -76,7 +76,7 @@ row_by-is site sets heap tree group mode i operation is family c =
 
 -- ---- what isn't built
 
-row_there : (site : Site) (operation : Operation) (s : State) (instruction : Instruction) → (method_at site.program.now s.top.method).code ≡ Some site.code.now → instruction_at site.code.now.bytes s.top.position ≡ Some instruction → site.size ≡ instruction.length → operation ≡ operation_of instruction → row site.program.now s ≡ row_by site operation s
+pub row_there : (site : Site) (operation : Operation) (s : State) (instruction : Instruction) → (method_at site.program.now s.top.method).code ≡ Some site.code.now → instruction_at site.code.now.bytes s.top.position ≡ Some instruction → site.size ≡ instruction.length → operation ≡ operation_of instruction → row site.program.now s ≡ row_by site operation s
 row_there site operation s instruction code found size does =
     let p = site.program.now in
     let seen : ℕ → Here = λ n. record { program = p; state = s; code = site.code.now; pool = (class_at p (current_class p s)).pool; size = n } in
@@ -90,7 +90,7 @@ and_false : (a : Bool) → (a && false) ≡ false
 and_false true = refl
 and_false false = refl
 
-third_false : (a b c d : Bool) → c ≡ false → (a && b && c && d) ≡ false
+pub third_false : (a b c d : Bool) → c ≡ false → (a && b && c && d) ≡ false
 third_false true true c d e = ap (λ x. x && d) e
 third_false true false c d e = refl
 third_false false b c d e = refl

@@ -30,6 +30,7 @@ use Rattle.vx_value.specs.declared.key.KeyPart.{KeyPart}
 use Rattle.vx_rounds.specs.declared.placing.Round.{Round}
 use Rattle.vx_attempt.specs.Attempted.{IsAttempted, IsUnbuiltThere, MayAttempt, carried_out_row}
 use Rattle.vx_attempt.specs.Carrying.{AreConditionsKnown}
+use Rattle.vx_attempt.proofs.Alone.{conditions_known, stands_alone, state_alone}
 use Rattle.vx_rounds.specs.Placing.{ArePlaceable, HasGoing, HasUnplaced, IsGoing, IsOutcomePlaced, IsUnderway, IsUnwritten, IsVacant, end_after, is_refused, led_by, made_at, piece_after, put_if, said_in, spent_after, waiting_at, waits_after}
 use Rattle.vx_rounds.specs.Stepping.{IsCount, IsMade, came_of}
 use Rattle.vx_rounds.proofs.Refusals.{refused_unbuilt, unplaced_refused}
@@ -38,30 +39,6 @@ use Rattle.vx_rounds.proofs.Grown.{waiting_at-grown}
 use Rattle.vx_rounds.proofs.Places.{known_at}
 use Rattle.vx_rounds.proofs.Sequence.{Divide-same, made_at-extends}
 use Rattle.vx_rounds.proofs.Waiting.{no_group, none_waits, waiting_at-extends}
-
--- ---- a group of one frame stands in every tree
-
-pub alone_caller : {S I : Type 0} (sets : Sets I) (tree : List (Option (Caller S I))) (path : I) (below : List KeyPart) (caller : Option ℕ) → below ≡ [] → AreCallers sets tree path (length below) caller → caller ≡ None
-alone_caller sets tree path [] caller e h = h
-alone_caller sets tree path (part ∷ below) caller e h = cc e
-
-pub no_below : {S I : Type 0} (tree : List (Option (Caller S I))) (below : List KeyPart) (caller : Option ℕ) → below ≡ [] → callers_of tree (length below) caller ≡ []
-no_below tree [] caller e = refl
-no_below tree (part ∷ below) caller e = cc e
-
-pub stands_alone : {S I : Type 0} (p : Program) (sets : Sets I) (heap : HeapView S I) (tree : List (Option (Caller S I))) (group : GroupView S I) → group.below ≡ [] → StandsIn p sets heap tree group → StandsIn p sets heap [] group
-stands_alone {S = S} {I = I} p sets heap tree group e h =
-    let there = no_below tree group.below group.caller e in
-    let here = no_below {S = S} {I = I} [] group.below group.caller e in
-    record {
-      is_group = IsGroupIn-one sets [] group (IsGroupIn-group sets tree group h.is_group) e (alone_caller sets tree (path_of group) group.below group.caller e (IsGroupIn-callers sets tree group h.is_group));
-      runs = h.runs;
-      held = λ c t. rw here (rw there at (h.held c t));
-      shaped = rw here (rw there at h.shaped);
-    }
-
-pub state_alone : {S I : Type 0} (sets : Sets I) (heap : HeapView S I) (tree : List (Option (Caller S I))) (group : GroupView S I) → group.below ≡ [] → (c : List Bool) → state_at sets heap tree group c ≡ state_at sets heap [] group c
-state_alone {S = S} {I = I} sets heap tree group e c = rw (no_below tree group.below group.caller e, no_below {S = S} {I = I} [] group.below group.caller e) refl
 
 -- ---- what outcomes say
 
@@ -102,10 +79,6 @@ said_at {S = S} {I = I} sets heap set (y ∷ ys) (suc k) x d l e c t =
     cases false h r = r
 
 -- ---- what the outcomes of an attempt need
-
-pub conditions_known : {S I : Type 0} (p : Program) (old new : Sets I) (heap : HeapView S I) (tree : List (Option (Caller S I))) (group : GroupView S I) (xs : List (Outcome S I)) → AreOutcomes p old new heap tree group xs → AreConditionsKnown new xs
-conditions_known p old new heap tree group [] h = tt
-conditions_known p old new heap tree group (x ∷ xs) h = (condition_known p old new heap tree group x h.0, conditions_known p old new heap tree group xs h.1)
 
 going : {S I : Type 0} (p : Program) {old new : Sets I} → Extends old new → (heap : HeapView S I) (limit : ℕ) (group : GroupView S I) (attempts : Conditional ℕ S I) → IsCount old group limit attempts → (made : GroupView S I) → Continues p old new heap [] group made → IsGoing p new heap attempts made
 going p e heap limit group attempts k made h = record {

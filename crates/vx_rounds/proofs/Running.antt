@@ -21,7 +21,7 @@ use Rattle.vx_value.specs.declared.end.End.{End}
 use Rattle.vx_value.specs.declared.end.Stream.{Stream}
 use Rattle.vx_rounds.specs.Placing.{AreWaiting, IsGood, IsGoodGroup, Waiting, is_one, waiting_at, waiting_in}
 use Rattle.vx_rounds.specs.State.{AreRunning, IsRunning, Runs, Standing, StateView, came_to, come_to, group_of, left_of, output_at, standing_at, standing_in}
-use Rattle.vx_rounds.proofs.Making.{no_below}
+use Rattle.vx_attempt.proofs.Alone.{no_below}
 use Rattle.vx_rounds.proofs.Raising.{is_kind}
 
 -- ---- running groups wait

@@ -14,7 +14,7 @@ use Rattle.vx_sched.specs.Groups as sched
 use Rattle.vx_stands.specs.Stands.{StandsIn}
 use Rattle.vx_rounds.specs.Placing.{waiting_at, waiting_in}
 use Rattle.vx_rounds.specs.State.{AreRunning, StateView, group_of}
-use Rattle.vx_rounds.proofs.Making.{alone_caller, no_below}
+use Rattle.vx_attempt.proofs.Alone.{alone_caller, no_below}
 
 -- a group of one frame
 pub record IsSingle {S I : Type 0} (group : GroupView S I) : Type 0 where

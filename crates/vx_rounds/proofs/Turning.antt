@@ -26,7 +26,7 @@ use Rattle.vx_rounds.specs.State.{IsRunning, IsState, StateView, attempts_left, 
 use Rattle.vx_rounds.specs.Stepping.{IsBegun, IsMade, IsSpent, came_of}
 use Rattle.vx_rounds.proofs.Opening.{begun_underway, chosen_is_group, chosen_running, chosen_taken, spent_path, spent_state}
 use Rattle.vx_rounds.proofs.Configurations.{Contains-configurations, member_of, sum_falls}
-use Rattle.vx_rounds.proofs.Making.{stands_alone, state_alone}
+use Rattle.vx_attempt.proofs.Alone.{stands_alone, state_alone}
 use Rattle.vx_rounds.proofs.Running.{left_by, left_of-by}
 use Rattle.vx_rounds.proofs.Waiting.{run_by, waiting_at-extends, waiting_at-standing}
 
