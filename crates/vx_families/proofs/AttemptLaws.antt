@@ -19,7 +19,8 @@ use Rattle.vx_stands.specs.declared.site.Site.{Site}
 use Rattle.vx_stands.proofs.OutcomeStates.{CameTo-through}
 use Rattle.vx_stands.proofs.StateLaws.{Continues-same, StandsIn-extends, state_at-extends}
 use Rattle.vx_families.specs.Attempts.{AttemptsBy, IsAttemptBy, IsGiven}
-use Rattle.vx_families.proofs.MoreTexts.{Grows-texts, HasMoreTexts, HasMoreTexts-refl, IsHeap-texts, IsHeapFor-texts, StandsIn-texts, globals_at-texts, state_at-texts}
+use Rattle.vx_families.specs.Texts.{HasMoreTexts}
+use Rattle.vx_families.proofs.MoreTexts.{Grows-texts, HasMoreTexts-refl, IsHeap-texts, IsHeapFor-texts, StandsIn-texts, globals_at-texts, state_at-texts}
 
 -- ---- the general law
 

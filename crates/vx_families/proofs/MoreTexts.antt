@@ -19,11 +19,7 @@ use Rattle.vx_java.specs.Machine.{Text as TextValue}
 use Rattle.vx_link.specs.declared.program.Program.{Program}
 use Rattle.vx_stands.specs.Stands.{Grows, IsMessage, StandsIn, frame_held, message_of, plain_frame, state_at, state_of}
 use Rattle.vx_stands.proofs.StateLaws.{both, both_first, both_second}
-
--- the later heap has more texts, and else is the same
-pub record HasMoreTexts {S I : Type 0} (before after : HeapView S I) : Type 0 where
-  pub same : after ≡ record before { texts = after.texts }
-  pub earlier : TextsExtend before.texts after.texts
+use Rattle.vx_families.specs.Texts.{HasMoreTexts}
 
 -- what `put_text` does
 pub HasMoreTexts-put : {S I : Type 0} (before after : HeapView S I) (units : List ℕ) (number : ℕ) → IsTextPut before units number after → HasMoreTexts before after

@@ -2,3 +2,4 @@ pub mod Bounds
 pub mod Attempts
 pub mod Pushing
 pub mod Built
+pub mod Texts

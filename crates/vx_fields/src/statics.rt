@@ -269,8 +269,8 @@ fn static_field(program: &Program, class: ClassId, index: u16) -> FieldReference
     }
 }
 
-/// The member that an entry of the pool of a class names.
-fn named_member(program: &Program, class: ClassId, index: u16) -> MemberReference<'_>
+/// The member that an entry of the pool of a class names (JVMS 4.4.2).
+pub fn named_member(program: &Program, class: ClassId, index: u16) -> MemberReference<'_>
     ensures { in_bytes result ≡ member (class_at program.now class.0).pool index }
 {
     match program.classes.get(class.0 as usize) {

@@ -34,10 +34,12 @@ use Rattle.vx_value.specs.declared.end.Stream.{Stream}
 use Rattle.vx_value.specs.declared.slot.Slot.{Slot}
 use Rattle.vx_value.specs.Slot.{slot_cmp}
 use Rattle.vx_value.specs.Texts.{IsNumber}
-use Rattle.vx_text.specs.Printing.{HasMoreTexts, IsCalling, line_of, printed, stream_of, written}
+use Rattle.vx_families.specs.Texts.{HasMoreTexts}
+use Rattle.vx_text.specs.Printing.{IsCalling, line_of, printed, stream_of, written}
 use Rattle.vx_text.specs.declared.print.Print.{Print}
 use Rattle.vx_text.specs.declared.print.Print.TheVariants.{Line}
-use Rattle.vx_text.proofs.Texts.{HasMoreTexts-refl, HasMoreTexts-trans, KeepsPlain-more, frame_held-more}
+use Rattle.vx_families.proofs.MoreTexts.{HasMoreTexts-refl, HasMoreTexts-trans, frame_held-texts}
+use Rattle.vx_text.proofs.Texts.{KeepsPlain-more}
 
 -- ---- what a part of a group keeps
 
@@ -86,7 +88,7 @@ IsCalling-more site sets before after group m k = record {
   size = k.size;
   past = k.past;
   enough = k.enough;
-  held = λ c t. frame_held-more before after m sets c (frame_at sets group.top c) (k.held c t);
+  held = λ c t. frame_held-texts sets before after m c (frame_at sets group.top c) (k.held c t);
 }
 
 -- ---- a line that is written

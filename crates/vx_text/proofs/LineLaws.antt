@@ -31,7 +31,8 @@ use Rattle.vx_stands.proofs.StateLaws.{both_first, both_second}
 use Rattle.vx_value.specs.declared.slot.Slot.{Slot}
 use Rattle.vx_value.specs.declared.slot.Slot.TheVariants.{Top, Int, Long, Null, Ref, Text}
 use Rattle.vx_value.specs.Slot.{slot_cmp}
-use Rattle.vx_text.specs.Printing.{HasMoreTexts, HasReceiver, IsCalling, is_out_at, line_of, object_of, print_of, printed, printed_by, printed_line, stream_in, stream_of}
+use Rattle.vx_families.specs.Texts.{HasMoreTexts}
+use Rattle.vx_text.specs.Printing.{HasReceiver, IsCalling, is_out_at, line_of, object_of, print_of, printed, printed_by, printed_line, stream_in, stream_of}
 use Rattle.vx_text.specs.Prints.{print_cmp}
 use Rattle.vx_text.specs.declared.print.Print.{Print}
 use Rattle.vx_text.specs.declared.print.Print.TheVariants.{Illegal}

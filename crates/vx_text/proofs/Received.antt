@@ -47,7 +47,8 @@ use Rattle.vx_value.specs.Slot.{slot_cmp}
 use Rattle.vx_families.specs.Attempts.{IsGiven}
 use Rattle.vx_families.proofs.Given.{given_past}
 use Rattle.vx_families.specs.Built.{is_println_method}
-use Rattle.vx_text.specs.Printing.{AreReceivers, HasMoreTexts, HasReceiver, IsCalling, IsSomewhere, object_of, operand_at, printed_line}
+use Rattle.vx_families.specs.Texts.{HasMoreTexts}
+use Rattle.vx_text.specs.Printing.{AreReceivers, HasReceiver, IsCalling, IsSomewhere, object_of, operand_at, printed_line}
 use Rattle.vx_text.proofs.Calls.{part_frame}
 use Rattle.vx_text.proofs.LineLaws.{object_slot, receiver_there}
 use Rattle.vx_text.proofs.Lines.{line_on, native-is}

@@ -23,7 +23,6 @@ use Rattle.vx_space.specs.Sets.{Sets}
 use Rattle.vx_stands.specs.Sites.{Cover, HasPast, here}
 use Rattle.vx_stands.specs.Stands.{frame_held}
 use Rattle.vx_stands.specs.declared.site.Site.{Site}
-use Rattle.vx_value.specs.Texts.{Extends as TextsExtend}
 use Rattle.vx_value.specs.declared.end.Stream.{Stream}
 use Rattle.vx_value.specs.declared.end.Stream.TheVariants.{Out, Err}
 use Rattle.vx_value.specs.declared.slot.Slot.{Slot}
@@ -80,11 +79,6 @@ printed_line site s _ = illegal_in site.program.now s
 -- an operand at a configuration, by its place from the top
 abbrev pub operand_at : {S I : Type 0} → Sets I → GroupView S I → ℕ → List Bool → Slot
 operand_at sets group i c = item_or (frame_at sets group.top c).operands i Top
-
--- the later heap has more texts, and nothing else changed
-pub record HasMoreTexts {S I : Type 0} (before after : HeapView S I) : Type 0 where
-  pub same : after ≡ record before { texts = after.texts }
-  pub earlier : TextsExtend before.texts after.texts
 
 -- a group that stands at a call with two operands at least
 pub record IsCalling {S I : Type 0} (site : Site) (sets : Sets I) (heap : HeapView S I) (group : GroupView S I) : Type 0 where

@@ -1,6 +1,6 @@
 use Rattle.std.proofs.Common.{◌∙◌}
 use Rattle.vx_text.proofs.Calls.{line-gives}
-use Rattle.vx_text.proofs.Texts.{HasMoreTexts-refl}
+use Rattle.vx_families.proofs.MoreTexts.{HasMoreTexts-refl}
 use Rattle.vx_text.proofs.printing.line_part.Goals as goal
 
 pub returns-in_ok-ended-in-Illegal-clause-more : goal.returns-in_ok-ended-in-Illegal-clause-more

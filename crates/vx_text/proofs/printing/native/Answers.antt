@@ -3,7 +3,7 @@ use Rattle.vx_java.specs.Natives.{native}
 use Rattle.vx_space.proofs.Spaces.{Extends-refl}
 use Rattle.vx_families.proofs.AttemptLaws.{AttemptsBy-gives, AttemptsBy-texts}
 use Rattle.vx_text.proofs.Received.{IsCalling-given, few-gives, static-gives}
-use Rattle.vx_text.proofs.Texts.{HasMoreTexts-refl, as_families}
+use Rattle.vx_families.proofs.MoreTexts.{HasMoreTexts-refl}
 use Rattle.vx_text.proofs.printing.native.Goals as goal
 
 pub returns-then-is_static-clause-more : goal.returns-then-is_static-clause-more
@@ -21,7 +21,7 @@ pub returns-clause-ok : goal.returns-clause-ok
 returns-clause-ok g c =
     let given = c.requires.given in
     let more = c.in_ok-outcomes.ensures.more in
-    AttemptsBy-texts c.args.site.now given.0 (λ s. native c.args.site.now.program.now s c.args.method.0) c.args.heap.now _ c.args.group (λ _ _ s. native c.args.site.now.program.now s c.args.method.0) _ (as_families _ _ more) (Extends-refl _) c.in_ok-outcomes.ensures.extends given.1 (λ tree s d t. refl) (c.in_ok-outcomes.ensures.gives _ (HasMoreTexts-refl _))
+    AttemptsBy-texts c.args.site.now given.0 (λ s. native c.args.site.now.program.now s c.args.method.0) c.args.heap.now _ c.args.group (λ _ _ s. native c.args.site.now.program.now s c.args.method.0) _ more (Extends-refl _) c.in_ok-outcomes.ensures.extends given.1 (λ tree s d t. refl) (c.in_ok-outcomes.ensures.gives _ (HasMoreTexts-refl _))
 
 pub returns-then-operands-lt2-clause-more : goal.returns-then-operands-lt2-clause-more
 returns-then-operands-lt2-clause-more g c = HasMoreTexts-refl _

@@ -10,7 +10,7 @@ use Rattle.vx_stands.proofs.SettleLaws.{stack_scope}
 use Rattle.vx_value.specs.Slot.{slot_cmp}
 use Rattle.vx_text.specs.Prints.{print_cmp}
 use Rattle.vx_text.proofs.LineLaws.{printed-gives, receiver_inside}
-use Rattle.vx_text.proofs.Texts.{HasMoreTexts-trans}
+use Rattle.vx_families.proofs.MoreTexts.{HasMoreTexts-trans}
 use Rattle.vx_text.proofs.printing.printed_part.Goals as goal
 
 pub are_out-requires-clause-known : goal.are_out-requires-clause-known

@@ -1,7 +1,7 @@
 use Rattle.std.proofs.Common.{◌∙◌, sym}
 use Rattle.vx_text.proofs.LineLaws.{receiver_there}
 use Rattle.vx_text.proofs.Received.{HasReceiver-is, another-gives, nobody-gives, received-gives}
-use Rattle.vx_text.proofs.Texts.{HasMoreTexts-trans}
+use Rattle.vx_families.proofs.MoreTexts.{HasMoreTexts-trans}
 use Rattle.vx_text.proofs.printing.received_part.Goals as goal
 
 pub returns-in_default-clause-gives : goal.returns-in_default-clause-gives

@@ -1,5 +1,5 @@
 use Rattle.vx_text.proofs.Calls.{number_more, written-gives}
-use Rattle.vx_text.proofs.Texts.{HasMoreTexts-put}
+use Rattle.vx_families.proofs.MoreTexts.{HasMoreTexts-put}
 use Rattle.vx_text.proofs.printing.written_part.Goals as goal
 
 pub returns-clause-more : goal.returns-clause-more
