@@ -1,6 +1,5 @@
 -- What is below some ids, and what a compaction keeps.
-use Rattle.std.specs.Prelude.{◌≡◌, ◌≢◌, ℕ, ◌<◌, Bool, true, List, [], ◌∷◌, Option, Some, None, ◌⊎◌, if◌then◌else◌, slice_index_or, nat_eq, Contains}
-use Rattle.std.specs.HashSet.{HashSet, contains}
+use Rattle.std.specs.Prelude.{◌≡◌, ◌≢◌, ℕ, ◌<◌, Bool, true, List, [], ◌∷◌, Option, Some, None, ◌⊎◌, if◌then◌else◌, slice_index_or, Contains}
 use Rattle.std.specs.HashMap.{HashMap}
 use Rattle.vx_bdd.specs.declared.node.Node.{Node}
 use Rattle.vx_bdd.specs.contracts.node.NodePartialEq.TheImpl as node_eq
@@ -12,10 +11,6 @@ pub data Below (slots : List (Option Node)) (top : ℕ) : ℕ → Type 0 where
   here : Below slots top top
   low : (id : ℕ) (node : Node) → Below slots top id → node_at slots id ≡ Some node → Below slots top node.low
   high : (id : ℕ) (node : Node) → Below slots top id → node_at slots id ≡ Some node → Below slots top node.high
-
--- the marks, as a test of an id
-abbrev pub has_mark : {S : Type 0} → HashSet ℕ S → ℕ → Bool
-has_mark marks id = contains nat_eq marks id
 
 -- marked ids are stored, and the parts of a marked node are marked
 pub record IsClosed (slots : List (Option Node)) (has : ℕ → Bool) : Type 0 where

@@ -1,10 +1,11 @@
 //! What a compaction keeps: the nodes under some roots are marked, and all others are dropped.
 
-ghost use Rattle.std.specs.Prelude.{◌≡◌, ℕ, ◌<◌, true, OnOk, IfOk, slice_index_or, None, take};
+ghost use Rattle.std.specs.Prelude.{◌≡◌, ℕ, ◌<◌, true, OnOk, IfOk, slice_index_or, None, nat_eq, take};
+ghost use Rattle.std.specs.HashSet.{contains};
 ghost use Rattle.vx_space.specs.Sets.{AreKnown};
 ghost use Rattle.vx_bdd.specs.Diagram.{is_stored, IsReduced};
 ghost use Rattle.vx_bdd.specs.Table.{IsIndex};
-ghost use Rattle.vx_bdd.specs.Marks.{has_mark, IsClosed, AddsBelow, IsMarking, IsSwept, AreStored, SlotsWithout, IndexWithout, IsBounded};
+ghost use Rattle.vx_bdd.specs.Marks.{IsClosed, AddsBelow, IsMarking, IsSwept, AreStored, SlotsWithout, IndexWithout, IsBounded};
 
 use crate::node::Node;
 use crate::table::Table;
@@ -15,10 +16,10 @@ use std::collections::{HashMap, HashSet};
 /// Marks an id and all that is below it.
 fn mark(table: &Table, marks: &mut HashSet<usize>, id: usize) -> Result<(), AllocError>
     requires stored { is_stored table.now.nodes.slots id ≡ true }
-    requires closed { IsClosed table.now.nodes.slots (has_mark marks.old) }
-    ensures closed { OnOk result (IsClosed table.now.nodes.slots (has_mark marks.new)) }
-    ensures adds { OnOk result (AddsBelow table.now.nodes.slots id (has_mark marks.old) (has_mark marks.new)) }
-    ensures marked { OnOk result (has_mark marks.new id ≡ true) }
+    requires closed { IsClosed table.now.nodes.slots (contains nat_eq marks.old) }
+    ensures closed { OnOk result (IsClosed table.now.nodes.slots (contains nat_eq marks.new)) }
+    ensures adds { OnOk result (AddsBelow table.now.nodes.slots id (contains nat_eq marks.old) (contains nat_eq marks.new)) }
+    ensures marked { OnOk result (contains nat_eq marks.new id ≡ true) }
 {
     if marks.contains(&id) {
         return Ok(());
@@ -38,7 +39,7 @@ pub(crate) fn mark_all(
     roots: &[usize],
 ) -> Result<HashSet<usize>, AllocError>
     requires { AreStored table.now.nodes.slots roots.now }
-    ensures { IfOk result (λ marks. IsMarking table.now.nodes.slots roots.now (has_mark marks)) }
+    ensures { IfOk result (λ marks. IsMarking table.now.nodes.slots roots.now (contains nat_eq marks)) }
 {
     let mut marks = HashSet::new(alloc);
     mark(table, &mut marks, 0)?;
@@ -64,9 +65,9 @@ fn drop_node(nodes: &mut Slab<Node>, ids: &mut HashMap<Node, usize>, id: usize)
 pub(crate) fn sweep(nodes: &mut Slab<Node>, ids: &mut HashMap<Node, usize>, marks: &HashSet<usize>)
     requires bounded { IsBounded nodes.old.slots nodes.old.capacity }
     requires index { IsIndex nodes.old.slots ids.old }
-    requires never { has_mark marks.now 0 ≡ true }
-    requires always { has_mark marks.now 1 ≡ true }
-    ensures swept { IsSwept (has_mark marks.now) nodes.old.slots nodes.new.slots ids.old ids.new }
+    requires never { contains nat_eq marks.now 0 ≡ true }
+    requires always { contains nat_eq marks.now 1 ≡ true }
+    ensures swept { IsSwept (contains nat_eq marks.now) nodes.old.slots nodes.new.slots ids.old ids.new }
     ensures capacity { nodes.new.capacity ≡ nodes.old.capacity }
 {
     for id in 0..nodes.capacity() {

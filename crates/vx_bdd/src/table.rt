@@ -1,10 +1,11 @@
 //! The table of distinct reduced nodes, from which all sets are made.
 
-ghost use Rattle.std.specs.Prelude.{◌≡◌, ℕ, ◌<◌, ◌≤◌, Some, IfOk, OnOk, true, if◌then◌else◌, slice_index_or, None};
+ghost use Rattle.std.specs.Prelude.{◌≡◌, ℕ, ◌<◌, ◌≤◌, Some, IfOk, OnOk, true, if◌then◌else◌, slice_index_or, None, nat_eq};
+ghost use Rattle.std.specs.HashSet.{contains};
 ghost use Rattle.std.proofs.Props.{props};
 ghost use Rattle.vx_space.specs.Config.{value_of};
 ghost use Rattle.vx_bdd.specs.Diagram.{IsReduced, IsNode, node_at, is_stored, level, reaches};
-ghost use Rattle.vx_bdd.specs.Marks.{IsBounded, IsClosed, has_mark};
+ghost use Rattle.vx_bdd.specs.Marks.{IsBounded, IsClosed};
 ghost use Rattle.vx_bdd.specs.Table.{IsIndex, Grows, Stands, AreParts, IsStep};
 
 use crate::marks::sweep;
@@ -63,11 +64,11 @@ impl Table {
 
     /// Drops all nodes that have no mark.
     pub fn keep(&mut self, marks: &HashSet<usize>)
-        requires closed { IsClosed self.old.nodes.slots (has_mark marks.now) }
-        requires never { has_mark marks.now 0 ≡ true }
-        requires always { has_mark marks.now 1 ≡ true }
+        requires closed { IsClosed self.old.nodes.slots (contains nat_eq marks.now) }
+        requires never { contains nat_eq marks.now 0 ≡ true }
+        requires always { contains nat_eq marks.now 1 ≡ true }
         ensures options { self.new.options ≡ self.old.options }
-        ensures kept { (x : ℕ) → slice_index_or self.new.nodes.slots x None ≡ (if has_mark marks.now x then slice_index_or self.old.nodes.slots x None else None) }
+        ensures kept { (x : ℕ) → slice_index_or self.new.nodes.slots x None ≡ (if contains nat_eq marks.now x then slice_index_or self.old.nodes.slots x None else None) }
     {
         sweep(&mut self.nodes, &mut self.ids, marks);
     }

@@ -14,10 +14,13 @@ abbrev pub child : Option Node → ℕ → List Bool → ℕ
 child None k c = k
 child (Some node) k c = if value_of c node.option then node.high else node.low
 
--- where it is after some steps
+-- where it is after some steps, by the node of each number
+abbrev pub walk_by : (ℕ → Option Node) → ℕ → ℕ → List Bool → ℕ
+walk_by node_of zero k c = k
+walk_by node_of (suc steps) k c = walk_by node_of steps (child (node_of k) k c) c
+
 abbrev pub walk : List Node → ℕ → ℕ → List Bool → ℕ
-walk nodes zero k c = k
-walk nodes (suc steps) k c = walk nodes steps (child (node_of nodes k) k c) c
+walk nodes steps k c = walk_by (node_of nodes) steps k c
 
 -- whether number k holds a configuration: it comes to always, in as many steps as the number says, since numbers fall
 abbrev pub holds : List Node → ℕ → List Bool → Bool

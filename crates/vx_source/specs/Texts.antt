@@ -1,5 +1,6 @@
 -- Texts in a source: what stands between double quotes.
 use Rattle.std.specs.Prelude.{ℕ, suc, ◌+◌, ◌-◌, ◌*◌, ◌/◌, ◌%◌, List, [], ◌∷◌, ◌++◌, length, take, drop, slice_index, Bool, false, not, nat_le, nat_lt, ◌==◌, ◌&&◌, ◌||◌, Option, Some, None, Ok, Err, if◌then◌else◌}
+use Rattle.vx_pool.specs.Text.{is_tail}
 use Rattle.vx_source.specs.Reading.{Read, ◌>>=◌, check, steps}
 use Rattle.vx_source.specs.Numbers.{are_four_hex, four_hex}
 use Rattle.vx_source.specs.declared.texts.Piece.{Piece}
@@ -38,9 +39,6 @@ escape_at text =
     if slice_index text 1 == 34 || slice_index text 1 == 92 then one_unit (slice_index text 1) 2
     else if slice_index text 1 == 117 && are_four_hex (take 4 (drop 2 text)) then one_unit (four_hex (take 4 (drop 2 text))) 6
     else None
-
-abbrev pub is_tail : ℕ → Bool
-is_tail b = is_between 128 191 b
 
 abbrev pub is_two : ℕ → ℕ → Bool
 is_two a b = is_between 194 223 a && is_tail b

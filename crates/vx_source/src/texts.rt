@@ -2,7 +2,8 @@
 
 ghost use Rattle.std.specs.Prelude.{◌≡◌, ◌+◌, ◌-◌, ◌*◌, ◌/◌, ◌%◌, ◌≤◌, ◌<◌, ◌++◌, ◌==◌, length, drop, take, slice_index, true, false, not, ◌&&◌, IsTrue, OnOk};
 ghost use Rattle.vx_source.specs.Reading.{Gives, GivesBy};
-ghost use Rattle.vx_source.specs.Texts.{quote_place, unit_bytes, low_bytes, piece_bytes, is_between, is_tail, is_two, is_three, is_four, surrogates, escape_at, long_at, piece_at, piece_step, modified, is_quoted, text_of};
+ghost use Rattle.vx_pool.specs.Text.{is_tail};
+ghost use Rattle.vx_source.specs.Texts.{quote_place, unit_bytes, low_bytes, piece_bytes, is_between, is_two, is_three, is_four, surrogates, escape_at, long_at, piece_at, piece_step, modified, is_quoted, text_of};
 
 use crate::fault::{LineFault, refused};
 use crate::numbers::{are_four_hex, byte_at, four_hex};

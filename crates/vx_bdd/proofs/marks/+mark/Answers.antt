@@ -1,12 +1,14 @@
+use Rattle.std.specs.Prelude.{nat_eq}
+use Rattle.std.specs.HashSet.{contains}
 use Rattle.std.proofs.Common.{sym}
-use Rattle.vx_bdd.specs.Marks.{AddsBelow, has_mark}
+use Rattle.vx_bdd.specs.Marks.{AddsBelow}
 use Rattle.vx_bdd.proofs.MarkLaws.{AddsBelow-refl, AddsBelow-parts, AddsBelow-insert}
 use Rattle.vx_bdd.proofs.marks.+mark.Goals as goal
 use Rattle.vx_bdd.proofs.marks.+mark.Goals.{in-Some+in_ok-mark+in_ok-mark-2, in_default}
 
 pub returns-clause-adds : goal.returns-clause-adds
 returns-clause-adds t c =
-    let before : AddsBelow c.args.table.now.nodes.slots c.args.id (has_mark c.args.marks.now) (has_mark c.match-node.marks) = elim c.match-node.branch [
+    let before : AddsBelow c.args.table.now.nodes.slots c.args.id (contains nat_eq c.args.marks.now) (contains nat_eq c.match-node.marks) = elim c.match-node.branch [
       | in-Some+in_ok-mark+in_ok-mark-2 w ↦ rw w.marks-is (AddsBelow-parts c.args.id w.in-Some.node _ _ _ (sym w.in-Some.ensures) w.in_ok-mark.ensures.adds w.in_ok-mark-2.ensures.adds)
       | in_default w ↦ rw w.marks-is (AddsBelow-refl _ _ _)
     ] in
