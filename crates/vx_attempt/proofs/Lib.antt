@@ -1,4 +1,4 @@
 pub mod Alone
 pub mod Carrying
 pub mod NativeRows
-pub mod Attempting
+pub mod Making
