@@ -30,6 +30,7 @@ use Rattle.vx_value.specs.declared.key.KeyPart.{KeyPart}
 use Rattle.vx_rounds.specs.declared.placing.Round.{Round}
 use Rattle.vx_attempt.specs.Attempted.{IsAttempted, IsUnbuiltThere, MayAttempt, carried_out_row}
 use Rattle.vx_attempt.specs.Carrying.{AreConditionsKnown}
+use Rattle.vx_attempt.proofs.Calls.{conditions_known}
 use Rattle.vx_rounds.specs.Placing.{ArePlaceable, HasGoing, HasUnplaced, IsGoing, IsOutcomePlaced, IsUnderway, IsUnwritten, IsVacant, end_after, is_refused, led_by, made_at, piece_after, put_if, said_in, spent_after, waiting_at, waits_after}
 use Rattle.vx_rounds.specs.Stepping.{IsCount, IsMade, came_of}
 use Rattle.vx_rounds.proofs.Refusals.{refused_unbuilt, unplaced_refused}
@@ -102,10 +103,6 @@ said_at {S = S} {I = I} sets heap set (y ∷ ys) (suc k) x d l e c t =
     cases false h r = r
 
 -- ---- what the outcomes of an attempt need
-
-pub conditions_known : {S I : Type 0} (p : Program) (old new : Sets I) (heap : HeapView S I) (tree : List (Option (Caller S I))) (group : GroupView S I) (xs : List (Outcome S I)) → AreOutcomes p old new heap tree group xs → AreConditionsKnown new xs
-conditions_known p old new heap tree group [] h = tt
-conditions_known p old new heap tree group (x ∷ xs) h = (condition_known p old new heap tree group x h.0, conditions_known p old new heap tree group xs h.1)
 
 going : {S I : Type 0} (p : Program) {old new : Sets I} → Extends old new → (heap : HeapView S I) (limit : ℕ) (group : GroupView S I) (attempts : Conditional ℕ S I) → IsCount old group limit attempts → (made : GroupView S I) → Continues p old new heap [] group made → IsGoing p new heap attempts made
 going p e heap limit group attempts k made h = record {
