@@ -3,10 +3,10 @@ use Rattle.std.proofs.Common.{◌≡◌, Bool, true, List, [], ◌∷◌, ◌&&�
 use Rattle.std.specs.Prelude.{Option}
 use Rattle.vx_space.specs.Sets.{Sets}
 use Rattle.vx_group.specs.declared.callers.Caller.{Caller}
-use Rattle.vx_group.specs.Group.{GroupView}
+use Rattle.vx_group.specs.Group.{GroupView, path_of}
 use Rattle.vx_group.proofs.GroupLaws.{IsGroupIn-group}
 use Rattle.vx_heap.specs.Heap.{HeapView, IsHeap, IsHeapFor}
-use Rattle.vx_families.specs.Attempts.{IsAtSite, IsGiven, row_by}
+use Rattle.vx_families.specs.Attempts.{IsAtSite, IsAttemptBy, IsGiven, row_by}
 use Rattle.vx_families.specs.Built.{is_built_operation}
 use Rattle.vx_java.specs.Machine.{Outcome as PlainOutcome}
 use Rattle.vx_java.specs.declared.operation.Operation.{Operation}
@@ -80,3 +80,14 @@ module _ {S I : Type 0} (site : Site) (operation : Operation) (s0 s1 : Sets I) (
   pub calls_there : (set : List Bool → Bool) (xs : List (Outcome S I)) → CameTo site.program.now s0 s1 mid tree group Says set xs → HaveCalls site s1 mid xs
   calls_there set [] h = tt
   calls_there set (x ∷ xs) h = (call_there set x xs h, calls_there (λ c. set c && not (s1.test (condition_of x) c)) xs (CameTo-rest site.program.now s0 s1 mid tree group Says set x xs h))
+
+-- ---- what is so of an attempt by an operation
+
+module _ {S I : Type 0} (site : Site) (operation : Operation) (s0 s1 : Sets I) (before mid : HeapView S I) (tree : List (Option (Caller S I))) (group : GroupView S I) (outcomes : List (Outcome S I)) (stands : StandsIn site.program.now s0 before tree group) (attempt : IsAttemptBy site operation s0 s1 before mid group outcomes) where
+  pub attempt_known : AreConditionsKnown s1 outcomes
+  attempt_known = outcomes_known site.program.now s0 s1 mid tree group (λ c. row_by site operation (state_at s0 before tree group c)) (s0.test (path_of group)) outcomes (attempt.attempts tree stands).came
+
+  pub attempt_calls : IsGiven site operation s0 before group → is_built_operation (class_at site.program.now (method_at site.program.now group.top.method.0).class.0).pool operation ≡ true → HaveCalls site s1 mid outcomes
+  attempt_calls given is_built =
+      let made = attempt.attempts tree stands in
+      calls_there site operation s0 s1 before mid tree group given is_built made.is_heap attempt.is_for (s0.test (path_of group)) outcomes made.came
