@@ -1,5 +1,5 @@
--- Groups of one frame stand in every tree, and what is known of outcomes.
-use Rattle.std.proofs.Common.{◌≡◌, Bool, List, [], ◌∷◌, refl, length}
+-- A group of one frame stands in every tree.
+use Rattle.std.proofs.Common.{◌≡◌, ℕ, Bool, List, [], ◌∷◌, refl, length}
 use Rattle.std.specs.Prelude.{Option, None}
 use Rattle.vx_space.specs.Sets.{Sets}
 use Rattle.vx_group.specs.declared.callers.Caller.{Caller}
@@ -8,13 +8,8 @@ use Rattle.vx_group.specs.Group.{GroupView, path_of}
 use Rattle.vx_group.proofs.GroupLaws.{IsGroupIn-callers, IsGroupIn-group, IsGroupIn-one}
 use Rattle.vx_heap.specs.Heap.{HeapView}
 use Rattle.vx_link.specs.declared.program.Program.{Program}
-use Rattle.vx_outcome.specs.declared.outcome.Outcome.{Outcome}
-use Rattle.vx_stands.specs.Stands.{AreOutcomes, StandsIn, state_at}
-use Rattle.vx_stands.proofs.OutcomeStates.{condition_known}
+use Rattle.vx_stands.specs.Stands.{StandsIn, state_at}
 use Rattle.vx_value.specs.declared.key.KeyPart.{KeyPart}
-use Rattle.vx_attempt.specs.Carrying.{AreConditionsKnown}
-
--- ---- a group of one frame stands in every tree
 
 pub alone_caller : {S I : Type 0} (sets : Sets I) (tree : List (Option (Caller S I))) (path : I) (below : List KeyPart) (caller : Option ℕ) → below ≡ [] → AreCallers sets tree path (length below) caller → caller ≡ None
 alone_caller sets tree path [] caller e h = h
@@ -37,9 +32,3 @@ stands_alone {S = S} {I = I} p sets heap tree group e h =
 
 pub state_alone : {S I : Type 0} (sets : Sets I) (heap : HeapView S I) (tree : List (Option (Caller S I))) (group : GroupView S I) → group.below ≡ [] → (c : List Bool) → state_at sets heap tree group c ≡ state_at sets heap [] group c
 state_alone {S = S} {I = I} sets heap tree group e c = rw (no_below tree group.below group.caller e, no_below {S = S} {I = I} [] group.below group.caller e) refl
-
--- ---- what outcomes need
-
-pub conditions_known : {S I : Type 0} (p : Program) (old new : Sets I) (heap : HeapView S I) (tree : List (Option (Caller S I))) (group : GroupView S I) (xs : List (Outcome S I)) → AreOutcomes p old new heap tree group xs → AreConditionsKnown new xs
-conditions_known p old new heap tree group [] h = tt
-conditions_known p old new heap tree group (x ∷ xs) h = (condition_known p old new heap tree group x h.0, conditions_known p old new heap tree group xs h.1)

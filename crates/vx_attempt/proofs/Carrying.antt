@@ -1,7 +1,6 @@
 -- Outcomes over a heap with more texts, and those in which native methods are carried out.
-use Rattle.std.proofs.Common.{◌≡◌, ℕ, ◌<◌, Bool, true, false, List, [], ◌∷◌, ◌++◌, ◌&&◌, ◌||◌, refl, sym, ◌∙◌, ap, subst, not, length, arith}
+use Rattle.std.proofs.Common.{◌≡◌, ℕ, Bool, true, false, List, [], ◌∷◌, ◌++◌, ◌&&◌, ◌||◌, refl, sym, ◌∙◌, ap, subst, not, length, arith}
 use Rattle.std.specs.Prelude.{◌≢◌, Option, Some, None, if◌then◌else◌, unwrap_or}
-use Rattle.vx_list.specs.Places.{item_or}
 use Rattle.vx_value.specs.declared.ids.ClassId.{ClassId}
 use Rattle.vx_value.specs.declared.ids.MethodId.{MethodId}
 use Rattle.vx_value.specs.declared.slot.Slot.{Slot}
@@ -15,22 +14,22 @@ use Rattle.vx_group.specs.declared.callers.Caller.{Caller}
 use Rattle.vx_group.specs.Group.{GroupView, path_of}
 use Rattle.vx_heap.specs.Heap.{HeapView, IsHeap, is_held}
 use Rattle.vx_heap.proofs.HeapLaws.{IsHeap-extends}
-use Rattle.vx_families.specs.Built.{is_built_outcome, is_println_method}
+use Rattle.vx_families.specs.Built.{is_built_outcome}
 use Rattle.vx_families.proofs.Given.{IsGiven-extends, IsGiven-texts}
 use Rattle.vx_families.specs.Attempts.{AttemptsBy, IsGiven}
-use Rattle.vx_families.proofs.MoreTexts.{HasMoreTexts, HasMoreTexts-refl, HasMoreTexts-trans, IsHeap-texts, StandsIn-texts, frame_held-texts, state_at-texts}
+use Rattle.vx_families.specs.Texts.{HasMoreTexts}
+use Rattle.vx_families.proofs.MoreTexts.{HasMoreTexts-refl, HasMoreTexts-trans, IsHeap-texts, StandsIn-texts, frame_held-texts, state_at-texts}
 use Rattle.vx_java.specs.Machine.{State}
 use Rattle.vx_java.specs.Machine.{Outcome as PlainOutcome}
 use Rattle.vx_java.specs.Machine as plain
 use Rattle.vx_java.specs.Natives.{native}
 use Rattle.vx_java.specs.Step.{outcome_carried_out}
 use Rattle.vx_java.specs.declared.operation.Operation.{Operation}
-use Rattle.vx_link.specs.Parts.{method_at}
 use Rattle.vx_link.specs.declared.program.Program.{Program}
-use Rattle.vx_outcome.specs.Outcome.{Divide, condition_of}
+use Rattle.vx_outcome.specs.Outcome.{condition_of}
 use Rattle.vx_outcome.specs.declared.outcome.Outcome.{Outcome}
 use Rattle.vx_outcome.specs.declared.outcome.Outcome.TheVariants as shared
-use Rattle.vx_stands.specs.Stands.{AreOutcomes, CameTo, Continues, IsMessage, IsOutcome, IsThrown, StandsIn, comes_to, message_of, object_named, outcome_at, state_at}
+use Rattle.vx_stands.specs.Stands.{AreOutcomes, CameTo, Continues, IsMessage, IsOutcome, IsThrown, comes_to, message_of, object_named, outcome_at, state_at}
 use Rattle.vx_stands.specs.declared.site.Site.{Site}
 use Rattle.vx_stands.proofs.OutcomeStates.{CameTo-append, CameTo-extends, CameTo-none, CameTo-one, CameTo-same, CameTo-through}
 use Rattle.vx_stands.proofs.StateLaws.{both_first}
@@ -129,13 +128,13 @@ inside_of true false h t = cc h
 inside_of false b h t = cc t
 
 module _ {S I : Type 0} (p : Program) (start new : Sets I) (heap : HeapView S I) (tree : List (Option (Caller S I))) (group : GroupView S I) (what : List Bool → PlainOutcome) (set : List Bool → Bool) (x : Outcome S I) (xs : List (Outcome S I)) (h : CameTo p start new heap tree group what set (x ∷ xs)) where
-  first_at : (c : List Bool) → new.test (condition_of x) c ≡ true → outcome_at new heap tree c x ≡ what c
+  pub first_at : (c : List Bool) → new.test (condition_of x) c ≡ true → outcome_at new heap tree c x ≡ what c
   first_at c t = taken (new.test (condition_of x) c) _ _ _ t (h.at c (h.divide.0 c t))
 
   CameTo-first : CameTo p start new heap tree group what (new.test (condition_of x)) (x ∷ [])
   CameTo-first = CameTo-one p start new heap tree group what (new.test (condition_of x)) x h.continue.0 (λ c. refl) first_at
 
-  CameTo-rest : CameTo p start new heap tree group what (λ c. set c && not (new.test (condition_of x) c)) xs
+  pub CameTo-rest : CameTo p start new heap tree group what (λ c. set c && not (new.test (condition_of x) c)) xs
   CameTo-rest = record {
     divide = h.divide.1;
     continue = h.continue.1;
@@ -166,6 +165,15 @@ AreCarriedOut-plain p sets heap x plain = record {
       let at = only_at p start sets heap tree group what set x h in
       CameTo-same p start sets heap tree group what (λ c. outcome_carried_out p (what c)) set set (x ∷ []) (λ c. refl) (λ c t. (at c).1 t ∙ sym (plain p sets heap tree c) ∙ ap (outcome_carried_out p) (sym ((at c).1 t))) h;
 }
+
+pub IsPlain-other : {S I : Type 0} (x : Outcome S I) → ((group : GroupView S I) (class : ClassId) → x ≢ shared.Begin group class) → ((group : GroupView S I) (method : MethodId) → x ≢ shared.Native group method) → IsPlain x
+IsPlain-other (shared.Begin group class) begin native = absurd (begin group class refl)
+IsPlain-other (shared.Native group method) begin native = absurd (native group method refl)
+IsPlain-other (shared.Go group) begin native = λ p sets heap tree c. refl
+IsPlain-other (shared.Raise group class message) begin native = λ p sets heap tree c. refl
+IsPlain-other (shared.Throw group thrown) begin native = λ p sets heap tree c. refl
+IsPlain-other (shared.Write group stream text) begin native = λ p sets heap tree c. refl
+IsPlain-other (shared.Ended condition end) begin native = λ p sets heap tree c. refl
 
 pub AreCarriedOut-never : {S I : Type 0} (p : Program) (sets : Sets I) (heap : HeapView S I) (x : Outcome S I) → ((c : List Bool) → sets.test (condition_of x) c ≡ false) → AreCarriedOut p sets sets heap heap (x ∷ []) []
 AreCarriedOut-never p sets heap x never = record {
@@ -309,9 +317,14 @@ module _ {S I : Type 0} (site : Site) {s0 s1 : Sets I} (before now : HeapView S 
       apart s w false f h = refl
       apart s w true f h = cc (sym (outside_of s w h).1 ∙ f refl)
 
-pub IsCarrying-end : {S I : Type 0} (site : Site) {s0 s1 : Sets I} (before now : HeapView S I) (items made : List (Outcome S I)) → IsCarrying site s0 s1 before now items [] made → AreCarriedOut site.program.now s0 s1 before now items made
-IsCarrying-end site {s1 = s1} before now items made l = record {
+pub nothing_left : {A : Type 0} (xs : List A) (n : ℕ) → n ≡ length xs → n ≡ 0 → xs ≡ []
+nothing_left [] n h k = refl
+nothing_left (x ∷ xs) n h k = absurd (omega (arith, h, k))
+
+pub IsCarrying-end : {S I : Type 0} (site : Site) {s0 s1 : Sets I} (before now : HeapView S I) (items left made : List (Outcome S I)) → left ≡ [] → IsCarrying site s0 s1 before now items left made → AreCarriedOut site.program.now s0 s1 before now items made
+IsCarrying-end site {s0 = s0} {s1 = s1} before now items left made nothing k = record {
   came = λ start tree group what set h.
+      let l : IsCarrying site s0 s1 before now items [] made = rw nothing at k in
       let half = l.half start tree group what set h in
       CameTo-same site.program.now start s1 now tree group (λ c. outcome_carried_out site.program.now (what c)) (λ c. outcome_carried_out site.program.now (what c)) (λ c. set c && not (half.waiting c)) set made (λ c. all_of (set c) (half.waiting c) (half.waits.divide c)) (λ c t. refl) half.came;
 }

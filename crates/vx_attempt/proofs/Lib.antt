@@ -1,4 +1,5 @@
 pub mod Alone
 pub mod Carrying
 pub mod NativeRows
+pub mod Calls
 pub mod Making

@@ -2,10 +2,11 @@
 use Rattle.std.proofs.Common.{◌≡◌, ℕ, ◌<◌, ◌+◌, ◌≤◌, zero, suc, Bool, true, false, List, [], ◌∷◌, ◌&&◌, refl, sym, ◌∙◌, ap, subst, length, arith}
 use Rattle.std.proofs.lemmas.Bool.Decides.{nat_tests}
 use Rattle.std.specs.List.{list_all}
-use Rattle.std.specs.Prelude.{◌≢◌, Option, Some, None, nat_lt, slice_get}
+use Rattle.std.specs.Prelude.{◌≢◌, Ok, Err, Option, Some, None, nat_lt, ok_or, slice_get}
 use Rattle.vx_class.specs.declared.class_file.Code.{Code}
 use Rattle.vx_space.specs.Sets.{Sets, Extends, IsLawful}
 use Rattle.vx_space.proofs.Differences.{some_difference}
+use Rattle.vx_frame.specs.declared.frame.Frame.{Frame}
 use Rattle.vx_group.specs.declared.callers.Caller.{Caller}
 use Rattle.vx_group.specs.Group.{GroupView, IsGroup, path_of}
 use Rattle.vx_group.proofs.CallerLaws.{Keeps-refl}
@@ -30,6 +31,7 @@ use Rattle.vx_link.specs.declared.program.LinkedMethod.{LinkedMethod}
 use Rattle.vx_link.specs.declared.program.Program.{Program}
 use Rattle.vx_list.specs.Places.{item_or}
 use Rattle.vx_opcode.specs.Decode.{instruction_at}
+use Rattle.vx_opcode.specs.declared.instruction.DecodeFault.{DecodeFault}
 use Rattle.vx_opcode.specs.declared.instruction.Instruction.{Instruction}
 use Rattle.vx_outcome.specs.declared.outcome.Outcome.{Outcome}
 use Rattle.vx_stands.specs.Sites.{Gives}
@@ -37,6 +39,7 @@ use Rattle.vx_stands.specs.Stands.{Attempts, Grows, StandsIn, state_at}
 use Rattle.vx_stands.specs.declared.site.Site.{Site}
 use Rattle.vx_stands.proofs.OutcomeStates.{CameTo-same}
 use Rattle.vx_stands.proofs.StateLaws.{both_first, both_second, top_held, top_shaped}
+use Rattle.vx_value.specs.declared.ids.ClassId.{ClassId}
 use Rattle.vx_attempt.specs.Attempted.{IsAttempted, IsUnbuiltThere, MayAttempt, carried_out_row}
 use Rattle.vx_attempt.specs.Carrying.{AreCarriedOut, HasUnbuilt}
 use Rattle.vx_attempt.proofs.Alone.{state_alone}
@@ -58,8 +61,17 @@ below n h = grind (arith, nat_tests)
 pub code_is_short : (p : Program) (m : ℕ) (code : Code) → IsBounded p → (method_at p m).code ≡ Some code → length code.bytes < 65536
 code_is_short p m code b e = below (length code.bytes) (sym (ap has_short_code e) ∙ code_short p.methods m b.codes)
 
+-- what decoding finds
+found_at : (o : Option Instruction) (i : Instruction) (fault : DecodeFault) → Ok i ≡ ok_or o fault → o ≡ Some i
+found_at None i fault e = cc e
+found_at (Some j) i fault e = let same : j ≡ i = cc e in ap Some same
+
+missing_at : (o : Option Instruction) (found fault : DecodeFault) → Err found ≡ ok_or o fault → o ≡ None
+missing_at None found fault e = refl
+missing_at (Some j) found fault e = cc e
+
 -- what a family is given where a group stands that may attempt
-pub given_there : {S I : Type 0} (site : Site) (operation : Operation) (sets : Sets I) (heap : HeapView S I) (group : GroupView S I) → MayAttempt site.program.now sets heap group → IsAtSite site operation group → IsGiven site operation sets heap group
+given_there : {S I : Type 0} (site : Site) (operation : Operation) (sets : Sets I) (heap : HeapView S I) (group : GroupView S I) → MayAttempt site.program.now sets heap group → IsAtSite site operation group → IsGiven site operation sets heap group
 given_there site operation sets heap group may at =
     let p = site.program.now in
     record {
@@ -72,6 +84,19 @@ given_there site operation sets heap group may at =
       held = top_held p sets heap may.tree group may.stands;
       shaped = top_shaped p sets heap may.tree group may.stands;
     }
+
+-- the same, as decoding tells the instruction
+pub given_at : {S I : Type 0} (site : Site) (operation : Operation) (sets : Sets I) (heap : HeapView S I) (group : GroupView S I) (instruction : Instruction) (fault : DecodeFault) (bytes : List ℕ) (top : Frame S I) → MayAttempt site.program.now sets heap group → (method_at site.program.now group.top.method.0).code ≡ Some site.code.now → bytes ≡ site.code.now.bytes → top ≡ group.top → Ok instruction ≡ ok_or (instruction_at bytes top.position) fault → top.position + instruction.length ≤ length bytes → site.size ≡ instruction.length → operation ≡ operation_of instruction → IsGiven site operation sets heap group
+given_at site operation sets heap group instruction fault bytes top may code same is found within size does =
+    given_there site operation sets heap group may (record {
+      instruction = instruction;
+      code = code;
+      found = found_at (instruction_at site.code.now.bytes group.top.position) instruction fault (rw (same, is) at found);
+      size = size;
+      does = does;
+      within = rw size (rw (same, is) at within);
+      short = code_is_short site.program.now group.top.method.0 site.code.now may.bounded code;
+    })
 
 -- ---- the attempt
 
@@ -124,8 +149,10 @@ pub no_code : (p : Program) (method : ℕ) → (method_at p method).code ≡ Non
 no_code p method e s at = ap (λ m. row_in p s (method_at p m).code) at ∙ ap (row_in p s) e
 
 -- behind the last instruction
-pub no_instruction : (p : Program) (method position : ℕ) (code : Code) → (method_at p method).code ≡ Some code → instruction_at code.bytes position ≡ None → (s : State) → s.top.method ≡ method → s.top.position ≡ position → row p s ≡ illegal_in p s
-no_instruction p method position code e none s at there = ap (λ m. row_in p s (method_at p m).code) at ∙ ap (row_in p s) e ∙ ap (λ n. row_if p s code (instruction_at code.bytes n)) there ∙ ap (row_if p s code) none
+pub no_instruction : {S I : Type 0} (p : Program) (group : GroupView S I) (code : Code) (found fault : DecodeFault) (bytes : List ℕ) (top : Frame S I) → (method_at p group.top.method.0).code ≡ Some code → bytes ≡ code.bytes → top ≡ group.top → Err found ≡ ok_or (instruction_at bytes top.position) fault → (s : State) → s.top.method ≡ group.top.method.0 → s.top.position ≡ group.top.position → row p s ≡ illegal_in p s
+no_instruction p group code found fault bytes top e same is missing s at there =
+    let none = missing_at (instruction_at code.bytes group.top.position) found fault (rw (same, is) at missing) in
+    ap (λ m. row_in p s (method_at p m).code) at ∙ ap (row_in p s) e ∙ ap (λ n. row_if p s code (instruction_at code.bytes n)) there ∙ ap (row_if p s code) none
 
 -- ---- what isn't built
 
@@ -145,7 +172,7 @@ second_false true b c d e = ap (λ x. x && c && d) e
 second_false false b c d e = refl
 
 -- its instruction isn't built
-pub unbuilt_instruction : {S I : Type 0} (p : Program) {sets : Sets I} → IsLawful sets → (heap : HeapView S I) (group : GroupView S I) (code : Code) (instruction : Instruction) → MayAttempt p sets heap group → (method_at p group.top.method.0).code ≡ Some code → instruction_at code.bytes group.top.position ≡ Some instruction → is_built_operation (class_at p (method_at p group.top.method.0).class.0).pool (operation_of instruction) ≡ false → IsUnbuiltThere p sets heap group
+unbuilt_instruction : {S I : Type 0} (p : Program) {sets : Sets I} → IsLawful sets → (heap : HeapView S I) (group : GroupView S I) (code : Code) (instruction : Instruction) → MayAttempt p sets heap group → (method_at p group.top.method.0).code ≡ Some code → instruction_at code.bytes group.top.position ≡ Some instruction → is_built_operation (class_at p (method_at p group.top.method.0).class.0).pool (operation_of instruction) ≡ false → IsUnbuiltThere p sets heap group
 unbuilt_instruction p {sets = sets} lawful heap group code instruction may e found unbuilt =
     let there = somewhere p lawful heap group may in
     let pool = (class_at p (method_at p group.top.method.0).class.0).pool in
@@ -158,6 +185,11 @@ unbuilt_instruction p {sets = sets} lawful heap group code instruction may e fou
           let state = state_at sets heap tree group there.0 in
           second_false (is_single state) (is_built_at p state) (is_built_outcome p (row p state)) (is_built_outcome p (outcome_carried_out p (row p state))) at;
     }
+
+-- the same, as decoding tells the instruction
+pub unbuilt_decoded : {S I : Type 0} (p : Program) {sets : Sets I} → IsLawful sets → (heap : HeapView S I) (group : GroupView S I) (code : Code) (instruction : Instruction) (fault : DecodeFault) (bytes : List ℕ) (top : Frame S I) (class : ClassId) (operation : Operation) → MayAttempt p sets heap group → (method_at p group.top.method.0).code ≡ Some code → bytes ≡ code.bytes → top ≡ group.top → Ok instruction ≡ ok_or (instruction_at bytes top.position) fault → class ≡ (method_at p top.method.0).class → operation ≡ operation_of instruction → is_built_operation (class_at p class.0).pool operation ≡ false → IsUnbuiltThere p sets heap group
+unbuilt_decoded p lawful heap group code instruction fault bytes top class operation may e same is found of does unbuilt =
+    unbuilt_instruction p lawful heap group code instruction may e (found_at (instruction_at code.bytes group.top.position) instruction fault (rw (same, is) at found)) (rw (does, of, is) at unbuilt)
 
 -- its family came to what isn't built
 pub unbuilt_met : {S I : Type 0} (site : Site) (sets : Sets I) (heap : HeapView S I) (group : GroupView S I) → MayAttempt site.program.now sets heap group → group.below ≡ [] → MeetsUnbuilt site sets heap group → IsUnbuiltThere site.program.now sets heap group

@@ -1,5 +1,5 @@
 -- A native method is left to be carried out in the very state in which its call was attempted.
-use Rattle.std.proofs.Common.{◌≡◌, ℕ, ℤ, Bool, true, false, List, [], ◌∷◌, refl, ap, sym, ◌∙◌, subst, zero, suc}
+use Rattle.std.proofs.Common.{◌≡◌, ℕ, ℤ, Bool, true, false, List, [], ◌∷◌, refl}
 use Rattle.std.specs.Prelude.{Option, Some, None, ◌&&◌, ◌==◌, nat_lt, not}
 use Rattle.std.specs.Int.{w32, w64}
 use Rattle.vx_class.specs.Members.{STATIC}
@@ -7,7 +7,7 @@ use Rattle.vx_class.specs.declared.class_file.Code.{Code}
 use Rattle.vx_desc.specs.Descriptors.{field_type}
 use Rattle.vx_desc.specs.declared.java_type.JavaType.{JavaType}
 use Rattle.vx_families.specs.Built.{is_built_operation, is_println, is_virtual}
-use Rattle.vx_java.specs.Calls.{arguments_off, call_instance, call_resolved, carry_out, clone_array, dispatch, enter, if_arguments, if_method, invoke, is_receiver, on_class, on_receiver, selection, state_in_callee, wrong_kind}
+use Rattle.vx_java.specs.Calls.{arguments_off, call_instance, carry_out, clone_array, dispatch, enter, if_arguments, if_method, invoke, is_receiver, on_class, on_receiver, selection, state_in_callee, wrong_kind}
 use Rattle.vx_java.specs.Checks.{fits_type, if_there, is_of, non_null, same_bool, sort_of, width_of_type, with_class}
 use Rattle.vx_java.specs.FirstObjects.{literal_object}
 use Rattle.vx_java.specs.Calculation.{int_arithmetic, int_result, int_shift, long_arithmetic, long_compare, long_result, long_shift, on_int, on_long}
@@ -16,7 +16,7 @@ use Rattle.vx_java.specs.Locals.{increase, load, locals_with, store, with_locals
 use Rattle.vx_java.specs.Constants.{push_entry}
 use Rattle.vx_java.specs.Fields.{Found, declaring, get_static, if_agreeing, if_field, if_sort, if_type, put_static, put_value, static_value, with_written}
 use Rattle.vx_java.specs.Initialisation.{by_state, when_initialised, when_not}
-use Rattle.vx_java.specs.Machine.{Frame, Here, Outcome, State, Value, Go, Raise, Throw, Begin, Native, Write, Ended, depth, fit, frame_bound, go, has_room, illegal, init_at, method_text, object_at, past, push, push_new, raise, settle, unsupported, when, Top, Int, Long, Null, Ref, Text}
+use Rattle.vx_java.specs.Machine.{Frame, Here, Outcome, State, Value, Go, Native, depth, fit, frame_bound, go, has_room, illegal, init_at, method_text, object_at, past, push, push_new, raise, settle, unsupported, when, Top, Int, Long, Null, Ref, Text}
 use Rattle.vx_java.specs.Operation.{native_word}
 use Rattle.vx_java.specs.Returns.{agrees, fits_caller, frame_resumed, return_to, return_value, values_returned}
 use Rattle.vx_java.specs.Row.{row_of}
@@ -41,7 +41,6 @@ use Rattle.vx_link.specs.Resolution.{is_array_clone, resolve_field, resolve_meth
 use Rattle.vx_link.specs.Signature.{signature}
 use Rattle.vx_pool.specs.declared.pool.Entry.{Entry}
 use Rattle.vx_pool.specs.declared.pool.Entry.TheVariants as entry
-use Rattle.vx_pool.specs.declared.pool.Pool.{Pool}
 use Rattle.vx_value.specs.declared.key.Kind.{Kind}
 use Rattle.vx_value.specs.declared.key.Kind.TheVariants as kind
 use Rattle.vx_value.specs.declared.slot.InitState.{InitState}
@@ -228,7 +227,7 @@ module _ (h : Here) where
       let value : Found → Here → Outcome = λ found g. go g (static_value g.state found ∷ g.state.top.operands) in
       let then : Found → Outcome = λ found. when_initialised h (declaring h found) (value found) in
       of_type m true (field_type m.descriptor) (λ found. when (has_room h (width_of_type found.type) h.state.top.operands) (then found) (illegal h)) (λ found.
-          by_when h.state (has_room h (width_of_type found.type) h.state.top.operands) (then found) (illegal h) (by_init h.state h (declaring h found) (init_at h.state.inits (declaring h found)) true (value found) (λ g. tt)) tt)
+      by_when h.state (has_room h (width_of_type found.type) h.state.top.operands) (then found) (illegal h) (by_init h.state h (declaring h found) (init_at h.state.inits (declaring h found)) true (value found) (λ g. tt)) tt)
 
   put_stays : (found : Found) (operands : List Value) → Stays (put_value h found operands)
   put_stays found [] = tt

@@ -30,7 +30,8 @@ use Rattle.vx_value.specs.declared.key.KeyPart.{KeyPart}
 use Rattle.vx_rounds.specs.declared.placing.Round.{Round}
 use Rattle.vx_attempt.specs.Attempted.{IsAttempted, IsUnbuiltThere, MayAttempt, carried_out_row}
 use Rattle.vx_attempt.specs.Carrying.{AreConditionsKnown}
-use Rattle.vx_attempt.proofs.Alone.{conditions_known, stands_alone, state_alone}
+use Rattle.vx_attempt.proofs.Alone.{stands_alone, state_alone}
+use Rattle.vx_attempt.proofs.Calls.{conditions_known}
 use Rattle.vx_rounds.specs.Placing.{ArePlaceable, HasGoing, HasUnplaced, IsGoing, IsOutcomePlaced, IsUnderway, IsUnwritten, IsVacant, end_after, is_refused, led_by, made_at, piece_after, put_if, said_in, spent_after, waiting_at, waits_after}
 use Rattle.vx_rounds.specs.Stepping.{IsCount, IsMade, came_of}
 use Rattle.vx_rounds.proofs.Refusals.{refused_unbuilt, unplaced_refused}

@@ -1,5 +1,5 @@
 -- Outcomes that take their places one after the other.
-use Rattle.std.proofs.Common.{◌≡◌, ℕ, ◌≤◌, Bool, true, false, List, [], ◌∷◌, ◌++◌, refl, sym, ◌∙◌, ap, subst, arith, inl, inr, append_assoc, append-nil, length}
+use Rattle.std.proofs.Common.{◌≡◌, ℕ, ◌≤◌, Bool, true, false, List, [], ◌∷◌, ◌++◌, refl, sym, ◌∙◌, ap, subst, inl, inr, append_assoc, append-nil}
 use Rattle.std.specs.Prelude.{◌&&◌, not, is_some, option_map, Option, Some, None, if◌then◌else◌, unwrap_or}
 use Rattle.std.specs.Option.{option_or}
 use Rattle.std.specs.Ordering.{nat_cmp}
@@ -209,7 +209,3 @@ pub IsPlacing-end : {S I : Type 0} (p : Program) (s0 s : Sets I) (heap : HeapVie
 IsPlacing-end {S = S} {I = I} p s0 s heap limit attempts before round outcomes rest e k =
     let P : List (Outcome S I) → Type 0 = λ xs. IsOutcomePlaced p s0 s heap limit attempts (said_in s0 heap xs) before round in
     subst P (sym (k.whole ∙ ap (λ xs. k.done ++ xs) e ∙ append-nil k.done)) k.placed
-
-pub no_more : {A : Type 0} (xs : List A) (n : ℕ) → n ≡ length xs → n ≡ 0 → xs ≡ []
-no_more [] n h k = refl
-no_more (x ∷ xs) n h k = absurd (omega (arith, h, k))

@@ -1,6 +1,5 @@
-use Rattle.std.proofs.Common.{refl, sym, ap, ◌∙◌}
+use Rattle.std.proofs.Common.{refl, sym, ◌∙◌}
 use Rattle.vx_outcome.specs.declared.outcome.Outcome.TheVariants.{Native}
-use Rattle.vx_space.proofs.Differences.{some_difference}
 use Rattle.vx_attempt.proofs.Carrying.{AreCarriedOut-native, AreCarriedOut-none, HasUnbuilt-one, some_call}
 use Rattle.vx_attempt.proofs.natives.native_carried_out.Goals as goal
 

@@ -1,4 +1,4 @@
-use Rattle.std.proofs.Common.{refl, sym, ap, ◌∙◌}
+use Rattle.std.proofs.Common.{refl, sym, ◌∙◌}
 use Rattle.vx_outcome.specs.declared.outcome.Outcome.TheVariants.{Begin}
 use Rattle.vx_attempt.proofs.Carrying.{AreCarriedOut-none, HasUnbuilt-one}
 use Rattle.vx_attempt.proofs.natives.no_beginning.Goals as goal

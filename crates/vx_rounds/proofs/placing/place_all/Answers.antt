@@ -4,7 +4,8 @@ use Rattle.std.specs.Vec.Iter.{into_iter_items}
 use Rattle.vx_space.proofs.Spaces.{Extends-trans}
 use Rattle.vx_cond.proofs.CondLaws.{IsCond-extends}
 use Rattle.vx_heap.proofs.HeapLaws.{IsHeap-extends}
-use Rattle.vx_rounds.proofs.Sequence.{HasPlace-extends, IsPlaceable-extends, IsPlacing-end, IsPlacing-start, IsPlacing-step, next_bound, next_unwritten, next_vacant, no_more}
+use Rattle.vx_attempt.proofs.Carrying.{nothing_left}
+use Rattle.vx_rounds.proofs.Sequence.{HasPlace-extends, IsPlaceable-extends, IsPlacing-end, IsPlacing-start, IsPlacing-step, next_bound, next_unwritten, next_vacant}
 use Rattle.vx_rounds.proofs.placing.place_all.Goals as goal
 
 pub loop-outcome-init : goal.loop-outcome-init
@@ -60,4 +61,4 @@ pub returns-clause-extends : goal.returns-clause-extends
 returns-clause-extends g c = c.loop-outcome.invariant.1.extends
 
 pub returns-clause-placed : goal.returns-clause-placed
-returns-clause-placed g c = IsPlacing-end c.args.setting.now.program.now _ _ c.args.setting.now.heap.now c.args.setting.now.limit c.args.attempts.now c.args.round.now c.loop-outcome.round c.args.outcomes.items (into_iter_items c.loop-outcome.outcome-iterator) (no_more (into_iter_items c.loop-outcome.outcome-iterator) _ c.loop-outcome.invariant.0 c.in-None.ensures.steps.0) c.loop-outcome.invariant.1
+returns-clause-placed g c = IsPlacing-end c.args.setting.now.program.now _ _ c.args.setting.now.heap.now c.args.setting.now.limit c.args.attempts.now c.args.round.now c.loop-outcome.round c.args.outcomes.items (into_iter_items c.loop-outcome.outcome-iterator) (nothing_left (into_iter_items c.loop-outcome.outcome-iterator) _ c.loop-outcome.invariant.0 c.in-None.ensures.steps.0) c.loop-outcome.invariant.1

@@ -1,9 +1,9 @@
 use Rattle.std.specs.Ordering.{nat_cmp}
 use Rattle.vx_space.proofs.Spaces.{Extends-trans}
 use Rattle.vx_cond.proofs.CondLaws.{IsCond-extends}
+use Rattle.vx_attempt.proofs.Calls.{conditions_known}
 use Rattle.vx_rounds.proofs.Grown.{IsUnderway-grown}
 use Rattle.vx_rounds.proofs.Making.{IsMade-placed, IsUnbuiltThere-met, attempt_of, made_bound, made_divide, made_placeable, unwritten_made, vacant_made}
-use Rattle.vx_attempt.proofs.Alone.{conditions_known}
 use Rattle.vx_rounds.proofs.stepping.make.Goals as goal
 
 pub have_places-requires : goal.have_places-requires
