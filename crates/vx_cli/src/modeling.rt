@@ -1,31 +1,32 @@
-//! What `run` takes from its model: the model itself, and the values of its option at which it allows configurations.
+//! What `run` takes from its model: the model itself, and the set of configurations that it allows.
 
-ghost use Rattle.std.specs.Prelude.{◌≡◌, ◌≤◌, ℕ, Bool, true, false, List, length, IfOk, IfErr, MatchResult, MatchOption, Ok, Err, ◌⊎◌};
+ghost use Rattle.std.specs.Prelude.{◌≡◌, ◌≢◌, true, false, List, IfOk, IfErr, MatchResult, Ok, Err, ◌⊎◌, length};
+ghost use Rattle.vx_bdd.specs.Space.{IsNewSpace};
+ghost use Rattle.vx_model.specs.Answers.{Answers};
 ghost use Rattle.vx_model.specs.Models.{IsModel, is_allowed};
 ghost use Rattle.vx_model.specs.declared.model.Model.{Model};
-ghost use Rattle.vx_space.specs.Config.{value_of};
-ghost use Rattle.vx_straight.specs.Reported.{allows};
+ghost use Rattle.vx_space.specs.Sets.{IsSet};
 ghost use Rattle.vx_cli.specs.Job.{model_of, spelled_model};
-ghost use Rattle.vx_model.specs.Answers.{Answers};
 ghost use Rattle.vx_cli.specs.KeepsFiles.{KeepsFiles};
-ghost use Rattle.vx_cli.specs.Plan.{Plan, Leads, MayStop, AllowsNone};
+ghost use Rattle.vx_cli.specs.Plan.{AllowsNone, AllowsSome, Leads, MayStop, Plan};
 ghost use Rattle.vx_cli.specs.Run.{read_model};
 
-use crate::job::{is_dimacs, not_yet};
+use crate::job::is_dimacs;
 use crate::reading::{MOST_BYTES, read_file};
 use crate::status::Status;
 use std::alloc::Global;
+use vx_bdd::BddSpace;
 use vx_dimacs::read_dimacs;
 use vx_io::Files;
 use vx_model::{Model, ModelFault, allowed, read_model};
-use vx_space::{Config, MaskSpace, Space};
-use vx_straight::Allowed;
+use vx_space::Space;
 
-/// A model that allows a configuration, and the values of its option at which it does.
+/// A model that allows a configuration, with a space of its options and the set of those that it allows.
 #[derive(Drop)]
 pub struct Modeled {
     pub model: Model,
-    pub allowed: Allowed,
+    pub space: BddSpace,
+    pub allowed: <BddSpace as Space>::Id,
 }
 
 /// The model that the bytes of a file of this path spell, in DIMACS form where the path says so.
@@ -40,49 +41,44 @@ fn spelled_model(alloc: Global, path: &str, text: &[u8]) -> Result<Model, ModelF
     }
 }
 
-/// The model of a file of this path, or the refusal of its first bad line. A model of more than one option isn't taken yet
-/// and is refused by its path.
+/// The model of a file of this path, or the refusal of its first bad line.
 fn model_of(alloc: Global, path: &str, text: &[u8]) -> Result<Model, Status>
     ensures exact { MatchResult result (λ model. model_of path.now text.now ≡ Ok model)
         (λ status. (status ≡ Status.NoMemory) ⊎ (model_of path.now text.now ≡ Err status)) }
     ensures lawful { IfOk result IsModel }
-    ensures few { IfOk result (λ model. length model.options ≤ 1) }
 {
-    let model = match spelled_model(alloc, path, text) {
-        Ok(model) => model,
-        Err(ModelFault::NoMemory) => return Err(Status::NoMemory),
-        Err(ModelFault::Line { line, reason }) => return Err(Status::BadModel { line, reason }),
-    };
-    if model.options.len() > 1 {
-        return Err(not_yet(alloc, path)?);
-    }
-    Ok(model)
-}
-
-/// The values at which there are allowed configurations, from whether the option may be off and on.
-fn values_of(off: bool, on: bool) -> Option<Allowed>
-    ensures { MatchOption result ((off ≡ false) × (on ≡ false)) (λ allowed. (off ≡ allows allowed false) × (on ≡ allows allowed true)) }
-{
-    match (off, on) {
-        (true, true) => Some(Allowed::All),
-        (true, false) => Some(Allowed::Off),
-        (false, true) => Some(Allowed::On),
-        (false, false) => None,
+    match spelled_model(alloc, path, text) {
+        Ok(model) => Ok(model),
+        Err(ModelFault::NoMemory) => Err(Status::NoMemory),
+        Err(ModelFault::Line { line, reason }) => Err(Status::BadModel { line, reason }),
     }
 }
 
-/// The values of the option at which a model of at most one option allows configurations, or `None` where it allows none.
-fn allowed_values(alloc: Global, model: &Model) -> Result<Option<Allowed>, Status>
-    requires lawful { IsModel model.now }
-    requires few { length model.now.options ≤ 1 }
-    ensures ok { IfOk result (λ values. MatchOption values (AllowsNone model.now) (λ allowed. (c : List Bool) → is_allowed model.now c ≡ allows allowed (value_of c 0))) }
+/// A model with a space of its options and the set of the configurations that it allows.
+fn with_allowed(alloc: Global, model: Model) -> Result<Modeled, Status>
+    requires lawful { IsModel model }
+    ensures model { IfOk result (λ found. found.model ≡ model) }
+    ensures options { IfOk result (λ found. (⟦<BddSpace as Space>⟧.sets found.space).options ≡ length model.options) }
+    ensures allowed { IfOk result (λ found. IsSet (⟦<BddSpace as Space>⟧.sets found.space) found.allowed (is_allowed model)) }
     ensures err { IfErr result (λ status. status ≡ Status.NoMemory) }
 {
-    let mut space = MaskSpace::new(model.options.len() as u32);
-    let set = allowed(&mut space, model)?;
-    let off = Config::new(alloc, &[false])?;
-    let on = Config::new(alloc, &[true])?;
-    Ok(values_of(space.holds(set, &off), space.holds(set, &on)))
+    let mut space = BddSpace::new(alloc, model.options.len() as u32)?;
+    let allowed = allowed(&mut space, &model)?;
+    Ok(Modeled {
+        model,
+        space,
+        allowed,
+    })
+}
+
+/// Whether a model allows a configuration, by the set of those that it allows.
+fn is_allowing<S: Space>(space: &S, model: &Model, allowed: S::Id) -> bool
+    requires { IsSet (S.sets space.now) allowed (is_allowed model.now) }
+    ensures some { result ≡ true → AllowsSome model.now }
+    ensures nonempty { result ≡ true → allowed ≢ (S.sets space.now).never }
+    ensures none { result ≡ false → AllowsNone model.now }
+{
+    !space.is_never(allowed)
 }
 
 /// Reads a model that allows a configuration.
@@ -93,15 +89,19 @@ pub fn read_model_file<F: Files>(
 ) -> Result<Modeled, Status>
     ensures ok { IfOk result (λ found. (next : Model → Plan) →
         Leads (F.seen files.old).held (read_model path.now next) (next found.model)) }
-    ensures allowed { IfOk result (λ found. (c : List Bool) → is_allowed found.model c ≡ allows found.allowed (value_of c 0)) }
+    ensures lawful { IfOk result (λ found. IsModel found.model) }
+    ensures options { IfOk result (λ found. (⟦<BddSpace as Space>⟧.sets found.space).options ≡ length found.model.options) }
+    ensures allowed { IfOk result (λ found. IsSet (⟦<BddSpace as Space>⟧.sets found.space) found.allowed (is_allowed found.model)) }
+    ensures some { IfOk result (λ found. found.allowed ≢ (⟦<BddSpace as Space>⟧.sets found.space).never) }
     ensures err { IfErr result (λ status. (next : Model → Plan) →
         MayStop (F.seen files.old) (F.seen files.new) (read_model path.now next) status) }
     ensures keeps { KeepsFiles (F.seen files.old) (F.seen files.new) }
 {
     let text = read_file(alloc, files, MOST_BYTES, path, path)?;
     let model = model_of(alloc, path, text.as_slice())?;
-    match allowed_values(alloc, &model)? {
-        Some(allowed) => Ok(Modeled { model, allowed }),
-        None => Err(Status::NoConfiguration),
+    let found = with_allowed(alloc, model)?;
+    if is_allowing(&found.space, &found.model, found.allowed) {
+        return Ok(found);
     }
+    Err(Status::NoConfiguration)
 }

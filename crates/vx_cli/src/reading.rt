@@ -1,6 +1,7 @@
 //! What `run` reads: the model, the folder, its class files. Each stage is proved against its part of the plan.
 
-ghost use Rattle.std.specs.Prelude.{◌≡◌, ◌<◌, ◌^◌, ℕ, List, map, string_bytes, IfOk, IfErr, MatchResult, Ok, [], ◌⊎◌};
+ghost use Rattle.std.specs.Prelude.{◌≡◌, ◌<◌, ◌≤◌, ◌^◌, ℕ, All, List, length, map, string_bytes, IfOk, IfErr, MatchResult, Ok, [], ◌⊎◌};
+ghost use Rattle.vx_class.specs.File.{Holds};
 ghost use Rattle.vx_class.specs.declared.class_file.ClassFile.{ClassFile};
 ghost use Rattle.vx_cli.specs.Plan.{Plan, Leads, MayStop};
 ghost use Rattle.vx_cli.specs.Sized.{read_sized};
@@ -66,6 +67,7 @@ pub fn list_class_files<F: Files>(
 ) -> Result<Vec<String>, Status>
     ensures ok { IfOk result (λ paths. (next : List (List ℕ) → Plan) →
         Leads (F.seen files.old).held (list_classes folder.now next) (next (map string_bytes paths.items))) }
+    ensures few { IfOk result (λ paths. length paths.items ≤ 1024) }
     ensures err { IfErr result (λ status. (next : List (List ℕ) → Plan) →
         MayStop (F.seen files.old) (F.seen files.new) (list_classes folder.now next) status) }
     ensures keeps { KeepsFiles (F.seen files.old) (F.seen files.new) }
@@ -102,8 +104,9 @@ fn place_below(alloc: Global, folder: &str, path: &str) -> Result<String, AllocE
 
 /// The class that a file spells, or the refusal by its path.
 fn class_in(alloc: Global, path: &str, bytes: &[u8]) -> Result<ClassFile, Status>
-    ensures { MatchResult result (λ class. class_in path.now bytes.now ≡ Ok class)
+    ensures exact { MatchResult result (λ class. class_in path.now bytes.now ≡ Ok class)
         (λ status. (status ≡ Status.NoMemory) ⊎ (class_in path.now bytes.now ≡ Err status)) }
+    ensures holds { IfOk result Holds }
 {
     match read_class(alloc, bytes) {
         Ok(class) => Ok(class),
@@ -124,6 +127,7 @@ fn read_class_file<F: Files>(
 ) -> Result<ClassFile, Status>
     ensures ok { IfOk result (λ class. (next : ClassFile → Plan) →
         Leads (F.seen files.old).held (read_checked folder.now path.now next) (next class)) }
+    ensures holds { IfOk result Holds }
     ensures err { IfErr result (λ status. (next : ClassFile → Plan) →
         MayStop (F.seen files.old) (F.seen files.new) (read_checked folder.now path.now next) status) }
     ensures keeps { KeepsFiles (F.seen files.old) (F.seen files.new) }
@@ -142,6 +146,8 @@ pub fn read_class_files<F: Files>(
 ) -> Result<Vec<ClassFile>, Status>
     ensures ok { IfOk result (λ classes. (next : List ClassFile → Plan) →
         Leads (F.seen files.old).held (read_classes folder.now next [] (map string_bytes paths.now)) (next classes.items)) }
+    ensures holds { IfOk result (λ classes. All Holds classes.items) }
+    ensures count { IfOk result (λ classes. length classes.items ≡ length paths.now) }
     ensures err { IfErr result (λ status. (next : List ClassFile → Plan) →
         MayStop (F.seen files.old) (F.seen files.new) (read_classes folder.now next [] (map string_bytes paths.now)) status) }
     ensures keeps { KeepsFiles (F.seen files.old) (F.seen files.new) }
@@ -165,6 +171,8 @@ pub struct Folder {
 pub fn read_folder<F: Files>(alloc: Global, files: &mut F, folder: &str) -> Result<Folder, Status>
     ensures ok { IfOk result (λ found. (next : List (List ℕ) → List ClassFile → Plan) →
         Leads (F.seen files.old).held (read_folder folder.now next) (next (map string_bytes found.paths.items) found.classes.items)) }
+    ensures few { IfOk result (λ found. length found.classes.items ≤ 1024) }
+    ensures holds { IfOk result (λ found. All Holds found.classes.items) }
     ensures err { IfErr result (λ status. (next : List (List ℕ) → List ClassFile → Plan) →
         MayStop (F.seen files.old) (F.seen files.new) (read_folder folder.now next) status) }
     ensures keeps { KeepsFiles (F.seen files.old) (F.seen files.new) }

@@ -5,6 +5,7 @@
 mod tests {
     use std::alloc::{AllocError, Global};
     use std::test::Fail;
+    use vx_asm::assemble;
     use vx_cli::varex;
     use vx_io::{MemoryFiles, MemorySink, SteadyFiles, SteadySink, are_distinct};
 
@@ -52,7 +53,39 @@ mod tests {
     const BELOW_STRING: &[u8] =
         b"\xca\xfe\xba\xbe\x00\x00\x003\x00\x05\x07\x00\x02\x01\x00\x04Main\x07\x00\x04\x01\x00\x10java/lang/String\x00!\x00\x01\x00\x03\x00\x00\x00\x00\x00\x00\x00\x00";
 
-    const FILES: [(&str, &[u8]); 35] = [
+    /// Classes as assembler sources. The first two join their branches again, with unlike and with equal values.
+    const SOURCES: [(&str, &str); 6] = [
+        (
+            "j/Main.class",
+            "class 0021 Main java/lang/Object\nfield 0009 A Z\nmethod 0009 main ([Ljava/lang/String;)V 2 2\ngetstatic Main A Z\nifeq Off\niconst_1\nistore_1\ngoto Print\nOff:\niconst_2\nistore_1\nnop\nnop\nPrint:\ngetstatic java/lang/System out Ljava/io/PrintStream;\niload_1\ninvokevirtual java/io/PrintStream println (I)V\nreturn\nend\n",
+        ),
+        (
+            "k/Main.class",
+            "class 0021 Main java/lang/Object\nfield 0009 A Z\nmethod 0009 main ([Ljava/lang/String;)V 2 2\ngetstatic Main A Z\nifeq Off\niconst_1\nistore_1\ngoto Print\nOff:\niconst_1\nistore_1\nnop\nnop\nPrint:\ngetstatic java/lang/System out Ljava/io/PrintStream;\niload_1\ninvokevirtual java/io/PrintStream println (I)V\nreturn\nend\n",
+        ),
+        // With the option on it prints 1 and then goes round for ever.
+        (
+            "w/Main.class",
+            "class 0021 Main java/lang/Object\nfield 0009 A Z\nmethod 0009 main ([Ljava/lang/String;)V 2 1\ngetstatic Main A Z\nifeq Off\ngetstatic java/lang/System out Ljava/io/PrintStream;\niconst_1\ninvokevirtual java/io/PrintStream println (I)V\nOn:\ngoto On\nOff:\nreturn\nend\n",
+        ),
+        // With the option on it comes to a float.
+        (
+            "u/Main.class",
+            "class 0021 Main java/lang/Object\nfield 0009 B Z\nmethod 0009 main ([Ljava/lang/String;)V 1 1\ngetstatic Main B Z\nifeq Off\nfconst_0\npop\nOff:\nreturn\nend\n",
+        ),
+        // It prints 1 where the options are equal by pairs.
+        (
+            "p/Main.class",
+            "class 0021 Main java/lang/Object\nfield 0009 X0 Z\nfield 0009 X1 Z\nfield 0009 Y0 Z\nfield 0009 Y1 Z\nmethod 0009 main ([Ljava/lang/String;)V 2 1\ngetstatic Main X0 Z\ngetstatic Main Y0 Z\nif_icmpne End\ngetstatic Main X1 Z\ngetstatic Main Y1 Z\nif_icmpne End\ngetstatic java/lang/System out Ljava/io/PrintStream;\niconst_1\ninvokevirtual java/io/PrintStream println (I)V\nEnd:\nreturn\nend\n",
+        ),
+        // With the option on it comes to a new object, which isn't built.
+        (
+            "z/2.class",
+            "class 0021 Main java/lang/Object\nfield 0009 A Z\nmethod 0009 main ([Ljava/lang/String;)V 1 1\ngetstatic Main A Z\nifeq Off\nnew java/lang/Object\npop\nOff:\nreturn\nend\n",
+        ),
+    ];
+
+    const FILES: [(&str, &[u8]); 41] = [
         ("m", b"option A Main A\n"),
         ("e", b""),
         ("r", b"option A Main A\nrule true\n"),
@@ -60,6 +93,12 @@ mod tests {
         ("none", b"option A Main A\nrule A & !A\n"),
         ("bad", b"option A Main A\nrule A &\n"),
         ("two", b"option A\noption B\n"),
+        ("off", b"option A Main A\nrule !A\n"),
+        ("b", b"option B Main B\n"),
+        (
+            "xy",
+            b"option X0 Main X0\noption X1 Main X1\noption Y0 Main Y0\noption Y1 Main Y1\n",
+        ),
         ("report", REPORT),
         (
             "cut",
@@ -72,6 +111,8 @@ mod tests {
         ("word", b"klass 0021 Main java/lang/Object\n"),
         ("e.cnf", b""),
         ("a.cnf", b"c 1 A Main A\np cnf 1 1\n1 0\n"),
+        ("b.cnf", b"c 1 A Main A\nc 2 B\np cnf 2 1\n-1 2 0\n"),
+        ("v.cnf", b"p cnf 65 0\n"),
         ("a/Main.class", PRINTS_OPTION),
         ("n/Main.class", PRINTS_NUMBER),
         ("n/readme", b"no class"),
@@ -88,6 +129,7 @@ mod tests {
         ("g/Main.class", PRINTS_NUMBER),
         ("g/P.class", ANOTHER_CLASS),
         ("o/Main.class", SMALLEST_CLASS),
+        ("z/1.class", ANOTHER_CLASS),
         ("s/Main.class", BELOW_NOTHING),
         ("x/Main.class", BELOW_STRING),
         ("c/Main.class", PRINTS_NUMBER),
@@ -97,7 +139,7 @@ mod tests {
     ];
 
     /// Words, and what has to come: the code, `out`, and `err`.
-    const CASES: [(&str, u8, &str, &str); 40] = [
+    const CASES: [(&str, u8, &str, &str); 53] = [
         (
             "run a m Main 100 1",
             0,
@@ -165,7 +207,12 @@ mod tests {
         ),
         ("run a none Main 100 1", 6, "", "no configuration\n"),
         ("run a bad Main 100 1", 5, "", "bad model line 2 reason 4\n"),
-        ("run a two Main 100 1", 20, "", "not yet two\n"),
+        (
+            "run a two Main 100 1",
+            0,
+            "varexj report 1\noptions 2\noption A\noption B\nlimit 100\nrounds 4\nout 1 0\\0a\nend 1 return\ndone\n",
+            "",
+        ),
         (
             "run n e.cnf Main 100 1",
             5,
@@ -186,8 +233,91 @@ mod tests {
         ("run o e Main 100 1", 8, "", "no main\n"),
         ("run n e Other 100 1", 8, "", "no main\n"),
         ("run absent e Main 100 1", 8, "", "no main\n"),
-        ("run l e Main 100 1", 20, "", "not yet Main.class\n"),
-        ("run g e Main 100 1", 20, "", "not yet g\n"),
+        (
+            "run l e Main 100 1",
+            0,
+            "varexj report 1\noptions 0\nlimit 100\nrounds 3\nend 1 return\ndone\n",
+            "",
+        ),
+        (
+            "run g e Main 100 1",
+            0,
+            "varexj report 1\noptions 0\nlimit 100\nrounds 4\nout 1 2\\0a\nend 1 return\ndone\n",
+            "",
+        ),
+        (
+            "run j m Main 100 1",
+            0,
+            "varexj report 1\noptions 1\noption A\nlimit 100\nrounds 13\nnode 2 0 0 1\nnode 3 0 1 0\nout 2 1\\0a\nout 3 2\\0a\nend 1 return\ndone\n",
+            "",
+        ),
+        (
+            "run j m Main 100 2",
+            0,
+            "varexj report 2\noptions 1\noption A\nlimit 100\nrounds 13\nnode 2 0 0 1\nnode 3 0 1 0\nout 2 1\\0a\nout 3 2\\0a\nend 1 return\nattempts 2 9\nattempts 3 10\ndone\n",
+            "",
+        ),
+        (
+            "run j m Main 9 1",
+            0,
+            "varexj report 1\noptions 1\noption A\nlimit 9\nrounds 13\nnode 2 0 0 1\nnode 3 0 1 0\nout 2 1\\0a\nout 3 2\\0a\nend 2 return\nend 3 unfinished\ndone\n",
+            "",
+        ),
+        (
+            "run j m Main 8 1",
+            0,
+            "varexj report 1\noptions 1\noption A\nlimit 8\nrounds 12\nnode 2 0 0 1\nout 2 1\\0a\nend 1 unfinished\ndone\n",
+            "",
+        ),
+        (
+            "run k m Main 100 1",
+            0,
+            "varexj report 1\noptions 1\noption A\nlimit 100\nrounds 13\nout 1 1\\0a\nend 1 return\ndone\n",
+            "",
+        ),
+        (
+            "run w m Main 50 1",
+            0,
+            "varexj report 1\noptions 1\noption A\nlimit 50\nrounds 51\nnode 2 0 0 1\nnode 3 0 1 0\nout 2 1\\0a\nend 3 return\nend 2 unfinished\ndone\n",
+            "",
+        ),
+        (
+            "run u b Main 100 1",
+            0,
+            "varexj report 1\noptions 1\noption B\nlimit 100\nrounds 4\nnode 2 0 1 0\nnode 3 0 0 1\nend 2 return\nend 3 unsupported float - Main.main([Ljava/lang/String;)V@6\ndone\n",
+            "",
+        ),
+        (
+            "run p xy Main 100 1",
+            0,
+            "varexj report 1\noptions 4\noption X0\noption X1\noption Y0\noption Y1\nlimit 100\nrounds 10\nnode 2 3 1 0\nnode 3 2 2 0\nnode 4 3 0 1\nnode 5 2 4 0\nnode 6 1 3 5\nnode 7 2 0 2\nnode 8 2 0 4\nnode 9 1 7 8\nnode 10 0 6 9\nout 10 1\\0a\nend 1 return\ndone\n",
+            "",
+        ),
+        (
+            "run a b.cnf Main 100 1",
+            0,
+            "varexj report 1\noptions 2\noption A\noption B\nlimit 100\nrounds 4\nnode 2 0 1 0\nnode 3 1 0 1\nnode 4 0 0 3\nnode 5 0 1 3\nout 2 0\\0a\nout 4 1\\0a\nend 5 return\ndone\n",
+            "",
+        ),
+        (
+            "run n v.cnf Main 100 1",
+            5,
+            "",
+            "bad model line 1 reason 6\n",
+        ),
+        ("run z m Main 100 1", 20, "", "not yet 2.class\n"),
+        (
+            "run z off Main 100 1",
+            0,
+            "varexj report 1\noptions 1\noption A\nlimit 100\nrounds 3\nnode 2 0 1 0\nend 2 return\ndone\n",
+            "",
+        ),
+        (
+            "run z m Main 2 1",
+            0,
+            "varexj report 1\noptions 1\noption A\nlimit 2\nrounds 2\nend 1 unfinished\ndone\n",
+            "",
+        ),
         ("project report -", 0, "out 0\\0a\nend return\n", ""),
         ("project report A", 0, "out 1\\0a\nend return\n", ""),
         ("project report Z", 11, "", "not allowed\n"),
@@ -242,6 +372,12 @@ mod tests {
                 Vec::from_slice(alloc, bytes)?,
             );
             kept.push(file)?;
+        }
+        for (path, source) in SOURCES {
+            // The class of a source that is refused is missing, and then its cases fail.
+            if let Ok(class) = assemble(alloc, source.as_bytes()) {
+                kept.push((String::from_str(alloc, path)?, class))?;
+            }
         }
         Ok(kept)
     }
@@ -321,6 +457,34 @@ mod tests {
         assert_eq!(rt; status.code(), 13);
         assert!(rt; out.written().is_empty());
         assert!(rt; err.written() == b"too large m 1048576\n".as_slice());
+        Ok(())
+    }
+
+    #[test]
+    fn a_model_of_64_options(rt: HostRuntime) -> Result<(), Fail> {
+        let alloc = rt.alloc();
+        let model = Vec::from_slice(alloc, b"p cnf 64 1\n1 0\n")?;
+        let class = Vec::from_slice(alloc, PRINTS_NUMBER)?;
+        let held = vec![in alloc;
+            (String::from_str(alloc, "m.cnf")?, model),
+            (String::from_str(alloc, "f/Main.class")?, class),
+        ]?;
+        assert!(rt; are_distinct(held.as_slice()));
+        let mut files = SteadyFiles::new(alloc, held)?;
+        let mut out = SteadySink::new(alloc)?;
+        let mut err = SteadySink::new(alloc)?;
+        let words = words(alloc, "run f m.cnf Main 100 1")?;
+        let status = varex(alloc, &words, &mut files, &mut out, &mut err);
+        assert_eq!(rt; status.code(), 0);
+        assert!(rt;
+            out.written()
+                .starts_with(b"varexj report 1\noptions 64\noption v1\n")
+        );
+        assert!(rt;
+            out.written().ends_with(
+                b"option v64\nlimit 100\nrounds 4\nnode 2 0 0 1\nout 2 2\\0a\nend 2 return\ndone\n"
+            )
+        );
         Ok(())
     }
 }

@@ -1,7 +1,6 @@
 use Rattle.std.proofs.lemmas.Result.{err_from_is_err_and}
 use Rattle.vx_cli.specs.Job.{model_of}
 use Rattle.vx_cli.specs.Plan.{If_allowed, attempt}
-use Rattle.vx_cli.proofs.Modeled.{some_allowed}
 use Rattle.vx_cli.proofs.Plans.{model_goes, model_stops, model_allows_none}
 use Rattle.vx_cli.proofs.modeling.read_model_file.Goals as goal
 
@@ -16,14 +15,17 @@ returns-in_err-model-clause-err g c =
     let bad = rw c.as_slice.ensures.value at c.in_err-model.ensures.exact in
     rw (p.1, p.2) (λ next. model_stops (g.F.Files.seen c.args.files.now) (g.F.Files.seen c.read_file.new.files) c.args.path.now c.in_ok-text.text.items next _ c.in_ok-text.ensures.keeps c.in_ok-text.ensures.ok bad)
 
-pub returns-in-Some-clause-ok : goal.returns-in-Some-clause-ok
-returns-in-Some-clause-ok g c next =
+pub returns-then-is_allowing-clause-ok : goal.returns-then-is_allowing-clause-ok
+returns-then-is_allowing-clause-ok g c next =
     let taken = rw c.as_slice.ensures.value at c.in_ok-model.ensures.exact in
-    let some = some_allowed c.in_ok-model.model c.in-Some.allowed (rw c.in-Some.is at c.in_ok-allowed.ensures.ok) in
-    model_goes (g.F.Files.seen c.args.files.now).held c.args.path.now c.in_ok-text.text.items c.in_ok-model.model next c.in_ok-text.ensures.ok taken some
+    let some = rw c.in_ok-found.ensures.model at (c.is_allowing.ensures.some c.if-is_allowing.true) in
+    rw c.in_ok-found.ensures.model (model_goes (g.F.Files.seen c.args.files.now).held c.args.path.now c.in_ok-text.text.items c.in_ok-model.model next c.in_ok-text.ensures.ok taken some)
+
+pub returns-then-is_allowing-clause-some : goal.returns-then-is_allowing-clause-some
+returns-then-is_allowing-clause-some g c = c.is_allowing.ensures.nonempty c.if-is_allowing.true
 
 pub returns-clause-err : goal.returns-clause-err
 returns-clause-err g c next =
     let taken = rw c.as_slice.ensures.value at c.in_ok-model.ensures.exact in
-    let none = rw c.in-None.is at c.in_ok-allowed.ensures.ok in
+    let none = rw c.in_ok-found.ensures.model at (c.is_allowing.ensures.none c.if-is_allowing.false) in
     model_allows_none (g.F.Files.seen c.args.files.now) (g.F.Files.seen c.read_file.new.files) c.args.path.now c.in_ok-text.text.items c.in_ok-model.model next c.in_ok-text.ensures.keeps c.in_ok-text.ensures.ok taken none

@@ -14,9 +14,9 @@ returns-in_err-bytes-clause-err g c =
 pub returns-clause-ok : goal.returns-clause-ok
 returns-clause-ok g c =
     let place : c.as_str.result.now ≡ place_of c.args.folder.now c.args.path.now = c.as_str.ensures.value ∙ c.in_ok-place.ensures in
-    class_ok _ c.args.folder.now c.args.path.now c.in_ok-bytes.bytes.items c.class_in.result (λ next. rw place at (c.in_ok-bytes.ensures.ok next)) (rw c.as_slice.ensures.value at c.class_in.ensures)
+    class_ok _ c.args.folder.now c.args.path.now c.in_ok-bytes.bytes.items c.class_in.result (λ next. rw place at (c.in_ok-bytes.ensures.ok next)) (rw c.as_slice.ensures.value at c.class_in.ensures.exact)
 
 pub returns-clause-err : goal.returns-clause-err
 returns-clause-err g c =
     let place : c.as_str.result.now ≡ place_of c.args.folder.now c.args.path.now = c.as_str.ensures.value ∙ c.in_ok-place.ensures in
-    class_err _ _ c.args.folder.now c.args.path.now c.in_ok-bytes.bytes.items c.class_in.result c.in_ok-bytes.ensures.keeps (λ next. rw place at (c.in_ok-bytes.ensures.ok next)) (rw c.as_slice.ensures.value at c.class_in.ensures)
+    class_err _ _ c.args.folder.now c.args.path.now c.in_ok-bytes.bytes.items c.class_in.result c.in_ok-bytes.ensures.keeps (λ next. rw place at (c.in_ok-bytes.ensures.ok next)) (rw c.as_slice.ensures.value at c.class_in.ensures.exact)

@@ -1,4 +1,7 @@
-use Rattle.std.proofs.Common.{◌∙◌, ap, string_bytes}
+use Rattle.std.proofs.Common.{◌∙◌, ◌∷◌, [], ap, arith, rules, string_bytes}
+use Rattle.std.proofs.lemmas.List.{length-append}
+use Rattle.std.proofs.lemmas.List.Elements.{All-append}
+use Rattle.vx_class.specs.File.{Holds}
 use Rattle.std.proofs.lemmas.Result.{err_from_is_err_and}
 use Rattle.vx_cli.proofs.Plans.{stops_behind, keeps_then, one_class_more, at_class}
 use Rattle.vx_cli.proofs.reading.read_class_files.Goals as goal
@@ -16,4 +19,6 @@ loop-path-preserved g c = record {
       (one_class_more _ _ _ next c.args.paths.now c.loop-path.path-index c.path-item.result c.as_str.result.now c.loop-path.classes.items c.in_ok-class.class c.loop-path-test.true (c.as_str.ensures.value ∙ ap string_bytes c.path-item.is)
       (c.loop-path.invariant.leads next) (λ n. rw c.loop-path.invariant.keeps.held at (c.in_ok-class.ensures.ok n)));
   keeps = keeps_then c.loop-path.invariant.keeps c.in_ok-class.ensures.keeps;
+  holds = rw c.in_ok-push.ensures.items (All-append Holds c.loop-path.classes.items _ c.loop-path.invariant.holds (search rules));
+  count = rw c.in_ok-push.ensures.items (omega (arith, c.loop-path.invariant.count, length-append c.loop-path.classes.items (c.in_ok-class.class ∷ [])));
 }

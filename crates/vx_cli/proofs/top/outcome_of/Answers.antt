@@ -1,0 +1,8 @@
+use Rattle.std.proofs.Common.{arith}
+use Rattle.vx_cli.proofs.top.outcome_of.Goals as goal
+
+pub run_text-requires-clause-least : goal.run_text-requires-clause-least
+run_text-requires-clause-least g c = let range = rw c.in-Run.is at c.requires in omega (arith, range.0)
+
+pub run_text-requires-clause-most : goal.run_text-requires-clause-most
+run_text-requires-clause-most g c = let range = rw c.in-Run.is at c.requires in omega (arith, range.1)

@@ -1,3 +1,0 @@
-pub mod Leads
-pub mod Walks
-pub mod Projections

@@ -1,4 +1,0 @@
-pub mod Machine
-pub mod Shared
-pub mod FirstClass
-pub mod Reported
