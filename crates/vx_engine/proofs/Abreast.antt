@@ -7,9 +7,9 @@ use Rattle.vx_java.proofs.Rounds.{total_falls}
 use Rattle.vx_java.specs.Lockstep.{ConfigRun, Lockstep, Piece, Shared, all_pieces_appended, compare_pieces, first_key, groups_of, if_first, lockstep, member_after_round, round, rounds_from, run_after_round}
 use Rattle.vx_java.specs.Step.{Config, Live, Over, Run, start}
 use Rattle.vx_link.specs.declared.program.Program.{Program}
+use Rattle.vx_rounds.proofs.Configurations.{Contains-here, Contains-next}
 use Rattle.vx_rounds.specs.Rounds.{pieces_in}
 use Rattle.vx_value.specs.declared.key.KeyPart.{KeyPart}
-use Rattle.vx_engine.proofs.Configurations.{Contains-here, Contains-next}
 use Rattle.vx_engine.proofs.FirstKeys.{member}
 use Rattle.vx_engine.proofs.Grouped.{pair_with, pairs_of}
 

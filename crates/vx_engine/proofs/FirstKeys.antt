@@ -9,7 +9,7 @@ use Rattle.vx_java.specs.Step.{Config, Progress, Run}
 use Rattle.vx_value.specs.Key.{key_cmp}
 use Rattle.vx_value.specs.KeyLaws.{key_cmp_total, key_exact}
 use Rattle.vx_value.specs.declared.key.KeyPart.{KeyPart}
-use Rattle.vx_engine.proofs.Configurations.{Contains-here, Contains-next}
+use Rattle.vx_rounds.proofs.Configurations.{Contains-here, Contains-next}
 
 -- a configuration with its run
 abbrev pub member : (Config → Run) → Config → ConfigRun

@@ -11,7 +11,7 @@ use Rattle.vx_cond.specs.declared.cond.Leaf.{Leaf}
 use Rattle.vx_java.specs.Lockstep.{Shared, groups_of, groups_with}
 use Rattle.vx_java.specs.Step.{Config}
 use Rattle.vx_space.specs.Sets.{IsLawful, Sets}
-use Rattle.vx_engine.proofs.Configurations.{Contains-here, Contains-next, member_of}
+use Rattle.vx_rounds.proofs.Configurations.{Contains-here, Contains-next, member_of}
 
 -- ---- the values of some configurations
 

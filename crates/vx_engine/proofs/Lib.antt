@@ -1,6 +1,5 @@
 pub mod Abreast
 pub mod Apart
-pub mod Configurations
 pub mod Falling
 pub mod FirstKeys
 pub mod Grouped

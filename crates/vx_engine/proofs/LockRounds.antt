@@ -9,7 +9,6 @@ use Rattle.std.specs.declared.cmp.Ordering.{Ordering}
 use Rattle.std.specs.declared.cmp.Ordering.TheVariants.{Equal, Greater, Less}
 use Rattle.vx_cond.specs.Leaves.{value_at}
 use Rattle.vx_engine.proofs.Abreast.{IsAbreast, appended, lockstep_at, members_of, next_abreast, piece_seen}
-use Rattle.vx_engine.proofs.Configurations.{member_of}
 use Rattle.vx_engine.proofs.FirstKeys.{IsLeast, first_key_is}
 use Rattle.vx_engine.proofs.Grouped.{are_met, grouped, own, shared_in}
 use Rattle.vx_engine.proofs.Runs.{live_is, moved, moved_if, moved_runs}
@@ -25,6 +24,7 @@ use Rattle.vx_java.specs.Lockstep as lockstep
 use Rattle.vx_java.specs.Lockstep.{all_pieces_appended, compare_pieces, first_key, groups_of, if_key, if_live, key_at, live_progress, output_of, piece_of, rounds_from, run_after_round, stream_rank}
 use Rattle.vx_java.specs.Step.{Config, Progress, Run, step}
 use Rattle.vx_link.specs.declared.program.Program.{Program}
+use Rattle.vx_rounds.proofs.Configurations.{member_of}
 use Rattle.vx_rounds.specs.Rounds.{IsRound, pieces_in, written}
 use Rattle.vx_rounds.specs.State.{IsState, Runs, StateView, progress_at, shared_ids, standing_at, standing_if, standing_of}
 use Rattle.vx_sched.specs.Picks.{IsFirstKey}

@@ -3,15 +3,15 @@ use Rattle.std.proofs.Common.{◌≡◌, ◌≢◌, ℕ, zero, suc, ◌+◌, ◌
 use Rattle.std.proofs.lemmas.Bool.{lt-ltb}
 use Rattle.std.proofs.lemmas.List.{length-append, length-replicate, length-reverse}
 use Rattle.std.specs.List.{list_all, range_with_len}
-use Rattle.std.specs.Prelude.{Option, Some, None, ◌&&◌, codes, option_map, unwrap_or, find, nat_lt, not, reverse}
+use Rattle.std.specs.Prelude.{Option, Some, None, ◌&&◌, option_map, unwrap_or, find, nat_lt, not, reverse}
 use Rattle.vx_families.specs.Built.{is_built, is_single}
 use Rattle.vx_heap.proofs.Places.{and_true}
 use Rattle.vx_java.proofs.Chains.{begins_goes_on, begins_stops, begins_with, is_quiet, not_begun}
 use Rattle.vx_java.specs.Ids.{as_class}
 use Rattle.vx_java.specs.Initialisation.{blocked, blocks, chain_blocked, has_failed, init_chain, is_failed, is_not, quiet_chain, with_frames}
-use Rattle.vx_java.specs.Machine.{State, frame_bound, init_at, place_at}
+use Rattle.vx_java.specs.Machine.{State, init_at, place_at}
 use Rattle.vx_java.specs.Operation.{class_word}
-use Rattle.vx_java.specs.Step.{Config, Over, before_main, begun, first_inits, fresh_progress, if_quiet, start, with_room}
+use Rattle.vx_java.specs.Step.{Config, Over, before_main, begun, first_inits, fresh_progress}
 use Rattle.vx_link.specs.ClassNames.{class_text}
 use Rattle.vx_link.specs.CoreFiles.{core_count}
 use Rattle.vx_link.specs.Hierarchy.{is_among, superclasses, superinterfaces}
@@ -19,7 +19,7 @@ use Rattle.vx_link.specs.Parts.{class_at, class_count, is_interface, method_at}
 use Rattle.vx_link.specs.declared.program.Program.{Program}
 use Rattle.vx_rounds.specs.Rounds.{MeetsUnbuilt}
 use Rattle.vx_rounds.specs.Starting.{EndAtStart, GoOn, are_below, first_state, main_chain, main_class, numbers_of}
-use Rattle.vx_value.specs.declared.end.End.TheVariants.{Uncaught, Unsupported}
+use Rattle.vx_value.specs.declared.end.End.TheVariants.{Unsupported}
 use Rattle.vx_space.proofs.Differences.{some_difference}
 use Rattle.vx_space.specs.Sets.{IsLawful, Sets}
 use Rattle.vx_value.specs.declared.end.End.{End}
@@ -116,28 +116,6 @@ ended_by p chain interface end same found e = cases (chain_blocked p (main_chain
         let number : interface.0 ≡ i = number_of interface i f in
         let text : end ≡ Unsupported class_word (class_at p i).name (place_at p p.main.0 0) = e ∙ ap (λ n. Unsupported class_word (class_at p n).name (place_at p p.main.0 0)) number in
         subst (EndAtStart p) (sym text) (end_blocked p i h)
-
-start_free : (p : Program) (c : Config) → chain_blocked p (main_chain p) ≡ None → start p c ≡ if_quiet p (before_main p c) (main_chain p) (quiet_chain p (first_inits p) (main_class p))
-start_free p c e = ap (begun p (before_main p c) (main_class p) (main_chain p)) e
-
-pub end_full : (p : Program) → chain_blocked p (main_chain p) ≡ None → quiet_chain p (first_inits p) (main_class p) ≡ false → nat_lt frame_bound (1 + length (main_chain p)) ≡ true → EndAtStart p (Uncaught (codes "java/lang/StackOverflowError"))
-end_full p e q l = record {
-  over = λ c.
-      start_free p c e
-      ∙ ap (if_quiet p (before_main p c) (main_chain p)) q
-      ∙ ap (with_room p (before_main p c) (main_chain p)) l;
-}
-
-pub goes_quiet : (p : Program) → chain_blocked p (main_chain p) ≡ None → quiet_chain p (first_inits p) (main_class p) ≡ true → GoOn p true
-goes_quiet p e q = record { live = λ c. start_free p c e ∙ ap (if_quiet p (before_main p c) (main_chain p)) q }
-
-pub goes_pushed : (p : Program) → chain_blocked p (main_chain p) ≡ None → quiet_chain p (first_inits p) (main_class p) ≡ false → nat_lt frame_bound (1 + length (main_chain p)) ≡ false → GoOn p false
-goes_pushed p e q l = record {
-  live = λ c.
-      start_free p c e
-      ∙ ap (if_quiet p (before_main p c) (main_chain p)) q
-      ∙ ap (with_room p (before_main p c) (main_chain p)) l;
-}
 
 -- ---- a start that isn't built
 

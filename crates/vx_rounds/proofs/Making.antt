@@ -7,10 +7,8 @@ use Rattle.vx_space.proofs.Differences.{some_difference}
 use Rattle.vx_cond.specs.Cond.{Conditional}
 use Rattle.vx_cond.specs.Leaves.{value_at}
 use Rattle.vx_cond.proofs.LeafLaws.{value_at-extends}
-use Rattle.vx_group.specs.declared.callers.Caller.{Caller}
-use Rattle.vx_group.specs.Callers.{AreCallers, callers_of}
 use Rattle.vx_group.specs.Group.{GroupView, attempts_at, path_of}
-use Rattle.vx_group.proofs.GroupLaws.{IsGroupIn-callers, IsGroupIn-group, IsGroupIn-one, IsGroup-path_known}
+use Rattle.vx_group.proofs.GroupLaws.{IsGroupIn-group, IsGroup-path_known}
 use Rattle.vx_heap.specs.Heap.{HeapView, IsHeapFor}
 use Rattle.vx_heap.proofs.HeapLaws.{IsHeap-extends}
 use Rattle.vx_families.specs.Built.{is_built}
@@ -23,10 +21,9 @@ use Rattle.vx_link.specs.declared.program.Program.{Program}
 use Rattle.vx_outcome.specs.Outcome.{Divide, condition_of}
 use Rattle.vx_outcome.specs.declared.outcome.Outcome.{Outcome}
 use Rattle.vx_outcome.specs.declared.outcome.Outcome.TheVariants as shared
-use Rattle.vx_stands.specs.Stands.{AreOutcomes, Attempts, Continues, IsOutcome, StandsIn, outcome_at, state_at}
+use Rattle.vx_stands.specs.Stands.{AreOutcomes, Attempts, Continues, IsOutcome, outcome_at, state_at}
 use Rattle.vx_stands.proofs.OutcomeStates.{condition_known}
 use Rattle.vx_value.specs.Ends.{compare_ends}
-use Rattle.vx_value.specs.declared.key.KeyPart.{KeyPart}
 use Rattle.vx_rounds.specs.declared.placing.Round.{Round}
 use Rattle.vx_attempt.specs.Attempted.{IsAttempted, IsUnbuiltThere, MayAttempt, carried_out_row}
 use Rattle.vx_attempt.specs.Carrying.{AreConditionsKnown}

@@ -1,9 +1,9 @@
 -- The heap in which classes are initialised.
-use Rattle.std.proofs.Common.{◌≡◌, ℕ, zero, suc, ◌<◌, ◌≤◌, ◌+◌, true, List, [], ◌∷◌, ◌++◌, refl, sym, ◌∙◌, ap, subst, length, take, get_or, arith}
+use Rattle.std.proofs.Common.{◌≡◌, ℕ, zero, suc, ◌<◌, ◌+◌, true, List, [], ◌∷◌, ◌++◌, refl, sym, ◌∙◌, ap, subst, length, take, get_or, arith}
 use Rattle.std.proofs.lemmas.Bool.{ltb-true}
 use Rattle.std.specs.Prelude.{Some, nat_lt, slice_set, unwrap_or}
 use Rattle.vx_cond.proofs.CondLaws.{IsCond-extends, IsCond-of, cond_at-extends, cond_at-of}
-use Rattle.vx_cond.specs.Cond.{Conditional, IsCondOf, IsInside, cond_at}
+use Rattle.vx_cond.specs.Cond.{Conditional, IsCondOf, cond_at}
 use Rattle.vx_cond.specs.Leaves.{value_within}
 use Rattle.vx_heap.proofs.Places.{passes_at}
 use Rattle.vx_heap.proofs.Written.{within_there}
@@ -52,17 +52,6 @@ pub record AreSoFar {S I : Type 0} (start sets : Sets I) (before : HeapView S I)
   pub runs : heap.allowed ≡ before.allowed
   pub so_far : AreInitialised start sets before (numbers_of (take i classes)) heap
 
-Extends-same : {I : Type 0} (sets : Sets I) → Extends sets sets
-Extends-same sets = record { options = refl; never = refl; always = refl; counts = refl; base = refl; known = λ id k. k; test = λ id c k. refl }
-
-pub AreSoFar-start : {S I : Type 0} (sets : Sets I) (heap : HeapView S I) (classes : List ClassId) (done : Conditional InitState S I) → IsHeap sets heap → IsDone sets heap.allowed done → AreSoFar sets sets heap classes 0 done heap
-AreSoFar-start sets heap classes done v d = record {
-  extends = Extends-same sets;
-  done_there = d;
-  runs = refl;
-  so_far = record { is_heap = v; same = refl; count = refl; at = λ c t. refl };
-}
-
 initialised_more : {S I : Type 0} {start s0 s1 : Sets I} → Extends start s0 → Extends s0 s1 → (before : HeapView S I) (classes : List ℕ) (class : ℕ) (middle after : HeapView S I) (done : Conditional InitState S I) → start.is_known before.allowed ≡ true → middle.allowed ≡ before.allowed → IsDone s0 before.allowed done → AreInitialised start s0 before classes middle → IsInitWritten s0 s1 middle class done after → AreInitialised start s1 before (classes ++ class ∷ []) after
 initialised_more {start = start} {s0 = s0} e f before classes class middle after done k r d m w = record {
   is_heap = w.is_heap;
@@ -101,26 +90,12 @@ AreSoFar-step {start = start} {s1 = s1} before classes i d done middle after v l
       so_far = subst (λ numbers. AreInitialised start s1 before numbers after) (numbers_more classes i class l (placed classes i d l)) (initialised_more m.extends e before (numbers_of (take i classes)) class.0 middle after done k m.runs m.done_there m.so_far w);
     }
 
-take_all : {A : Type 0} (xs : List A) (i : ℕ) → length xs ≤ i → take i xs ≡ xs
-take_all [] zero l = refl
-take_all [] (suc i) l = refl
-take_all (x ∷ xs) zero l = absurd (omega (arith, l))
-take_all (x ∷ xs) (suc i) l = ap (λ r. x ∷ r) (take_all xs i (omega (arith, l)))
-
-pub AreSoFar-end : {S I : Type 0} {start sets : Sets I} (before : HeapView S I) (classes : List ClassId) (i : ℕ) (done : Conditional InitState S I) (heap : HeapView S I) → length classes ≤ i → AreSoFar start sets before classes i done heap → AreInitialised start sets before (numbers_of classes) heap
-AreSoFar-end {start = start} {sets = sets} before classes i done heap l m = subst (λ cs. AreInitialised start sets before (numbers_of cs) heap) (take_all classes i l) m.so_far
-
 -- what `set_init` asks for
 pub class_below : {S I : Type 0} {start sets : Sets I} (before : HeapView S I) (classes : List ClassId) (i : ℕ) (d : ClassId) (done : Conditional InitState S I) (heap : HeapView S I) → are_below (length before.inits) (numbers_of classes) ≡ true → i < length classes → AreSoFar start sets before classes i done heap → (get_or classes i d).0 < length heap.inits
 class_below before classes i d done heap h l m =
     let class = get_or classes i d in
     let below : class.0 < length before.inits = ltb-true class.0 (length before.inits) (passes_at (λ c. nat_lt c (length before.inits)) (λ c. c.0) classes i class h l (placed classes i d l)) in
     rw m.so_far.count below
-
-pub done_inside : {S I : Type 0} {start sets : Sets I} (before : HeapView S I) (classes : List ClassId) (i : ℕ) (done : Conditional InitState S I) (heap : HeapView S I) → AreSoFar start sets before classes i done heap → IsInside sets done.scope heap.allowed
-done_inside {sets = sets} before classes i done heap m =
-    let same : done.scope ≡ heap.allowed = m.done_there.scope_is ∙ sym m.runs in
-    record { inside = λ c t. ap (λ id. sets.test id c) (sym same) ∙ t }
 
 -- ---- the first heap with some classes initialised
 
@@ -147,6 +122,3 @@ marked p {s0 = s0} e allowed k classes before after f m = record {
 
 pub done_for : {S I : Type 0} (p : Program) (sets : Sets I) (allowed : I) (heap : HeapView S I) (done : Conditional InitState S I) → IsFirstHeap p sets allowed heap → done.scope ≡ allowed → IsCondOf init_state_cmp sets (value_within sets allowed (λ _. Some Done)) done → IsDone sets heap.allowed done
 done_for p sets allowed heap done f s v = subst (λ id. IsDone sets id done) (sym f.runs) (IsDone-one sets allowed done s v)
-
-pub below_heap : {S I : Type 0} (p : Program) (sets : Sets I) (allowed : I) (heap : HeapView S I) (classes : List ℕ) → IsFirstHeap p sets allowed heap → are_below (length p.classes) classes ≡ true → are_below (length heap.inits) classes ≡ true
-below_heap p sets allowed heap classes f h = rw f.is_for.init_count h

@@ -9,8 +9,7 @@ use Rattle.vx_group.specs.Group.{GroupView, attempts_at, path_of}
 use Rattle.vx_heap.specs.Heap.{HeapView, IsHeap}
 use Rattle.vx_findings.specs.Orders.{piece_cmp}
 use Rattle.vx_findings.specs.Shared.{leaves_of}
-use Rattle.vx_java.specs.Machine.{Ends, Goes, Next, State}
-use Rattle.vx_java.specs.Machine.{Outcome as PlainOutcome}
+use Rattle.vx_java.specs.Machine.{Ends, Goes}
 use Rattle.vx_java.specs.Machine as plain
 use Rattle.vx_java.specs.Step.{next}
 use Rattle.vx_java.specs.Throwing.{next_after_raise}

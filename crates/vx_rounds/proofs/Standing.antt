@@ -105,12 +105,6 @@ wrote_there p g =
     let o = outcome_carried_out p (row p g.state) in
     pieces_after o ∙ ap piece_of (sym (ap (drop (length g.output)) (output_after g (text_of o) (next p o)) ∙ drop_front g.output (text_of o)))
 
-pub wrote_elsewhere : (p : Program) (s : Option Standing) → [] ≡ piece_of (written p false s)
-wrote_elsewhere p s = refl
-
-pub stays_elsewhere : (p : Program) (limit : ℕ) (s : Option Standing) → after_round p limit false s ≡ s
-stays_elsewhere p limit s = refl
-
 pub some_after : (p : Program) (limit : ℕ) (b : Bool) (s : Option Standing) → is_some (after_round p limit b s) ≡ is_some s
 some_after p limit true None = refl
 some_after p limit true (Some (Runs g)) = refl

@@ -13,7 +13,7 @@ use Rattle.vx_java.specs.Machine.{State}
 use Rattle.vx_link.specs.declared.program.Program.{Program}
 use Rattle.vx_sched.specs.Groups as sched
 use Rattle.vx_sched.proofs.GroupsLaws.{AreGroups-later, standing_at-later}
-use Rattle.vx_stands.specs.Stands.{frame_held, plain_frame, state_at, state_of}
+use Rattle.vx_stands.specs.Stands.{frame_held, plain_frame, state_of}
 use Rattle.vx_stands.proofs.StateLaws.{allowed_known, frame_held-extends, plain_frame-extends}
 use Rattle.vx_value.specs.declared.key.Kind.TheVariants.{Call}
 use Rattle.vx_rounds.specs.Placing.{AreWaiting, IsGood, Waiting, waiting_at, waiting_in}
@@ -40,9 +40,6 @@ state_by sets heap c (f ∷ fs) = state_of (globals_at sets heap c) (plain_frame
 
 abbrev pub run_by : {S I : Type 0} → Sets I → HeapView S I → List Bool → PlainGroup → Waiting
 run_by sets heap c g = record { state = state_by sets heap c g.frames; attempts = g.attempts }
-
-pub state_at-frames : {S I : Type 0} (sets : Sets I) (heap : HeapView S I) (tree : List (Option (Caller S I))) (group : GroupView S I) (c : List Bool) → state_by sets heap c (group_at sets tree group c).frames ≡ state_at sets heap tree group c
-state_at-frames sets heap tree group c = refl
 
 pub waiting_at-standing : {S I : Type 0} (sets : Sets I) (heap : HeapView S I) (tree : List (Option (Caller S I))) (groups : List (GroupView S I)) (c : List Bool) → waiting_at sets heap tree groups c ≡ option_map (run_by sets heap c) (sched.standing_at sets tree groups c)
 waiting_at-standing sets heap tree [] c = refl

@@ -1,8 +1,8 @@
 -- What is under way in a round once its attempt was made, and how what the attempt came to takes its place there.
-use Rattle.std.specs.Prelude.{◌≡◌, ◌≢◌, ◌<◌, ℕ, Bool, true, false, List, [], ◌∷◌, ◌&&◌, ◌⊎◌, Contains, cond, length, map, not, nat_lt, option_map, Option, Some, None, if◌then◌else◌, unwrap_or}
+use Rattle.std.specs.Prelude.{◌≡◌, ◌≢◌, ◌<◌, ℕ, Bool, true, false, List, [], ◌∷◌, ◌&&◌, ◌⊎◌, Contains, cond, length, not, nat_lt, option_map, Option, Some, None, if◌then◌else◌, unwrap_or}
 use Rattle.std.specs.List.{list_all}
 use Rattle.std.specs.Ordering.{nat_cmp}
-use Rattle.vx_space.specs.Sets.{Sets, AreKnown, IsKnown}
+use Rattle.vx_space.specs.Sets.{Sets, IsKnown}
 use Rattle.vx_cond.specs.Cond.{Conditional, IsInside, cond_at}
 use Rattle.vx_cond.specs.Leaves.{AreLeaves, AreLeavesOf, first_of, value_at, value_under, value_within}
 use Rattle.vx_frame.specs.Frame.{Shape}
@@ -218,7 +218,6 @@ pub record HasUnplaced {S I : Type 0} (p : Program) (sets : Sets I) (outcomes : 
   pub outcome : Outcome S I
   pub among : Contains outcomes outcome
   pub is_unplaced : IsUnplaced p sets outcome
-
 
 -- an outcome that has no place: it isn't built, or is a native method's, which is carried out before
 abbrev pub is_refused : Program → PlainOutcome → Bool

@@ -5,7 +5,6 @@ ghost use Rattle.vx_space.specs.Sets.{AreKnown, Extends, IsCompacted};
 ghost use Rattle.vx_space.specs.Under.{IsNumberUnder};
 ghost use Rattle.vx_group.specs.Group.{GroupView, IsGroup, attempts_at, path_of};
 ghost use Rattle.vx_group.specs.Sweep.{StandIn};
-ghost use Rattle.vx_families.specs.Bounds.{IsBounded};
 ghost use Rattle.vx_value.specs.declared.key.Kind.TheVariants.{Call};
 ghost use Rattle.vx_attempt.specs.Attempted.{IsUnbuiltThere, MayAttempt};
 ghost use Rattle.vx_rounds.specs.Placing.{IsUnderway, IsUnwritten, IsVacant};
