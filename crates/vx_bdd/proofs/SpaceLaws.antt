@@ -65,7 +65,7 @@ pub record IsWalking (options : ℕ) (slots : List (Option Node)) (start at : �
   pub stored : is_stored slots at ≡ true
   pub same : reaches slots options start c ≡ reaches slots options at c
 
-level-at_most : {options : ℕ} {slots : List (Option Node)} → IsReduced options slots → (id : ℕ) → level slots options id ≤ options
+pub level-at_most : {options : ℕ} {slots : List (Option Node)} → IsReduced options slots → (id : ℕ) → level slots options id ≤ options
 level-at_most {options = options} {slots = slots} r id =
     elim (node_cases (node_at slots id)) [
       | inl n ↦ rw n (omega arith)

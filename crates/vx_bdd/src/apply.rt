@@ -3,7 +3,7 @@
 ghost use Rattle.std.specs.Prelude.{◌≡◌, ℕ, ◌<◌, ◌≤◌, Some, IfOk, OnOk, true, if◌then◌else◌};
 ghost use Rattle.vx_bdd.specs.Diagram.{is_stored};
 ghost use Rattle.vx_bdd.specs.Table.{Grows};
-ghost use Rattle.vx_bdd.specs.Apply.{op_value, IsAnswer, IsMemo};
+ghost use Rattle.vx_bdd.specs.Apply.{op_value, IsAnswer, IsMemo, plain_and, plain_answer, plain_minus, plain_or};
 
 use crate::node::{Op, Pair};
 use crate::table::Table;
@@ -28,6 +28,57 @@ fn end_of(value: bool) -> usize
     if value { 1 } else { 0 }
 }
 
+fn plain_and(a: usize, b: usize) -> Option<usize>
+    ensures { result ≡ plain_and a b }
+{
+    if a == b || b == 1 {
+        Some(a)
+    } else if a == 1 {
+        Some(b)
+    } else if a == 0 || b == 0 {
+        Some(0)
+    } else {
+        None
+    }
+}
+
+fn plain_or(a: usize, b: usize) -> Option<usize>
+    ensures { result ≡ plain_or a b }
+{
+    if a == b || b == 0 {
+        Some(a)
+    } else if a == 0 {
+        Some(b)
+    } else if a == 1 || b == 1 {
+        Some(1)
+    } else {
+        None
+    }
+}
+
+fn plain_minus(a: usize, b: usize) -> Option<usize>
+    ensures { result ≡ plain_minus a b }
+{
+    if a == b || a == 0 || b == 1 {
+        Some(0)
+    } else if b == 0 {
+        Some(a)
+    } else {
+        None
+    }
+}
+
+/// The answer where the ids tell it by themselves: of equal sets, and where never or always is among them (Bryant 1986).
+fn plain_answer(op: Op, a: usize, b: usize) -> Option<usize>
+    ensures { result ≡ plain_answer op a b }
+{
+    match op {
+        Op::And => plain_and(a, b),
+        Op::Or => plain_or(a, b),
+        Op::Minus => plain_minus(a, b),
+    }
+}
+
 /// The id of an operation on two sets. The memo has what was answered before, so that each pair of nodes is looked at once.
 pub fn apply(
     table: &mut Table,
@@ -44,12 +95,15 @@ pub fn apply(
     ensures memo { OnOk result (IsMemo op table.old.options table.new.nodes.slots memo.new) }
     ensures ok { IfOk result (IsAnswer op table.old.options table.new.nodes.slots a b) }
 {
-    if let Some(known) = memo.get(&Pair { a, b }) {
-        return Ok(*known);
-    }
     let option = table.level(a).min(table.level(b));
     if option == table.options {
         return Ok(end_of(value_of_op(op, a == 1, b == 1)));
+    }
+    if let Some(plain) = plain_answer(op, a, b) {
+        return Ok(plain);
+    }
+    if let Some(known) = memo.get(&Pair { a, b }) {
+        return Ok(*known);
     }
     let (a_low, a_high) = table.parts(a, option);
     let (b_low, b_high) = table.parts(b, option);

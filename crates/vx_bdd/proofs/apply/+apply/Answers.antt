@@ -1,10 +1,14 @@
 use Rattle.std.proofs.Common.{◌<◌, sym, ◌∙◌, arith}
 use Rattle.vx_bdd.proofs.ApplyLaws.{IsMemo-grows, IsMemo-insert, IsAnswer-end, IsAnswer-made, part_above, second_falls}
+use Rattle.vx_bdd.proofs.PlainLaws.{IsAnswer-plain}
 use Rattle.vx_bdd.proofs.TableLaws.{Grows-refl, Grows-trans, stored-grows}
 use Rattle.vx_bdd.proofs.apply.+apply.Goals as goal
 
 pub returns-in-Some-clause-ok : goal.returns-in-Some-clause-ok
-returns-in-Some-clause-ok t c = c.requires.memo.answers c.args.a c.args.b c.in-Some.known.now (sym c.in-Some.ensures.value)
+returns-in-Some-clause-ok t c = IsAnswer-plain c.args.table.now.reduced c.args.op c.args.a c.args.b c.in-Some.plain c.requires.first c.requires.second (sym c.in-Some.ensures)
+
+pub returns-in-Some-get-clause-ok : goal.returns-in-Some-get-clause-ok
+returns-in-Some-get-clause-ok t c = c.requires.memo.answers c.args.a c.args.b c.in-Some-get.known.now (sym c.in-Some-get.ensures.value)
 
 pub returns-then-option-table-clause-ok : goal.returns-then-option-table-clause-ok
 returns-then-option-table-clause-ok t c = rw c.end_of.ensures (IsAnswer-end c.args.op c.args.table.now.reduced c.args.a c.args.b c.value_of_op.result c.requires.first c.requires.second (sym (rw (c.level.ensures.level, c.level-2.ensures.level) at c.min-option.ensures) ∙ c.if-option-table.true) c.value_of_op.ensures)
