@@ -19,7 +19,6 @@ use Rattle.vx_families.proofs.Given.{IsGiven-extends, IsGiven-texts}
 use Rattle.vx_families.specs.Attempts.{AttemptsBy, IsGiven}
 use Rattle.vx_families.specs.Texts.{HasMoreTexts}
 use Rattle.vx_families.proofs.MoreTexts.{HasMoreTexts-refl, HasMoreTexts-trans, IsHeap-texts, StandsIn-texts, frame_held-texts, state_at-texts}
-use Rattle.vx_java.specs.Machine.{State}
 use Rattle.vx_java.specs.Machine.{Outcome as PlainOutcome}
 use Rattle.vx_java.specs.Machine as plain
 use Rattle.vx_java.specs.Natives.{native}

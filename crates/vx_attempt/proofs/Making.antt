@@ -1,26 +1,25 @@
 -- From what a family made of a group to the attempt with native methods carried out, and what an attempt that isn't built means.
-use Rattle.std.proofs.Common.{◌≡◌, ℕ, ◌<◌, ◌+◌, ◌≤◌, zero, suc, Bool, true, false, List, [], ◌∷◌, ◌&&◌, refl, sym, ◌∙◌, ap, subst, length, arith}
+use Rattle.std.proofs.Common.{◌≡◌, ℕ, ◌<◌, ◌+◌, ◌≤◌, zero, suc, Bool, true, false, List, [], ◌∷◌, ◌&&◌, refl, sym, ◌∙◌, ap, length, arith}
 use Rattle.std.proofs.lemmas.Bool.Decides.{nat_tests}
 use Rattle.std.specs.List.{list_all}
-use Rattle.std.specs.Prelude.{◌≢◌, Ok, Err, Option, Some, None, nat_lt, ok_or, slice_get}
+use Rattle.std.specs.Prelude.{◌≢◌, Ok, Err, Option, Some, None, nat_lt, ok_or}
 use Rattle.vx_class.specs.declared.class_file.Code.{Code}
 use Rattle.vx_space.specs.Sets.{Sets, Extends, IsLawful}
 use Rattle.vx_space.proofs.Differences.{some_difference}
 use Rattle.vx_frame.specs.declared.frame.Frame.{Frame}
 use Rattle.vx_group.specs.declared.callers.Caller.{Caller}
-use Rattle.vx_group.specs.Group.{GroupView, IsGroup, path_of}
+use Rattle.vx_group.specs.Group.{GroupView, path_of}
 use Rattle.vx_group.proofs.CallerLaws.{Keeps-refl}
 use Rattle.vx_group.proofs.GroupLaws.{IsGroupIn-group, IsGroup-path_known}
-use Rattle.vx_heap.specs.Heap.{HeapView, IsHeap}
-use Rattle.vx_heap.specs.declared.object.HeapObject.{HeapObject}
+use Rattle.vx_heap.specs.Heap.{HeapView}
 use Rattle.vx_heap.proofs.HeapLaws.{IsHeap-extends, globals_at-extends}
-use Rattle.vx_families.specs.Attempts.{AttemptsBy, IsAtSite, IsAttemptBy, IsGiven, MeetsUnbuilt, row_by}
+use Rattle.vx_families.specs.Attempts.{IsAtSite, IsAttemptBy, IsGiven, MeetsUnbuilt, row_by}
 use Rattle.vx_families.specs.Bounds.{IsBounded, has_short_code}
 use Rattle.vx_families.specs.Built.{is_built, is_built_at, is_built_in, is_built_operation, is_built_outcome, is_built_there, is_single}
 use Rattle.vx_families.specs.Texts.{HasMoreTexts}
 use Rattle.vx_families.proofs.MoreTexts.{Grows-texts, IsHeap-texts, IsHeapFor-texts, globals_at-texts}
 use Rattle.vx_invoke.proofs.Rows.{row_there, third_false}
-use Rattle.vx_java.specs.Machine.{State, current_class, illegal_in}
+use Rattle.vx_java.specs.Machine.{State, illegal_in}
 use Rattle.vx_java.specs.Machine.{Outcome as PlainOutcome}
 use Rattle.vx_java.specs.Operation.{operation_of}
 use Rattle.vx_java.specs.Row.{row, row_if, row_in}
@@ -35,7 +34,7 @@ use Rattle.vx_opcode.specs.declared.instruction.DecodeFault.{DecodeFault}
 use Rattle.vx_opcode.specs.declared.instruction.Instruction.{Instruction}
 use Rattle.vx_outcome.specs.declared.outcome.Outcome.{Outcome}
 use Rattle.vx_stands.specs.Sites.{Gives}
-use Rattle.vx_stands.specs.Stands.{Attempts, Grows, StandsIn, state_at}
+use Rattle.vx_stands.specs.Stands.{Grows, state_at}
 use Rattle.vx_stands.specs.declared.site.Site.{Site}
 use Rattle.vx_stands.proofs.OutcomeStates.{CameTo-same}
 use Rattle.vx_stands.proofs.StateLaws.{both_first, both_second, top_held, top_shaped}

@@ -2,7 +2,7 @@
 
 ghost use Rattle.std.specs.Prelude.{◌≡◌, Err, IfOk, Some, [], length, option_copied, true};
 ghost use Rattle.vx_space.specs.Sets.{Extends};
-ghost use Rattle.vx_link.specs.Parts.{class_at, method_at};
+ghost use Rattle.vx_link.specs.Parts.{method_at};
 ghost use Rattle.vx_families.specs.Attempts.{IsAttemptBy, IsGiven, MeetsUnbuilt};
 ghost use Rattle.vx_families.specs.Built.{is_built_operation};
 ghost use Rattle.vx_invoke.specs.Named.{pool_of};
