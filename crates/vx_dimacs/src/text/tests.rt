@@ -34,6 +34,22 @@ fn reads_the_forms_of_tools(rt: HostRuntime) -> Result<(), Fail> {
 }
 
 #[test]
+fn reads_empty_lines_and_comments_between_clauses(rt: HostRuntime) -> Result<(), Fail> {
+    let text =
+        b"c 1 A\r\nc 2 two words\r\nc 2$ X\r\n\r\np cnf 2 2\r\n\r\n1 -2\r\nc between\r\n 0\r\n\t2 0\r\n\r\n";
+    let model = read_dimacs(rt.alloc(), text)?;
+    assert_eq!(rt; model.options.len(), 2);
+    let last = model.options.get(1).ok_or("an option")?;
+    assert_eq!(rt; last.name.bytes(), b"v2".as_slice());
+    assert_eq!(rt; model.rules.len(), 2);
+    let rule = model.rules.get(0).ok_or("a rule")?;
+    assert!(rt; matches!(&rule.form, Form::Or(_)));
+    let rule = model.rules.get(1).ok_or("a rule")?;
+    assert!(rt; matches!(&rule.form, Form::Named(1)));
+    Ok(())
+}
+
+#[test]
 fn reads_64_variables_and_clauses_on_a_line(rt: HostRuntime) -> Result<(), Fail> {
     let model = read_dimacs(rt.alloc(), b"p cnf 64 3\n1 0 -2 0 3 64 0\n")?;
     assert_eq!(rt; model.options.len(), 64);
