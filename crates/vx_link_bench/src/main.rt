@@ -3,10 +3,10 @@
 //! last cell of an object of the last class. Its time is measured by hand.
 #![tactic(auto)]
 
-ghost use Rattle.std.specs.Prelude.{◌≡◌, ◌≤◌, All, length, IfSome};
+ghost use Rattle.std.specs.Prelude.{◌≤◌, All, IfOk, IfSome, length};
 ghost use Rattle.vx_class.specs.File.{Holds};
 
-use std::alloc::Global;
+use std::alloc::{AllocError, Global};
 use std::io;
 use vx_asm::assemble;
 use vx_class::{ClassFile, read_class};
@@ -55,27 +55,50 @@ end
     .ok()
 }
 
+/// A class, as it is read.
+fn class_file(alloc: Global, number: u32, below: u32) -> Option<ClassFile>
+    ensures { IfSome result Holds }
+{
+    let source = source_of(alloc, number, below)?;
+    let bytes = assemble(alloc, source.as_bytes()).ok()?;
+    match read_class(alloc, &bytes) {
+        Ok(class) => Some(class),
+        Err(_fault) => None,
+    }
+}
+
 /// The classes in the order of their numbers.
-fn folder(alloc: Global, below: u32) -> Option<Vec<ClassFile>>
-    ensures few { IfSome result (λ classes. length classes.items ≤ 1024) }
-    ensures read { IfSome result (λ classes. All Holds classes.items) }
+fn folder(alloc: Global, below: u32) -> Result<Vec<ClassFile>, AllocError>
+    ensures few { IfOk result (λ classes. length classes.items ≤ 1024) }
+    ensures read { IfOk result (λ classes. All Holds classes.items) }
 {
     let mut classes = Vec::new(alloc);
     for number in 0..SIZE {
-        let source = source_of(alloc, number, below)?;
-        let bytes = assemble(alloc, source.as_bytes()).ok()?;
-        let class = read_class(alloc, &bytes).ok()?;
-        classes.push(class).ok()?;
+        match class_file(alloc, number, below) {
+            Some(class) => classes.push(class)?,
+            None => return Err(AllocError),
+        }
     }
-    Some(classes)
+    Ok(classes)
+}
+
+/// The program of some classes, unless memory is wanting.
+fn program_of(alloc: Global, classes: Vec<ClassFile>) -> Option<Program>
+    requires few { length classes.items ≤ 1024 }
+    requires read { All Holds classes.items }
+{
+    match (core(alloc), read_model(alloc, b"option X C0 x\n")) {
+        (Ok(core), Ok(model)) => link(alloc, classes, core, &model, b"C0").ok(),
+        _ => None,
+    }
 }
 
 /// The program of the folder, unless memory is wanting.
 fn linked(alloc: Global, below: u32) -> Option<Program> {
-    let classes = folder(alloc, below)?;
-    let core = core(alloc).ok()?;
-    let model = read_model(alloc, b"option X C0 x\n").ok()?;
-    link(alloc, classes, core, &model, b"C0").ok()
+    match folder(alloc, below) {
+        Ok(classes) => program_of(alloc, classes),
+        Err(AllocError) => None,
+    }
 }
 
 /// How many classes of the folder stand below the class that their source names.
