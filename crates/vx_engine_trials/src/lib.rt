@@ -1,0 +1,14 @@
+//! Programs of one frame run whole, from an assembler source to the text of a report, with groups picked in two orders, over
+//! the space of masks and the space of diagrams.
+#![tactic(auto)]
+
+#[cfg(test)]
+mod cases;
+#[cfg(test)]
+mod last_key;
+#[cfg(test)]
+mod programs;
+#[cfg(test)]
+mod runs;
+#[cfg(test)]
+mod tests;

@@ -1,0 +1,65 @@
+//! From the source of a class to a program with the model of its options.
+
+ghost use Rattle.std.specs.Prelude.{◌≡◌, All, IfOk, length, map, true};
+ghost use Rattle.vx_class.specs.File.{Holds};
+ghost use Rattle.vx_families.specs.Bounds.{IsBounded};
+ghost use Rattle.vx_heap.specs.Heap.{has_options};
+ghost use Rattle.vx_model.specs.Models.{IsModel};
+
+use crate::cases::Case;
+use std::alloc::{AllocError, Global};
+use std::test::Fail;
+use vx_asm::assemble;
+use vx_class::{ClassFile, read_class};
+use vx_core::core;
+use vx_link::{Program, link};
+use vx_linked::linked_are_bounded;
+use vx_list::Items;
+use vx_model::{Model, read_model};
+use vx_value::Name;
+
+/// A linked program, and the model of its options.
+#[derive(Drop)]
+pub(crate) struct Example {
+    pub program: Program,
+    pub model: Model,
+}
+
+/// The folder of the one class that a source names.
+fn folder(alloc: Global, source: &[u8]) -> Result<Vec<ClassFile>, Fail>
+    ensures few { IfOk result (λ classes. length classes.items ≡ 1) }
+    ensures read { IfOk result (λ classes. All Holds classes.items) }
+{
+    let Ok(bytes) = assemble(alloc, source) else {
+        return Err(Fail::new("the source names no class"));
+    };
+    let class = read_class(alloc, bytes.as_slice())?;
+    let mut classes = Vec::new(alloc);
+    classes.push(class)?;
+    Ok(classes)
+}
+
+/// The program of a case, linked with the core classes.
+pub(crate) fn linked(alloc: Global, case: &Case) -> Result<Example, Fail>
+    ensures bounded { IfOk result (λ example. IsBounded example.program) }
+    ensures options { IfOk result (λ example. has_options (length example.model.options) example.program.fields ≡ true) }
+    ensures lawful { IfOk result (λ example. IsModel example.model) }
+{
+    let classes = folder(alloc, case.source)?;
+    let core = core(alloc)?;
+    let model = read_model(alloc, case.model)?;
+    linked_are_bounded();
+    let program = link(alloc, classes, core, &model, b"Main")?;
+    Ok(Example { program, model })
+}
+
+/// The names of a model's options.
+pub(crate) fn names_of(alloc: Global, model: &Model) -> Result<Items<Name>, AllocError>
+    ensures { IfOk result (λ names. names ≡ map (λ o. o.name) model.now.options) }
+{
+    let mut names = Vec::new(alloc);
+    for option in model.options.as_slice() {
+        names.push(Name::of(alloc, option.name.bytes())?)?;
+    }
+    Ok(Items::of(names))
+}

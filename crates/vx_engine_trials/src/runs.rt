@@ -1,0 +1,78 @@
+//! Whole runs: the text of a report in both spaces, and what two reports say of each configuration.
+
+ghost use Rattle.std.specs.Prelude.{◌≡◌, length, true};
+ghost use Rattle.vx_families.specs.Bounds.{IsBounded};
+ghost use Rattle.vx_heap.specs.Heap.{has_options};
+ghost use Rattle.vx_model.specs.Models.{IsModel};
+
+use crate::cases::Case;
+use crate::programs::{Example, linked, names_of};
+use std::alloc::Global;
+use std::process::Abort;
+use std::test::Fail;
+use vx_bdd::BddSpace;
+use vx_engine::run_with;
+use vx_model::allowed;
+use vx_report::project_text;
+use vx_report_reader::read_report;
+use vx_reporting::report_findings;
+use vx_sched::Picker;
+use vx_space::{Config, MaskSpace, Space};
+
+/// The most attempts that a run may have.
+const MOST_ATTEMPTS: u64 = 1_000_000_000;
+
+/// The text of the report of a case over a space.
+fn report_in<S: Space, K: Picker>(
+    rt: &impl Abort,
+    alloc: Global,
+    case: &Case,
+    example: &Example,
+    space: &mut S,
+    picker: &mut K,
+) -> Result<Vec<u8>, Fail>
+    requires bounded { IsBounded example.now.program }
+    requires fields { has_options (length example.now.model.options) example.now.program.fields ≡ true }
+    requires lawful { IsModel example.now.model }
+    requires options { (S.sets space.old).options ≡ length example.now.model.options }
+{
+    let allowed = allowed(space, &example.model)?;
+    assert!(rt; !space.is_never(allowed));
+    assert!(rt; 0 < case.limit && case.limit <= MOST_ATTEMPTS);
+    let names = names_of(alloc, &example.model)?;
+    let findings = run_with(alloc, &example.program, space, allowed, case.limit, picker)?;
+    let text = report_findings(alloc, space, case.version, names, case.limit, findings)?;
+    Ok(text)
+}
+
+/// The text of the report of a case, which is the same over both spaces.
+pub(crate) fn report_of<K: Picker>(
+    rt: &impl Abort,
+    alloc: Global,
+    case: &Case,
+    picker: &mut K,
+) -> Result<Vec<u8>, Fail> {
+    let example = linked(alloc, case)?;
+    let options = example.model.options.len();
+    assert!(rt; options <= 6);
+    let mut masks = MaskSpace::new(options as u32);
+    let mut diagrams = BddSpace::new(alloc, options as u32)?;
+    let text = report_in(rt, alloc, case, &example, &mut masks, picker)?;
+    let again = report_in(rt, alloc, case, &example, &mut diagrams, picker)?;
+    assert!(rt; again.as_slice() == text.as_slice());
+    Ok(text)
+}
+
+/// Two reports say the same of each configuration of at most four options.
+pub(crate) fn agree(rt: &impl Abort, alloc: Global, text: &[u8], other: &[u8]) -> Result<(), Fail> {
+    let report = read_report(alloc, text)?;
+    let other = read_report(alloc, other)?;
+    for number in 0..16 {
+        let values = [1, 2, 4, 8].map(|bit: u32| number & bit != 0);
+        let config = Config::new(alloc, &values)?;
+        let said = project_text(alloc, &report, &config)?;
+        let expected = project_text(alloc, &other, &config)?;
+        assert!(rt; said.is_some() && said == expected);
+    }
+    Ok(())
+}
