@@ -1,5 +1,5 @@
 -- Operations on two sets, and what a memo of them knows.
-use Rattle.std.specs.Prelude.{◌≡◌, ℕ, ◌≤◌, ◌==◌, Bool, true, List, Option, Some, None, ◌&&◌, ◌||◌, if◌then◌else◌, not}
+use Rattle.std.specs.Prelude.{◌≡◌, ℕ, ◌≤◌, Bool, true, false, List, Option, Some, ◌&&◌, ◌||◌, not}
 use Rattle.std.specs.HashMap.{HashMap, get}
 use Rattle.vx_bdd.specs.declared.node.Node.{Node}
 use Rattle.vx_bdd.specs.declared.node.Pair.{Pair}
@@ -21,20 +21,9 @@ pub record IsAnswer (op : Op) (options : ℕ) (slots : List (Option Node)) (a b 
   pub above : (i : ℕ) → i ≤ level slots options a → i ≤ level slots options b → i ≤ level slots options id
   pub reaches : (c : List Bool) → reaches slots options id c ≡ op_value op (reaches slots options a c) (reaches slots options b c)
 
--- the answer that the ids tell by themselves: equal sets, or never or always among them
-abbrev pub plain_and : ℕ → ℕ → Option ℕ
-plain_and a b = if (a == b) || (b == 1) then Some a else if a == 1 then Some b else if (a == 0) || (b == 0) then Some 0 else None
-
-abbrev pub plain_or : ℕ → ℕ → Option ℕ
-plain_or a b = if (a == b) || (b == 0) then Some a else if a == 0 then Some b else if (a == 1) || (b == 1) then Some 1 else None
-
-abbrev pub plain_minus : ℕ → ℕ → Option ℕ
-plain_minus a b = if (a == b) || (a == 0) || (b == 1) then Some 0 else if b == 0 then Some a else None
-
-abbrev pub plain_answer : Op → ℕ → ℕ → Option ℕ
-plain_answer And a b = plain_and a b
-plain_answer Or a b = plain_or a b
-plain_answer Minus a b = plain_minus a b
+-- an id that is the answer by itself: right whatever sets the ids stand for, with none at 0 and all at 1
+pub record IsPlainAnswer (op : Op) (a b id : ℕ) : Type 0 where
+  pub right : (has : ℕ → Bool) → has 0 ≡ false → has 1 ≡ true → has id ≡ op_value op (has a) (has b)
 
 -- what a memo has of two ids
 abbrev pub answer_of : {S : Type 0} → HashMap Pair ℕ S → ℕ → ℕ → Option ℕ

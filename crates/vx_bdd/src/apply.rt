@@ -1,9 +1,10 @@
 //! Operations on two sets, by their parts (`apply` of Bryant 1986).
 
-ghost use Rattle.std.specs.Prelude.{◌≡◌, ℕ, ◌<◌, ◌≤◌, Some, IfOk, OnOk, true, if◌then◌else◌};
+ghost use Rattle.std.specs.Prelude.{◌≡◌, IfOk, IfSome, OnOk, true, if◌then◌else◌};
+ghost use Rattle.vx_bdd.specs.declared.node.Op.TheVariants.{And, Minus, Or};
 ghost use Rattle.vx_bdd.specs.Diagram.{is_stored};
 ghost use Rattle.vx_bdd.specs.Table.{Grows};
-ghost use Rattle.vx_bdd.specs.Apply.{op_value, IsAnswer, IsMemo, plain_and, plain_answer, plain_minus, plain_or};
+ghost use Rattle.vx_bdd.specs.Apply.{op_value, IsAnswer, IsMemo, IsPlainAnswer};
 
 use crate::node::{Op, Pair};
 use crate::table::Table;
@@ -29,7 +30,7 @@ fn end_of(value: bool) -> usize
 }
 
 fn plain_and(a: usize, b: usize) -> Option<usize>
-    ensures { result ≡ plain_and a b }
+    ensures { IfSome result (IsPlainAnswer And a b) }
 {
     if a == b || b == 1 {
         Some(a)
@@ -43,7 +44,7 @@ fn plain_and(a: usize, b: usize) -> Option<usize>
 }
 
 fn plain_or(a: usize, b: usize) -> Option<usize>
-    ensures { result ≡ plain_or a b }
+    ensures { IfSome result (IsPlainAnswer Or a b) }
 {
     if a == b || b == 0 {
         Some(a)
@@ -57,7 +58,7 @@ fn plain_or(a: usize, b: usize) -> Option<usize>
 }
 
 fn plain_minus(a: usize, b: usize) -> Option<usize>
-    ensures { result ≡ plain_minus a b }
+    ensures { IfSome result (IsPlainAnswer Minus a b) }
 {
     if a == b || a == 0 || b == 1 {
         Some(0)
@@ -70,7 +71,7 @@ fn plain_minus(a: usize, b: usize) -> Option<usize>
 
 /// The answer where the ids tell it by themselves: of equal sets, and where never or always is among them (Bryant 1986).
 fn plain_answer(op: Op, a: usize, b: usize) -> Option<usize>
-    ensures { result ≡ plain_answer op a b }
+    ensures { IfSome result (IsPlainAnswer op a b) }
 {
     match op {
         Op::And => plain_and(a, b),

@@ -1,8 +1,8 @@
 -- The derived orders of cuts and of their parts are exact.
 use Rattle.std.specs.Prelude.{◌≡◌, refl}
-use Rattle.std.specs.Ordering.{ordering_then}
 use Rattle.std.specs.declared.cmp.Ordering.{Ordering}
-use Rattle.std.specs.declared.cmp.Ordering.TheVariants.{Less, Equal, Greater}
+use Rattle.std.specs.declared.cmp.Ordering.TheVariants.{Equal}
+use Rattle.vx_value.specs.Exact.{then_first, then_second}
 use Rattle.vx_forms.specs.declared.cut.Part.{Part}
 use Rattle.vx_forms.specs.declared.cut.Part.TheVariants.{Zero, One, Two, Word, Words, Second}
 use Rattle.vx_forms.specs.declared.cut.Cut.{Cut}
@@ -25,17 +25,6 @@ part_exact Word Word h = refl
 part_exact Words Words h = refl
 part_exact Second Second h = refl
 part_exact _ _ h = cc
-
--- an order that answers Equal for the first, and then the second, answers it for each
-then_first : (a b : Ordering) → ordering_then a b ≡ Equal → a ≡ Equal
-then_first Less b h = h
-then_first Equal b h = refl
-then_first Greater b h = h
-
-then_second : (a b : Ordering) → ordering_then a b ≡ Equal → b ≡ Equal
-then_second Less b h = cc
-then_second Equal b h = h
-then_second Greater b h = cc
 
 pub cut_exact : (a b : Cut) → cut_cmp a b ≡ Equal → a ≡ b
 cut_exact Divided Divided h = refl

@@ -2,10 +2,11 @@
 use Rattle.std.proofs.Common.{◌≡◌, ℕ, ℤ, List, [], ◌∷◌, refl, ap, arith}
 use Rattle.std.proofs.lemmas.Bool.Decides.{nat_tests}
 use Rattle.std.specs.declared.cmp.Ordering.{Ordering}
-use Rattle.std.specs.declared.cmp.Ordering.TheVariants.{Less, Equal, Greater}
+use Rattle.std.specs.declared.cmp.Ordering.TheVariants.{Equal}
 use Rattle.std.specs.Ordering.{nat_cmp, int_cmp, ordering_then}
 use Rattle.std.specs.Cmp.{int_ranks}
 use Rattle.std.specs.Cmp.Lexicographic.{slice_cmp}
+use Rattle.vx_value.specs.Exact.{then_first, then_second}
 use Rattle.vx_value.specs.declared.end.Stream.TheVariants.{Out, Err}
 use Rattle.vx_value.specs.declared.end.End.{End}
 use Rattle.vx_value.specs.declared.end.End.TheVariants.{Return, Exit, Uncaught, Unsupported, Illegal, Unfinished}
@@ -17,17 +18,6 @@ nat_equal a b h = grind (arith, nat_tests)
 
 int_equal : (a b : ℤ) → int_cmp a b ≡ Equal → a ≡ b
 int_equal a b h = rw h at (int_ranks a b)
-
--- both of two orders, one after the other, are Equal
-then_first : (a b : Ordering) → ordering_then a b ≡ Equal → a ≡ Equal
-then_first Equal b h = refl
-then_first Less b h = cc
-then_first Greater b h = cc
-
-then_second : (a b : Ordering) → ordering_then a b ≡ Equal → b ≡ Equal
-then_second Equal b h = h
-then_second Less b h = cc
-then_second Greater b h = cc
 
 text_equal : (xs ys : List ℕ) → slice_cmp nat_cmp xs ys ≡ Equal → xs ≡ ys
 text_equal [] [] h = refl

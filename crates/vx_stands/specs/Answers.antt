@@ -3,10 +3,10 @@ use Rattle.std.specs.Prelude.{◌≡◌, refl}
 use Rattle.std.proofs.Common.{ap}
 use Rattle.std.proofs.lemmas.Map.Lookups.{exact_unsigned}
 use Rattle.std.specs.Option.{option_cmp}
-use Rattle.std.specs.Ordering.{nat_cmp, ordering_then}
+use Rattle.std.specs.Ordering.{nat_cmp}
 use Rattle.std.specs.declared.cmp.Ordering.{Ordering}
-use Rattle.std.specs.declared.cmp.Ordering.TheVariants.{Less, Equal, Greater}
-use Rattle.vx_value.specs.Exact.{option_exact}
+use Rattle.std.specs.declared.cmp.Ordering.TheVariants.{Equal}
+use Rattle.vx_value.specs.Exact.{option_exact, then_first, then_second}
 use Rattle.vx_value.specs.Slot.{slot_exact}
 use Rattle.vx_stands.specs.declared.answer.Answer.{Answer}
 use Rattle.vx_stands.specs.declared.answer.Answer.TheVariants.{Illegal, Raise, Push, Jump}
@@ -15,17 +15,6 @@ use Rattle.vx_stands.specs.contracts.answer.AnswerOrd.TheImpl as answer_ord
 -- by variant, then by what it holds
 abbrev pub answer_cmp : Answer → Answer → Ordering
 answer_cmp = answer_ord.ghosts.cmp
-
--- an order that answers Equal for the first, and then the second, answers it for each
-then_first : (a b : Ordering) → ordering_then a b ≡ Equal → a ≡ Equal
-then_first Less b h = h
-then_first Equal b h = refl
-then_first Greater b h = h
-
-then_second : (a b : Ordering) → ordering_then a b ≡ Equal → b ≡ Equal
-then_second Less b h = cc
-then_second Equal b h = h
-then_second Greater b h = cc
 
 pub answer_exact : (a b : Answer) → answer_cmp a b ≡ Equal → a ≡ b
 answer_exact Illegal Illegal h = refl

@@ -2,10 +2,11 @@
 use Rattle.std.specs.Prelude.{◌≡◌, List, [], ◌∷◌, length, refl}
 use Rattle.std.proofs.lemmas.Map.Lookups.{exact_unsigned}
 use Rattle.std.specs.declared.cmp.Ordering.{Ordering}
-use Rattle.std.specs.declared.cmp.Ordering.TheVariants.{Less, Equal, Greater}
+use Rattle.std.specs.declared.cmp.Ordering.TheVariants.{Equal}
 use Rattle.std.specs.Ordering.{nat_cmp, on, flip_args, ordering_then, eq_by_cmp, as_partial_cmp}
 use Rattle.std.specs.Cmp.{IsTotalOrder, IsPartialOrder, IsEquivalence, IsPartialEquivalence, partial_equiv_from_equiv, partial_order_from_total, eq_by_cmp_equiv, then_total, back_total, on_total, nat_cmp_total}
 use Rattle.std.specs.Cmp.Lexicographic.{slice_cmp, lists_total}
+use Rattle.vx_value.specs.Exact.{then_first, then_second}
 use Rattle.vx_value.specs.declared.key.KeyPart.{KeyPart}
 use Rattle.vx_value.specs.declared.key.Kind.{Kind}
 use Rattle.vx_value.specs.declared.key.Kind.TheVariants.{Call, Wait, Init}
@@ -24,17 +25,6 @@ key_equivalence = eq_by_cmp_equiv key_cmp_total
 
 pub key_partial_equivalence : IsPartialEquivalence (eq_by_cmp key_cmp)
 key_partial_equivalence = partial_equiv_from_equiv key_equivalence
-
--- an order that answers Equal for the first, and then the second, answers it for each
-then_first : (a b : Ordering) → ordering_then a b ≡ Equal → a ≡ Equal
-then_first Less b h = h
-then_first Equal b h = refl
-then_first Greater b h = h
-
-then_second : (a b : Ordering) → ordering_then a b ≡ Equal → b ≡ Equal
-then_second Less b h = cc
-then_second Equal b h = h
-then_second Greater b h = cc
 
 kind_exact : (a b : Kind) → kind_ord.ghosts.cmp a b ≡ Equal → a ≡ b
 kind_exact Call Call h = refl

@@ -5,7 +5,7 @@ use Rattle.vx_bdd.proofs.TableLaws.{Grows-refl, Grows-trans, stored-grows}
 use Rattle.vx_bdd.proofs.apply.+apply.Goals as goal
 
 pub returns-in-Some-clause-ok : goal.returns-in-Some-clause-ok
-returns-in-Some-clause-ok t c = IsAnswer-plain c.args.table.now.reduced c.args.op c.args.a c.args.b c.in-Some.plain c.requires.first c.requires.second (sym c.in-Some.ensures)
+returns-in-Some-clause-ok t c = IsAnswer-plain c.args.table.now.reduced c.args.op c.args.a c.args.b c.in-Some.plain c.requires.first c.requires.second c.in-Some.ensures
 
 pub returns-in-Some-get-clause-ok : goal.returns-in-Some-get-clause-ok
 returns-in-Some-get-clause-ok t c = c.requires.memo.answers c.args.a c.args.b c.in-Some-get.known.now (sym c.in-Some-get.ensures.value)
