@@ -1,6 +1,6 @@
 //! The lines of a method's body: instructions, labels and catch rows (JVMS 4.7.3, 4.9.1).
 
-ghost use Rattle.std.specs.Prelude.{◌≡◌, ◌+◌, ◌<◌, ◌^◌, ◌&&◌, length, take, min, option_copied, is_some, OnOk, IfOk};
+ghost use Rattle.std.specs.Prelude.{◌≡◌, ◌+◌, ◌<◌, ◌&&◌, take, min, option_copied, is_some, OnOk, IfOk};
 ghost use Rattle.vx_source.specs.Reading.{Gives};
 ghost use Rattle.vx_draft.specs.Bodies.{find_label};
 ghost use Rattle.vx_asm.specs.Bodies.{with_needed, is_index_near, with_draft, with_instruction, instruction_said, label_said, are_known, is_caught, is_lawful_row, covered, with_row, catch_said};

@@ -1,6 +1,6 @@
 //! The end of a body: the places of its instructions, its catch rows and its code (JVMS 4.7.3).
 
-ghost use Rattle.std.specs.Prelude.{◌≡◌, ◌<◌, ◌≤◌, ◌^◌, length, map, slice_index, OnOk, IfOk};
+ghost use Rattle.std.specs.Prelude.{◌≡◌, ◌<◌, map, OnOk, IfOk};
 ghost use Rattle.vx_source.specs.Reading.{Gives};
 ghost use Rattle.vx_asm.specs.Bodies.{places_of, with_caught, with_rows, caught_index, place_in_file, catch_of, code_of, method_of, is_small_code, with_end, end_said};
 

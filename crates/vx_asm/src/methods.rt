@@ -1,6 +1,6 @@
 //! Methods up to their bodies (JVMS 4.6).
 
-ghost use Rattle.std.specs.Prelude.{◌≡◌, ◌<◌, ◌^◌, true, length, OnOk, IfOk};
+ghost use Rattle.std.specs.Prelude.{◌≡◌, ◌<◌, true, IfOk};
 ghost use Rattle.vx_source.specs.Reading.{Gives};
 ghost use Rattle.vx_asm.specs.Parts.{locals_of, is_lawful_method_line, bare_method, with_bare_method, body_of, with_body, with_room, method_said};
 

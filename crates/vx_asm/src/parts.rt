@@ -1,6 +1,6 @@
 //! The version, the class and its interfaces, and the order in which parts may follow one another.
 
-ghost use Rattle.std.specs.Prelude.{◌≡◌, ◌≤◌, ◌<◌, ◌^◌, ◌==◌, ◌&&◌, length, IfOk};
+ghost use Rattle.std.specs.Prelude.{◌≡◌, ◌<◌, ◌==◌, ◌&&◌, IfOk};
 ghost use Rattle.std.specs.Str.{bytes_eq};
 ghost use Rattle.vx_source.specs.Reading.{Gives};
 ghost use Rattle.vx_asm.specs.Parts.{may_have_version, may_have_class, may_have_interface, may_have_field, has_class, version_said, with_class_line, class_said, with_interface, implements_said, is_taken};

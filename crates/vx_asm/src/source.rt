@@ -1,10 +1,9 @@
 //! The class that a source names, line by line.
 
-ghost use Rattle.std.specs.Prelude.{◌≡◌, ◌+◌, ◌<◌, ◌^◌, Ok, Err, not, ◌&&◌, ◌==◌, length, IfOk, IfErr, None};
+ghost use Rattle.std.specs.Prelude.{◌≡◌, ◌+◌, ◌<◌, ◌^◌, Ok, Err, ◌&&◌, ◌==◌, IfOk, IfErr, None};
 ghost use Rattle.vx_class.specs.declared.class_file.ClassFile.{ClassFile};
 ghost use Rattle.vx_draft.specs.Instructions.{is_of_version};
 ghost use Rattle.vx_source.specs.Reading.{Gives, check};
-ghost use Rattle.vx_source.specs.Lines.{source_of};
 ghost use Rattle.vx_writer.specs.Written.{spelling};
 ghost use Rattle.vx_asm.specs.Parts.{part_said};
 ghost use Rattle.vx_asm.specs.Bodies.{body_said};

@@ -1,9 +1,8 @@
 //! What a compaction keeps: the nodes under some roots are marked, and all others are dropped.
 
-ghost use Rattle.std.specs.Prelude.{◌≡◌, ℕ, ◌<◌, true, OnOk, IfOk, slice_index_or, None, nat_eq, take};
+ghost use Rattle.std.specs.Prelude.{◌≡◌, ◌<◌, true, OnOk, IfOk, slice_index_or, None, nat_eq};
 ghost use Rattle.std.specs.HashSet.{contains};
-ghost use Rattle.vx_space.specs.Sets.{AreKnown};
-ghost use Rattle.vx_bdd.specs.Diagram.{is_stored, IsReduced};
+ghost use Rattle.vx_bdd.specs.Diagram.{is_stored};
 ghost use Rattle.vx_bdd.specs.Table.{IsIndex};
 ghost use Rattle.vx_bdd.specs.Marks.{IsClosed, AddsBelow, IsMarking, IsSwept, AreStored, SlotsWithout, IndexWithout, IsBounded};
 

@@ -1,8 +1,8 @@
 //! The space of diagrams: each call of `Space` by a call of the table.
 
-ghost use Rattle.std.specs.Prelude.{◌≡◌, ℕ, ◌<◌, ◌≤◌, Some, IfOk, OnOk, true};
+ghost use Rattle.std.specs.Prelude.{◌≡◌, ◌<◌, ◌≤◌, Some, IfOk, true};
 ghost use Rattle.std.proofs.lemmas.Map.Views.{exact_unsigned_eq};
-ghost use Rattle.vx_space.specs.Sets.{Sets, IsSet, Extends};
+ghost use Rattle.vx_space.specs.Sets.{IsSet, Extends};
 ghost use Rattle.vx_bdd.specs.Apply.{op_value};
 ghost use Rattle.vx_bdd.specs.Space.{sets_of};
 ghost use Rattle.vx_bdd.specs.Lawful.{lawful_sets};

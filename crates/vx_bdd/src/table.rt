@@ -1,6 +1,6 @@
 //! The table of distinct reduced nodes, from which all sets are made.
 
-ghost use Rattle.std.specs.Prelude.{◌≡◌, ℕ, ◌<◌, ◌≤◌, Some, IfOk, OnOk, true, if◌then◌else◌, slice_index_or, None, nat_eq};
+ghost use Rattle.std.specs.Prelude.{◌≡◌, ℕ, ◌<◌, ◌≤◌, Some, IfOk, true, if◌then◌else◌, slice_index_or, None, nat_eq};
 ghost use Rattle.std.specs.HashSet.{contains};
 ghost use Rattle.std.proofs.Props.{props};
 ghost use Rattle.vx_space.specs.Config.{value_of};

@@ -1,6 +1,6 @@
 //! The nodes of some sets as a list, in a report's numbering.
 
-ghost use Rattle.std.specs.Prelude.{◌≡◌, ◌≢◌, ℕ, ◌≤◌, Option, IfOk, map};
+ghost use Rattle.std.specs.Prelude.{◌≡◌, ◌≢◌, ◌≤◌, IfOk};
 ghost use Rattle.std.specs.BTreeMap.{get};
 ghost use Rattle.vx_space.specs.Sets.{IsKnown, AreKnown};
 ghost use Rattle.vx_bdd_tools.specs.Listing.{IsListing, IsOnlyListing};

@@ -1,6 +1,6 @@
 //! The code of a method (JVMS 4.7.3): its parts, then its instructions, its jumps and its catch rows.
 
-ghost use Rattle.std.specs.Prelude.{◌≡◌, ◌+◌, ◌*◌, ◌^◌, ◌<◌, ◌≤◌, List, length, IfOk, OnOk, Ok};
+ghost use Rattle.std.specs.Prelude.{◌≡◌, ◌+◌, ◌*◌, ◌^◌, ◌<◌, length, IfOk, OnOk, Ok};
 ghost use Rattle.vx_reading.specs.Reading.{Gives, GivesBy, Answers, steps, items};
 ghost use Rattle.vx_class.specs.Code.{utf8_at, content_at, skipped_at, skip_step, all_skipped_at, catch_at, catches_at, row_checked, catches_checked, parts_at, code_checked, code_at};
 ghost use Rattle.vx_class.specs.Fits.{PartsFit};

@@ -1,12 +1,12 @@
 //! Fields (JVMS 4.5), the constants of static ones, and what fields and methods share.
 
-ghost use Rattle.std.specs.Prelude.{◌≡◌, ◌+◌, ◌^◌, ◌<◌, ◌≤◌, List, length, None, false, [], IfOk};
+ghost use Rattle.std.specs.Prelude.{◌≡◌, ◌+◌, ◌^◌, ◌<◌, length, None, false, [], IfOk};
 ghost use Rattle.std.specs.List.{list_any};
 ghost use Rattle.vx_reading.specs.Reading.{Gives, GivesBy, steps, behind};
-ghost use Rattle.vx_desc.specs.Names.{is_field_name, is_method_name};
-ghost use Rattle.vx_desc.specs.Descriptors.{is_field_descriptor, is_method_descriptor};
+ghost use Rattle.vx_desc.specs.Names.{is_field_name};
+ghost use Rattle.vx_desc.specs.Descriptors.{is_field_descriptor};
 ghost use Rattle.vx_code.specs.Lookups.{entry_of};
-ghost use Rattle.vx_class.specs.Members.{is_number_for, is_constant_for, constant_at, field_attribute_at, constant_among, code_among, lawful_at, is_text_of, is_same, field_at, fields_at, method_attribute_at, is_static, takes_code, slots_of, is_lawful_initialiser, method_at, methods_at};
+ghost use Rattle.vx_class.specs.Members.{is_number_for, is_constant_for, constant_at, field_attribute_at, constant_among, lawful_at, is_text_of, is_same, field_at, fields_at, is_static, takes_code};
 
 use crate::class_file::Field;
 use crate::code::{content, utf8};

@@ -1,6 +1,6 @@
 //! Methods (JVMS 4.6).
 
-ghost use Rattle.std.specs.Prelude.{◌≡◌, ◌+◌, ◌^◌, ◌<◌, ◌≤◌, List, length, is_some, option_map, unwrap_or, None, [], IfOk};
+ghost use Rattle.std.specs.Prelude.{◌≡◌, ◌+◌, ◌^◌, ◌<◌, length, is_some, unwrap_or, None, [], IfOk};
 ghost use Rattle.std.specs.List.{list_any};
 ghost use Rattle.vx_reading.specs.Reading.{Gives, GivesBy, steps, behind};
 ghost use Rattle.vx_desc.specs.Names.{is_method_name};

@@ -1,8 +1,7 @@
 //! Reading class files (JVMS 4.1), from the front to the back.
 
-ghost use Rattle.std.specs.Prelude.{◌≡◌, ◌+◌, ◌^◌, ◌<◌, ◌≤◌, List, length, sum_by, [], IfOk, OnOk};
-ghost use Rattle.vx_reading.specs.Reading.{Gives, GivesBy, Answers, IsReadAs, items};
-ghost use Rattle.vx_pool.specs.Pool.{size};
+ghost use Rattle.std.specs.Prelude.{◌≡◌, ◌+◌, ◌<◌, IfOk};
+ghost use Rattle.vx_reading.specs.Reading.{Gives, Answers, IsReadAs, items};
 ghost use Rattle.vx_class.specs.File.{File};
 ghost use Rattle.vx_class.specs.declared.class_file.ClassFile.{ClassFile};
 ghost use Rattle.vx_class.specs.Class.{versions_at, checked_pool_at, interface_at, class_at, interfaces_at, head_at, file_at, class_of};

@@ -1,7 +1,6 @@
 //! What `run` takes from its model: the model itself, and the set of configurations that it allows.
 
-ghost use Rattle.std.specs.Prelude.{◌≡◌, ◌≢◌, true, false, List, IfOk, IfErr, MatchResult, Ok, Err, ◌⊎◌, length};
-ghost use Rattle.vx_bdd.specs.Space.{IsNewSpace};
+ghost use Rattle.std.specs.Prelude.{◌≡◌, ◌≢◌, true, false, IfOk, IfErr, MatchResult, Ok, Err, ◌⊎◌, length};
 ghost use Rattle.vx_model.specs.Answers.{Answers};
 ghost use Rattle.vx_model.specs.Models.{IsModel, is_allowed};
 ghost use Rattle.vx_model.specs.declared.model.Model.{Model};

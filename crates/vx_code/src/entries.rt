@@ -1,13 +1,13 @@
 //! The checks of the pool's entries (JVMS 4.4): what each names, in the order in which a class file is checked.
 
-ghost use Rattle.std.specs.Prelude.{◌≡◌, ◌+◌, ◌^◌, ◌<◌, ◌&&◌, Err, length, is_some, sum_by, IfOk, true, false, Bool, Option, None};
+ghost use Rattle.std.specs.Prelude.{◌≡◌, ◌+◌, ◌^◌, ◌<◌, ◌&&◌, sum_by, true, None};
 ghost use Rattle.vx_reading.specs.Reading.{Answers};
 ghost use Rattle.vx_pool.specs.Pool.{size};
 ghost use Rattle.vx_pool.specs.declared.pool.Entry.TheVariants.{Class, Text, Field, Method, MethodHandle, MethodType, NameAndType};
 ghost use Rattle.vx_desc.specs.Names.{is_field_name, is_method_name};
 ghost use Rattle.vx_desc.specs.Descriptors.{is_field_descriptor, is_method_descriptor};
 ghost use Rattle.vx_code.specs.Lookups.{text, member_name, member_descriptor, is_class_text};
-ghost use Rattle.vx_code.specs.Entries.{where_read, kind_checks, member_checks, checks_of, entries_checked};
+ghost use Rattle.vx_code.specs.Entries.{kind_checks, checks_of, entries_checked};
 ghost use Rattle.vx_code.specs.Checks.{first_failing};
 
 use crate::lookups::{

@@ -1,14 +1,12 @@
 //! The checks of a method's instructions (JVMS 4.9.1): whole ones, and what their operands name.
 
-ghost use Rattle.std.specs.Prelude.{◌≡◌, ◌+◌, ◌*◌, ◌^◌, ◌<◌, ◌≤◌, ◌&&◌, ◌||◌, ◌==◌, All, Err, not, length, pos, nat_le, is_some, option_and_then, IfOk, IfSome, Some, false, Bool, Option, None};
-ghost use Rattle.std.specs.Option.{option_copied};
-ghost use Rattle.vx_reading.specs.Reading.{Answers, AnswersBy};
-ghost use Rattle.vx_opcode.specs.Numbers.{s4};
-ghost use Rattle.vx_opcode.specs.Decode.{instruction_at, TableFits};
+ghost use Rattle.std.specs.Prelude.{◌≡◌, ◌+◌, ◌*◌, ◌^◌, ◌<◌, ◌≤◌, ◌&&◌, ◌||◌, ◌==◌, All, Err, length, IfOk, Some, false, Option, None};
+ghost use Rattle.vx_reading.specs.Reading.{Answers};
+ghost use Rattle.vx_opcode.specs.Decode.{TableFits};
 ghost use Rattle.vx_opcode.specs.declared.instruction.Operand.TheVariants.{Pool as PoolOperand, Interface, Dimensions};
 ghost use Rattle.vx_code.specs.Lookups.{entry_of, class_text, member_name, member_descriptor};
 ghost use Rattle.vx_code.specs.Checks.{first_failing};
-ghost use Rattle.vx_code.specs.Instructions.{local_of, is_long_local, local_fits, is_kind_for, called, is_callable, dimensions, has_slots, pool_checks, operand_checks, whole_at, checked_at, starts_of, is_start, is_target, all_below, jump_checks, jumps_checked};
+ghost use Rattle.vx_code.specs.Instructions.{local_of, is_long_local, local_fits, is_kind_for, called, is_callable, dimensions, pool_checks, operand_checks, whole_at, checked_at, starts_of};
 
 use crate::lookups::{class_text, entry_of, is_array, is_usable, member_descriptor, member_name};
 use std::alloc::Global;

@@ -1,6 +1,6 @@
 //! The checks of jumps and switches (JVMS 4.9.1): they lead to instructions, and switches are in order.
 
-ghost use Rattle.std.specs.Prelude.{◌≡◌, ◌+◌, ◌-◌, ◌*◌, ◌^◌, ◌<◌, ◌≤◌, length, int_lt, IfOk, All};
+ghost use Rattle.std.specs.Prelude.{◌≡◌, ◌+◌, ◌-◌, ◌*◌, ◌^◌, ◌<◌, ◌≤◌, length, int_lt, All};
 ghost use Rattle.vx_reading.specs.Reading.{Answers};
 ghost use Rattle.vx_opcode.specs.Numbers.{s4};
 ghost use Rattle.vx_opcode.specs.Decode.{TableFits};

@@ -1,8 +1,8 @@
 //! What an index of the pool names (JVMS 4.4), where it names an entry of the kind that is asked for.
 
-ghost use Rattle.std.specs.Prelude.{◌≡◌, ◌^◌, ◌<◌, ◌==◌, length, slice_index, is_some, IfSome, IfOk, Some};
+ghost use Rattle.std.specs.Prelude.{◌≡◌, ◌^◌, ◌<◌, ◌==◌, length, is_some, IfSome, Some};
 ghost use Rattle.std.specs.Option.{option_copied};
-ghost use Rattle.vx_code.specs.Lookups.{entry_of, is_usable, utf8, class, name_and_type, is_field, is_method, is_interface_method, is_invoke_dynamic, text, class_text, member_name, member_descriptor, is_array, is_class_text};
+ghost use Rattle.vx_code.specs.Lookups.{entry_of, is_usable, class, name_and_type, text, class_text, member_name, member_descriptor, is_array, is_class_text};
 
 use vx_desc::{is_class_name, is_field_descriptor};
 use vx_pool::{Entry, Pool};

@@ -1,7 +1,7 @@
 //! Conditional values: distinct leaves in ascending value, with nonempty disjoint conditions whose union is the scope.
 
-ghost use Rattle.std.specs.Prelude.{◌≡◌, ◌++◌, ℕ, Bool, true, false, List, Some, IfOk, OnOk, IsNone, ◌↔◌, if◌then◌else◌};
-ghost use Rattle.vx_space.specs.Sets.{IsKnown, Extends, IsSet};
+ghost use Rattle.std.specs.Prelude.{◌≡◌, ◌++◌, false, Some, IfOk, OnOk, IsNone, ◌↔◌};
+ghost use Rattle.vx_space.specs.Sets.{IsKnown, Extends};
 
 use crate::leaves::{
     conditions_out, join_leaves, map_leaves, restrict_leaves, value_of_leaves, zip_leaves,

@@ -1,6 +1,6 @@
 //! Leaves: ascending values with the conditions under which they hold. Each call is a loop of `add`.
 
-ghost use Rattle.std.specs.Prelude.{◌≡◌, ◌≢◌, ℕ, ◌<◌, ◌≤◌, IsTrue, List, length, OnOk, IfOk, ◌++◌, map};
+ghost use Rattle.std.specs.Prelude.{◌≡◌, ◌<◌, ◌≤◌, IsTrue, length, OnOk, IfOk, ◌++◌, map};
 ghost use Rattle.vx_space.specs.Sets.{IsKnown, Extends};
 ghost use Rattle.vx_cond.specs.Leaves.{IsPlace, AreLeaves, IsApart, AreLeavesOf, value_at, value_under, value_within, first_of, AreLeavesApart, AreLifted, AreLifted2, IsLiftedUnder};
 

@@ -1,6 +1,6 @@
 //! Rows: conditional values of one scope, in order, as locals, operands and cells.
 
-ghost use Rattle.std.specs.Prelude.{◌≡◌, ◌++◌, ◌+◌, ℕ, ◌<◌, List, [], ◌∷◌, Some, None, length, map, IfOk, OnOk, OnErr, IsNone, IsSome, IfSome, ◌↔◌, slice_get, slice_set, Bool, ◌&&◌, ◌||◌};
+ghost use Rattle.std.specs.Prelude.{◌≡◌, ◌++◌, ◌+◌, ◌<◌, List, [], ◌∷◌, Some, length, IfOk, OnOk, OnErr, IsNone, IfSome, ◌↔◌, slice_get, slice_set, Bool, ◌&&◌, ◌||◌};
 ghost use Rattle.vx_space.specs.Sets.{IsKnown, IsSet, Extends};
 ghost use Rattle.vx_cond.specs.Cond.{AreDisjoint};
 ghost use Rattle.vx_cond.specs.Row.{IsRow, IsRowOf, AreConds, conds_at, values_within, firsts_of, row_ids};

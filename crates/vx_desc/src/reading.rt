@@ -1,6 +1,6 @@
 //! Reading descriptors (JVMS 4.3): a field's type, or a method's arguments in `(` and `)` and its result.
 
-ghost use Rattle.std.specs.Prelude.{◌≡◌, ◌+◌, ◌<◌, ◌≤◌, ◌^◌, ◌==◌, List, IfSome, IfOk, length, take, drop, slice_index, sum_by, position, take_while};
+ghost use Rattle.std.specs.Prelude.{◌≡◌, ◌+◌, ◌<◌, ◌≤◌, ◌^◌, ◌==◌, IfSome, IfOk, length, slice_index, sum_by};
 ghost use Rattle.vx_desc.specs.Descriptors.{base_of, element_at, type_at, types_at, result_at, slots_of, method_of, field_of, descriptor_of, HasFewSlots, is_field_descriptor, is_method_descriptor, field_type, method_slots, returns_nothing, Gives};
 
 use crate::java_type::{Base, DescFault, Descriptor, JavaType};

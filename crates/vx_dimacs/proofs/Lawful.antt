@@ -1,5 +1,5 @@
 -- What is read is a model that each call takes.
-use Rattle.std.proofs.Common.{◌≡◌, ◌≢◌, ◌⊎◌, inl, inr, ℕ, zero, suc, ◌+◌, ◌<◌, ◌≤◌, List, [], ◌∷◌, ◌++◌, length, length-append, get_or, slice_get, unwrap_or, refl, sym, ap, ◌∙◌, subst, arith, true, false, not, ◌||◌, nat_lt, Option, Some, None, Result, Ok, Err}
+use Rattle.std.proofs.Common.{◌≡◌, ◌≢◌, ◌⊎◌, inl, inr, ℕ, zero, suc, ◌+◌, ◌<◌, ◌≤◌, List, [], ◌∷◌, ◌++◌, length, length-append, get_or, slice_get, unwrap_or, refl, sym, ap, ◌∙◌, subst, arith, true, not, ◌||◌, nat_lt, Option, Some, None, Result, Ok, Err}
 use Rattle.std.specs.Prelude.{◌==◌, position}
 use Rattle.std.proofs.lemmas.Bool.{eqb-true}
 use Rattle.std.proofs.lemmas.List.Quantifiers.{position-Some}
@@ -10,7 +10,7 @@ use Rattle.vx_model.specs.Formula as tree
 use Rattle.vx_model.specs.Grammar.{disjunction}
 use Rattle.vx_model.specs.Models.{AllApart, ApartFromAll, AreApart, DifferentPlaces, IsModel}
 use Rattle.vx_model.specs.Text.{at_line}
-use Rattle.vx_model.specs.Truth.{AllNamesBelow, NamesBelow}
+use Rattle.vx_model.specs.Truth.{AllNamesBelow}
 use Rattle.vx_model.specs.declared.model.FieldPlace.{FieldPlace}
 use Rattle.vx_model.specs.declared.model.Model.{Model}
 use Rattle.vx_model.specs.declared.model.OptionField.{OptionField}

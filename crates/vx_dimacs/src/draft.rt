@@ -1,12 +1,12 @@
 //! What the lines of a DIMACS text have said so far.
 
-ghost use Rattle.std.specs.Prelude.{◌≡◌, ◌≤◌, ◌<◌, ◌+◌, ◌∷◌, length, Some, None, IfOk, IfErr, OnOk, List, position, ◌==◌, not};
+ghost use Rattle.std.specs.Prelude.{◌≡◌, ◌<◌, ◌+◌, Some, None, IfErr, OnOk, ◌==◌, not};
 ghost use Rattle.std.specs.List.{list_any};
 ghost use Rattle.vx_words.specs.Lines.{words};
 ghost use Rattle.vx_model.specs.Answers.{Judges};
 ghost use Rattle.vx_model.specs.declared.statement.Refusal.TheVariants.{NoMemory};
 ghost use Rattle.vx_dimacs.specs.Draft.{MarksAre, Moves, drafted};
-ghost use Rattle.vx_dimacs.specs.Dimacs.{named_as, named, comment_line, line_of, with_mark, with_marks, begun, has_too_many, within_header, with_line, option_at, option_for, ended, end_of, up_to, numbers_line, marks_of, is_number, is_nothing, numeral, plain_option, options_upto, nothing_yet};
+ghost use Rattle.vx_dimacs.specs.Dimacs.{named_as, named, comment_line, line_of, with_mark, with_marks, begun, has_too_many, with_line, up_to, numbers_line, marks_of, is_number, is_nothing, nothing_yet};
 
 use crate::line::{
     Header, Line, NO_HEADER, Naming, are_visible, header_line, is_named, is_variable_name,

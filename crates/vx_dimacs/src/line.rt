@@ -1,12 +1,12 @@
 //! What a line of a DIMACS text says.
 
-ghost use Rattle.std.specs.Prelude.{◌≡◌, ◌≤◌, ◌∷◌, ◌==◌, length, Some, None, IfOk, List};
+ghost use Rattle.std.specs.Prelude.{◌≡◌, ◌∷◌, ◌==◌, Some, None};
 ghost use Rattle.std.specs.List.{list_all, list_any};
 ghost use Rattle.std.specs.Str.{bytes_eq};
 ghost use Rattle.std.specs.Char.{is_ascii_digit};
 ghost use Rattle.vx_words.specs.Lines.{words};
 ghost use Rattle.vx_model.specs.Answers.{Judges};
-ghost use Rattle.vx_dimacs.specs.Dimacs.{State, is_numbered, is_variable_name, is_visible, named_as, named, comment_line, clauses_of, header_clauses, header_variables, told, behind_two, header_line, up_to};
+ghost use Rattle.vx_dimacs.specs.Dimacs.{is_numbered, is_variable_name, is_visible, named, clauses_of, header_clauses, told, behind_two, header_line, up_to};
 
 use crate::number::{Mark, TOO_MANY};
 use std::alloc::Global;

@@ -1,10 +1,7 @@
 //! Numbers of clauses.
 
-ghost use Rattle.std.specs.Prelude.{◌≡◌, ◌≤◌, length, Some, None, IsSome, IsTrue, ◌↔◌};
-ghost use Rattle.std.specs.List.{list_any};
-ghost use Rattle.vx_words.specs.Decimal.{decimal};
-ghost use Rattle.vx_words.specs.Lines.{words};
-ghost use Rattle.vx_dimacs.specs.Dimacs.{unsigned, is_negative, is_number, mark_of, up_to};
+ghost use Rattle.std.specs.Prelude.{◌≡◌, Some, None};
+ghost use Rattle.vx_dimacs.specs.Dimacs.{unsigned, is_negative, is_number, mark_of};
 
 use vx_words::decimal_up_to;
 

@@ -1,11 +1,11 @@
 //! Reading a feature model from a DIMACS text, line by line.
 
-ghost use Rattle.std.specs.Prelude.{◌≡◌, ◌+◌, ◌<◌, ◌≤◌, ◌∷◌, ◌==◌, length, position, slice_get, option_copied, IfOk, IfSome, OnOk, List, ℕ, Option, is_some, if◌then◌else◌};
+ghost use Rattle.std.specs.Prelude.{◌≡◌, ◌+◌, ◌<◌, ◌≤◌, ◌∷◌, ◌==◌, position, slice_get, option_copied, IfOk, IfSome, ℕ, Option, is_some, if◌then◌else◌};
 ghost use Rattle.vx_words.specs.Lines.{lines, words};
 ghost use Rattle.vx_model.specs.Answers.{Answers, Judges};
 ghost use Rattle.vx_model.specs.Models.{IsModel};
 ghost use Rattle.vx_dimacs.specs.Draft.{drafted};
-ghost use Rattle.vx_dimacs.specs.Dimacs.{numeral, plain_option, option_at, option_for, options_upto, is_nothing, ended, end_of, told_by, first_told, dimacs_of};
+ghost use Rattle.vx_dimacs.specs.Dimacs.{numeral, plain_option, option_at, option_for, options_upto, end_of, told_by, first_told, dimacs_of};
 
 use crate::draft::{Draft, line_of};
 use crate::line::{NO_HEADER, told};

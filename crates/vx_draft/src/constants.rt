@@ -1,6 +1,6 @@
 //! The constants of a class that is assembled, in the order in which they are first needed.
 
-ghost use Rattle.std.specs.Prelude.{◌≡◌, ◌+◌, ◌%◌, ◌≤◌, ◌<◌, ◌++◌, ◌∷◌, [], length, option_copied, OnOk, IfOk};
+ghost use Rattle.std.specs.Prelude.{◌≡◌, ◌+◌, ◌%◌, ◌≤◌, ◌<◌, ◌++◌, ◌∷◌, option_copied, OnOk, IfOk};
 ghost use Rattle.std.specs.List.{list_any, flat_map};
 ghost use Rattle.std.specs.Str.{bytes_eq};
 ghost use Rattle.vx_draft.specs.Constants.{is_same_kind, is_same, with, with_text, with_class, with_literal, with_name_and_type, with_member, with_constant, width, index_of, places, in_file, in_file_or_zero, text_entry, member_entry, entry_of, entries_of, pool_of};

@@ -1,8 +1,8 @@
 //! The labels of a method's body.
 
-ghost use Rattle.std.specs.Prelude.{◌≡◌, ◌+◌, ◌≤◌, ◌<◌, length, ◌++◌, ◌∷◌, [], ◌^◌, IfOk};
+ghost use Rattle.std.specs.Prelude.{◌≡◌, ◌+◌, ◌≤◌, ◌<◌, ◌++◌, ◌∷◌, [], ◌^◌, IfOk};
 ghost use Rattle.std.specs.Str.{bytes_eq};
-ghost use Rattle.vx_draft.specs.Bodies.{after, labels_from, labels_of, find_label};
+ghost use Rattle.vx_draft.specs.Bodies.{after, labels_of, find_label};
 
 use std::alloc::{AllocError, Global};
 use vx_list::Items;

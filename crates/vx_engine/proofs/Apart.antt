@@ -1,5 +1,5 @@
 -- Texts are found at allowed configurations alone.
-use Rattle.std.proofs.Common.{◌≡◌, Bool, true, false, cond, List, [], ◌∷◌, ◌++◌, Option, Some, None, refl, sym, ap, ◌∙◌}
+use Rattle.std.proofs.Common.{◌≡◌, Bool, true, false, cond, List, [], ◌∷◌, ◌++◌, Option, Some, None, refl, ap, ◌∙◌}
 use Rattle.std.specs.Prelude.{not, ◌&&◌}
 use Rattle.std.specs.List.{list_all}
 use Rattle.vx_cond.specs.Leaves.{value_at}
@@ -12,7 +12,7 @@ use Rattle.vx_java.specs.Lockstep.{piece_of}
 use Rattle.vx_java.specs.Step.{Config}
 use Rattle.vx_link.specs.declared.program.Program.{Program}
 use Rattle.vx_rounds.specs.Rounds.{IsRound, pieces_in, written}
-use Rattle.vx_rounds.specs.State.{IsNowhere, Standing, StateView, shared_ids, standing_at}
+use Rattle.vx_rounds.specs.State.{IsNowhere, StateView, shared_ids}
 use Rattle.vx_space.specs.Sets.{AreKept, Sets}
 
 -- no set of the values holds a configuration

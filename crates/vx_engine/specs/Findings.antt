@@ -1,5 +1,5 @@
 -- What all runs have come to, and that this is what the report of lockstep says (own).
-use Rattle.std.specs.Prelude.{◌≡◌, not, ℕ, Bool, true, false, List, map, filter, length, Contains, Option, Some, None, ◌==◌, if◌then◌else◌, []}
+use Rattle.std.specs.Prelude.{◌≡◌, not, ℕ, Bool, true, false, List, map, filter, length, Contains, Some, None, ◌==◌, if◌then◌else◌, []}
 use Rattle.std.specs.List.{list_all}
 use Rattle.std.specs.Ordering.{nat_cmp}
 use Rattle.vx_space.specs.Sets.{Sets, AreKnown}

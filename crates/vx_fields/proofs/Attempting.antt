@@ -1,5 +1,5 @@
 -- An attempt over a heap whose static fields and initialisation states changed.
-use Rattle.std.proofs.Common.{◌≡◌, ℕ, Bool, true, false, List, [], ◌∷◌, ◌&&◌, refl, sym, ◌∙◌, ap, map}
+use Rattle.std.proofs.Common.{◌≡◌, Bool, true, false, List, [], ◌∷◌, ◌&&◌, refl, ◌∙◌, ap, map}
 use Rattle.std.specs.Prelude.{Option, slice_get}
 use Rattle.std.specs.List.{list_all}
 use Rattle.vx_frame.specs.Frame.{PlainFrame, frame_at}

@@ -1,7 +1,7 @@
 //! Runs that stop at a row that needs a class: where the row breaks a rule before it needs the class, where the class has
 //! failed, and where its initialisation begins (JVMS 5.5, 6.5).
 
-ghost use Rattle.std.specs.Prelude.{◌≡◌, ◌&&◌, IfOk, not};
+ghost use Rattle.std.specs.Prelude.{◌&&◌, IfOk, not};
 ghost use Rattle.vx_group.specs.Group.{IsGroup, IsPartOf, path_of};
 ghost use Rattle.vx_heap.specs.Heap.{HeapView};
 ghost use Rattle.vx_java.specs.Ids.{HasClassNumbers};

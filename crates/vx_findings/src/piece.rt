@@ -1,6 +1,5 @@
 //! Pieces of output.
 
-ghost use Rattle.std.specs.Prelude.{◌≡◌};
 ghost use Rattle.vx_findings.specs.Orders.{piece_cmp, piece_total, piece_exact};
 
 use crate::ranked::Ranked;

@@ -1,6 +1,6 @@
 //! Values with the configurations that have them: ascending, each once.
 
-ghost use Rattle.std.specs.Prelude.{◌≡◌, ◌<◌, ◌≤◌, IsTrue, OnOk, length};
+ghost use Rattle.std.specs.Prelude.{◌<◌, ◌≤◌, IsTrue, OnOk, length};
 ghost use Rattle.vx_space.specs.Sets.{IsKnown, Extends};
 ghost use Rattle.vx_cond.specs.Leaves.{AreLeaves, AreLeavesOf, IsApart, IsPlace, value_at, value_under};
 ghost use Rattle.vx_findings.specs.Shared.{leaves_of};

@@ -1,6 +1,6 @@
 //! Texts of the constant pool as UTF-16 (JVMS 4.4.7).
 
-ghost use Rattle.std.specs.Prelude.{◌≡◌, ◌<◌, [], ◌∷◌, ◌++◌, length, IfOk, MatchOption};
+ghost use Rattle.std.specs.Prelude.{◌≡◌, ◌<◌, [], ◌∷◌, length, IfOk, MatchOption};
 ghost use Rattle.vx_java.specs.FirstObjects.{unit_of_three, unit_of_two, units_of};
 
 use std::alloc::{AllocError, Global};

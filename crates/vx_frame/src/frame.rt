@@ -1,6 +1,6 @@
 //! Frames (JVMS 2.6): a row of locals and a row of operands of one scope, at one position of one method.
 
-ghost use Rattle.std.specs.Prelude.{◌≡◌, ◌++◌, ◌&&◌, ◌||◌, ℕ, ◌<◌, ◌^◌, List, Bool, IfOk, OnOk, length, replicate};
+ghost use Rattle.std.specs.Prelude.{◌≡◌, ◌++◌, ◌&&◌, ◌||◌, ◌<◌, ◌^◌, List, Bool, IfOk, OnOk, length, replicate};
 ghost use Rattle.vx_space.specs.Sets.{IsKnown, IsSet, Extends};
 ghost use Rattle.vx_cond.specs.Cond.{AreDisjoint};
 ghost use Rattle.vx_cond.specs.Row.{IsRow};

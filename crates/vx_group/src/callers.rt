@@ -1,6 +1,6 @@
 //! The tree of caller frames. A node never changes while it is kept, and only `sweep` drops nodes.
 
-ghost use Rattle.std.specs.Prelude.{◌≡◌, ◌++◌, [], ℕ, Some, IfOk, OnOk, OnErr, count_by, is_some, option_copied};
+ghost use Rattle.std.specs.Prelude.{◌≡◌, ◌++◌, [], Some, IfOk, OnOk, OnErr, count_by, is_some, option_copied};
 
 use slab::Slab;
 use std::alloc::{AllocError, Global};

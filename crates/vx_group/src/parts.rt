@@ -1,6 +1,6 @@
 //! The parts of a key below the top, as a stack.
 
-ghost use Rattle.std.specs.Prelude.{◌≡◌, [], ◌∷◌, length, reverse, IfOk, IfSome, IfNone, OnOk, OnErr};
+ghost use Rattle.std.specs.Prelude.{◌≡◌, [], ◌∷◌, length, reverse, IfOk, IfSome, IfNone, OnErr};
 
 use std::alloc::{AllocError, Global};
 use std::marker::Model;

@@ -3,7 +3,7 @@
 ghost use Rattle.std.specs.Prelude.{◌≡◌, ℕ, ◌<◌, true, length, None, if◌then◌else◌, ◌&&◌, not, nat_eq, IfOk, OnOk, OnErr};
 ghost use Rattle.slab.specs.Slab.{get as slot};
 ghost use Rattle.std.specs.HashSet.{contains};
-ghost use Rattle.vx_group.specs.Callers.{node_at, AreNodes};
+ghost use Rattle.vx_group.specs.Callers.{AreNodes};
 ghost use Rattle.vx_group.specs.Sweep.{IsSwept, IsReached, StandIn, caller_at, IsMarked, IsClosed, AddsReached};
 
 use crate::callers::{Caller, Callers};

@@ -1,5 +1,5 @@
 -- The groups that trials begin with.
-use Rattle.std.specs.Prelude.{◌≡◌, List, [], None, length}
+use Rattle.std.specs.Prelude.{◌≡◌, [], None, length}
 use Rattle.vx_value.specs.declared.ids.MethodId.{MethodId}
 use Rattle.vx_value.specs.declared.key.Kind.TheVariants.{Call}
 use Rattle.vx_space.specs.Sets.{Sets}

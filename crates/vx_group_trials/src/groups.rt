@@ -1,6 +1,6 @@
 //! Groups of one frame and of two, which the trials begin with.
 
-ghost use Rattle.std.specs.Prelude.{◌≡◌, ◌∷◌, ◌<◌, [], List, Bool, IfOk};
+ghost use Rattle.std.specs.Prelude.{◌≡◌, ◌∷◌, ◌<◌, List, Bool, IfOk};
 ghost use Rattle.vx_space.specs.Sets.{IsKnown};
 ghost use Rattle.vx_frame.specs.Frame.{shape_of};
 ghost use Rattle.vx_group.specs.Callers.{Keeps};

@@ -4,7 +4,7 @@ ghost use Rattle.std.specs.Prelude.{◌≡◌, ◌<◌, true, IfOk};
 ghost use Rattle.vx_space.specs.Sets.{IsKnown, Extends};
 ghost use Rattle.vx_value.specs.Slot.{slot_cmp};
 ghost use Rattle.vx_heap.specs.Heap.{has_option};
-ghost use Rattle.vx_heap.specs.Lifted.{option_of, option_slot, options_known, slots_of, AreLifted, AreSame, AreStatics, IsCells, IsLifted, IsSame, IsStatic, IsThroughout};
+ghost use Rattle.vx_heap.specs.Lifted.{option_of, option_slot, options_known, AreLifted, AreSame, AreStatics, IsCells, IsLifted, IsSame, IsStatic, IsThroughout};
 
 use crate::object::HeapObject;
 use std::alloc::{AllocError, Global};

@@ -1,7 +1,7 @@
 //! The call of println of an int (JVMS 6.5 invokevirtual): what the name comes to is the same in all runs; then the group is
 //! divided by its receivers, and each part has one outcome.
 
-ghost use Rattle.std.specs.Prelude.{◌≡◌, ◌<◌, [], Err, IfOk, IfSome, IsNone, false, length, true};
+ghost use Rattle.std.specs.Prelude.{◌≡◌, ◌<◌, [], Err, IfOk, IfSome, IsNone, false, true};
 ghost use Rattle.vx_space.specs.Sets.{Sets, Extends};
 ghost use Rattle.vx_group.specs.Group.{path_of};
 ghost use Rattle.vx_java.specs.Calls.{call_instance};

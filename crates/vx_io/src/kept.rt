@@ -1,8 +1,8 @@
 //! Files that are kept in memory as pairs of a path and bytes.
 
-ghost use Rattle.std.specs.Prelude.{◌≡◌, ℕ, ◌<◌, ◌++◌, ◌∷◌, List, length, take, map, string_bytes, IfOk, OnOk};
+ghost use Rattle.std.specs.Prelude.{◌≡◌, ◌<◌, ◌++◌, take, map, string_bytes, IfOk, OnOk};
 ghost use Rattle.std.specs.Option.{option_copied, option_to_list};
-ghost use Rattle.vx_io.specs.Held.{contents, below, file_at, are_distinct as distinct, IsListing};
+ghost use Rattle.vx_io.specs.Held.{below, file_at, are_distinct as distinct, IsListing};
 ghost use Rattle.vx_io.specs.Kept.{held_of};
 
 use std::alloc::{AllocError, Global};

@@ -1,7 +1,6 @@
 //! A sink in memory that refuses for want of memory alone.
 
-ghost use Rattle.std.specs.Prelude.{◌≡◌, ◌≤◌, ◌<◌, [], ◌++◌, length, take, IfOk, OnErr, Some, IsOkUnless};
-ghost use Rattle.vx_io.specs.Rose.{Rose};
+ghost use Rattle.std.specs.Prelude.{◌≡◌, ◌≤◌, ◌<◌, [], ◌++◌, length, take, IfOk, OnErr, Some};
 
 use crate::fault::SinkFault;
 use crate::sink::Sink;

@@ -1,5 +1,5 @@
 -- The method with which a run begins, found class by class.
-use Rattle.std.proofs.Common.{◌≡◌, ◌<◌, ◌+◌, ℕ, List, ◌∷◌, drop, get_or, length, add-one, drop-cons, map, refl, sym, ap, ◌∙◌, Bool, true, false, find, flat_map, filter, bytes_eq, if◌then◌else◌, slice_get, Option, Some, None, unwrap_or}
+use Rattle.std.proofs.Common.{◌≡◌, ◌<◌, ◌+◌, ℕ, List, ◌∷◌, drop, get_or, length, add-one, drop-cons, map, refl, sym, ap, ◌∙◌, Bool, true, false, find, flat_map, filter, bytes_eq, if◌then◌else◌, slice_get, Some, None, unwrap_or}
 use Rattle.std.specs.Option.{option_or}
 use Rattle.std.proofs.lemmas.List.Folds.{find-append}
 use Rattle.vx_link.specs.Cells.{main_in}

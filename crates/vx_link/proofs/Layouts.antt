@@ -1,11 +1,10 @@
 -- The layout of objects, as tables give it.
-use Rattle.std.proofs.Common.{◌≡◌, ℕ, List, [], ◌∷◌, ◌++◌, ◌+◌, ◌-◌, ◌*◌, ◌<◌, ◌≤◌, map, length, drop, filter, refl, ap, sym, ◌∙◌, Bool, true, false, not, ◌&&◌, Option, Some, None, option_map, unwrap_or, slice_get, nat_lt, zero, suc, arith, append_assoc, subst, add-one, if◌then◌else◌}
+use Rattle.std.proofs.Common.{◌≡◌, ℕ, List, [], ◌∷◌, ◌++◌, ◌+◌, ◌-◌, ◌*◌, ◌<◌, ◌≤◌, map, length, drop, filter, refl, ap, sym, ◌∙◌, Bool, true, false, not, ◌&&◌, Option, Some, None, option_map, unwrap_or, slice_get, nat_lt, zero, suc, arith, add-one, if◌then◌else◌}
 use Rattle.std.specs.List.{All, range_with_len}
-use Rattle.std.specs.Option.{option_copied}
 use Rattle.std.proofs.lemmas.List.{length-map}
 use Rattle.std.proofs.lemmas.List.FromFn.{map-range_with_len_more}
 use Rattle.vx_list.specs.Places.{item_or}
-use Rattle.vx_link.specs.Cells.{instance_fields_in, instance_counts, cells_above, fields_before, all_cells, with_cells}
+use Rattle.vx_link.specs.Cells.{instance_fields_in, instance_counts, cells_above, fields_before, with_cells}
 use Rattle.vx_link.specs.Few.{HasFewFields}
 use Rattle.vx_link.specs.Hierarchy.{chain_within, superclass_of, superclasses}
 use Rattle.vx_link.specs.Linked.{cell_count, instance_fields, layout, fields_with_layout}

@@ -1,5 +1,5 @@
 -- The parts of a program, one class more.
-use Rattle.std.proofs.Common.{◌≡◌, ℕ, List, [], ◌∷◌, ◌++◌, ◌+◌, ◌*◌, ◌<◌, ◌≤◌, ◌^◌, map, length, drop, refl, ap, sym, ◌∙◌, Bool, true, false, Option, Some, None, is_some, if◌then◌else◌, zero, suc, arith, append_assoc, length-append, subst}
+use Rattle.std.proofs.Common.{◌≡◌, ℕ, List, [], ◌∷◌, ◌++◌, ◌+◌, ◌≤◌, ◌^◌, map, length, drop, refl, ap, sym, ◌∙◌, Bool, true, false, is_some, if◌then◌else◌, zero, suc, arith, append_assoc, length-append}
 use Rattle.std.specs.List.{All, AllByRecursion}
 use Rattle.std.proofs.lemmas.List.FromFn.{length-map-range_with_len}
 use Rattle.std.proofs.lemmas.List.{length-map, map-append}

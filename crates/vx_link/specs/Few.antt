@@ -1,10 +1,8 @@
 -- How many members class files and programs have, so that numbers of 32 bits name them.
-use Rattle.std.specs.Prelude.{length, ℕ, ◌*◌, ◌<◌, ◌≤◌, List}
-use Rattle.std.specs.List.{AllByRecursion}
+use Rattle.std.specs.Prelude.{length, ◌*◌, ◌<◌, ◌≤◌}
 use Rattle.vx_class.specs.declared.class_file.ClassFile.{ClassFile}
 use Rattle.vx_link.specs.declared.parts.Parts.{Parts}
 use Rattle.vx_link.specs.declared.program.LinkedClass.{LinkedClass}
-use Rattle.vx_link.specs.declared.program.Program.{Program}
 
 -- a class file counts its methods and its fields in two bytes each (JVMS 4.1)
 pub record HasFewMembers (c : ClassFile) : Type 0 where

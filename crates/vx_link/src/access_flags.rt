@@ -1,6 +1,6 @@
 //! Access flags of classes, methods and fields.
 
-ghost use Rattle.std.specs.Prelude.{⊤, List, [], ◌∷◌, codes};
+ghost use Rattle.std.specs.Prelude.{⊤, [], ◌∷◌, codes};
 
 use bitflags::{Flag, Flags, bitflag_items};
 

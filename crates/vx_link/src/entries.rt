@@ -2,7 +2,7 @@
 
 ghost use Rattle.std.specs.Prelude.{◌≡◌, ◌<◌, ◌^◌, length, map, find, position, option_map, slice_get, IfOk, IfSome};
 ghost use Rattle.std.specs.List.{range_with_len};
-ghost use Rattle.vx_link.specs.Linked.{is_main_method, methods_named, main_method, is_option, option_field};
+ghost use Rattle.vx_link.specs.Linked.{is_main_method, main_method, is_option, option_field};
 ghost use Rattle.vx_link.specs.Cells.{main_in};
 
 use crate::judging::{MAIN, MAIN_DESCRIPTOR};

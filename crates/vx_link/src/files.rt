@@ -1,11 +1,11 @@
 //! The class files of a folder and of the core, found by their names through tables that are filled once.
 
-ghost use Rattle.std.specs.Prelude.{◌≡◌, ◌+◌, ◌++◌, length, option_map, [], IfOk, MatchResult, fold, slice_get};
+ghost use Rattle.std.specs.Prelude.{◌≡◌, ◌+◌, ◌++◌, [], IfOk, slice_get};
 ghost use Rattle.std.specs.Option.{option_copied};
 ghost use Rattle.vx_names.specs.Names.{place_of};
 ghost use Rattle.vx_link.specs.Faults.{file_named, twice};
 ghost use Rattle.vx_link.specs.Tables.{names_of, HaveOwnNames, twice_among};
-ghost use Rattle.vx_link.specs.Answers.{IsFault, Judges};
+ghost use Rattle.vx_link.specs.Answers.{Judges};
 
 use crate::class_names::name_of;
 use crate::class_numbers::ClassNumbers;

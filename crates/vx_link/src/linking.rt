@@ -1,6 +1,6 @@
 //! Linking: from class files to a program, or the first fault (JVMS 5.3, 5.4).
 
-ghost use Rattle.std.specs.Prelude.{◌≡◌, ◌≤◌, All, IfOk, length, ◌<◌, ◌^◌};
+ghost use Rattle.std.specs.Prelude.{◌≡◌, ◌≤◌, All, IfOk, length, ◌<◌};
 ghost use Rattle.vx_class.specs.File.{Holds};
 ghost use Rattle.vx_link.specs.CoreFiles.{core_files, native_numbers};
 ghost use Rattle.vx_link.specs.Linked.{linked_program};

@@ -1,6 +1,6 @@
 //! The methods of a program, from those of class files.
 
-ghost use Rattle.std.specs.Prelude.{◌≡◌, ◌<◌, ◌++◌, drop, length, IfOk, IfSome, OnOk, unwrap_or, slice_get};
+ghost use Rattle.std.specs.Prelude.{◌≡◌, ◌<◌, ◌++◌, drop, length, IfOk, IfSome, OnOk, unwrap_or};
 ghost use Rattle.vx_list.specs.Places.{item_or};
 ghost use Rattle.vx_link.specs.Linked.{is_clinit_file, own_clinit, method_flags, linked_method, linked_methods, empty_clinit};
 

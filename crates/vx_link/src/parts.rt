@@ -1,6 +1,6 @@
 //! The parts of a program, class by class.
 
-ghost use Rattle.std.specs.Prelude.{◌≡◌, ◌+◌, ◌*◌, ◌<◌, ◌≤◌, ◌^◌, ◌++◌, [], ◌∷◌, length, map, IfOk, OnOk, if◌then◌else◌};
+ghost use Rattle.std.specs.Prelude.{◌≡◌, ◌+◌, ◌<◌, ◌≤◌, ◌^◌, ◌++◌, [], ◌∷◌, length, map, IfOk, OnOk, if◌then◌else◌};
 ghost use Rattle.std.specs.List.{AllByRecursion};
 ghost use Rattle.vx_link.specs.Few.{AreFew, HasFewMembers};
 ghost use Rattle.vx_link.specs.Linked.{linked_class, linked_classes, linked_field, fields_from, linked_methods, empty_clinit, methods_of_class, methods_from};

@@ -1,6 +1,6 @@
 //! What the entries of a pool are to a load of a constant (JVMS 6.5 ldc, ldc_w, ldc2_w).
 
-ghost use Rattle.std.specs.Prelude.{◌≡◌, ◌<◌, ◌^◌, IfOk, OnOk, codes, length};
+ghost use Rattle.std.specs.Prelude.{◌≡◌, ◌<◌, ◌^◌, IfOk, codes, length};
 ghost use Rattle.vx_code.specs.Lookups.{entry_of};
 ghost use Rattle.vx_link.specs.Names.{utf8};
 ghost use Rattle.vx_link.specs.Parts.{class_at};

@@ -1,6 +1,6 @@
 //! Groups that go past the instruction where a test holds.
 
-ghost use Rattle.std.specs.Prelude.{◌≡◌, IfOk};
+ghost use Rattle.std.specs.Prelude.{IfOk};
 ghost use Rattle.std.specs.Ordering.{bool_cmp};
 ghost use Rattle.vx_space.specs.Sets.{Extends};
 ghost use Rattle.vx_cond.specs.Leaves.{AreLeaves};

@@ -1,9 +1,9 @@
 -- What is read from tokens is in the grammar.
 use Rattle.std.proofs.Common.{◌≡◌, ℕ, zero, suc, List, [], ◌∷◌, length, refl, sym, ap, ◌∙◌, subst, Option, Some, None}
 use Rattle.std.proofs.lemmas.Option.{same_Some}
-use Rattle.vx_model.specs.Formula.{Formula, formulas}
+use Rattle.vx_model.specs.Formula.{Formula}
 use Rattle.vx_model.specs.Formula as tree
-use Rattle.vx_model.specs.Grammar.{Imp, Or, Ands, And, Nots, Not, IsRule, conjunction, disjunction}
+use Rattle.vx_model.specs.Grammar.{Imp, Or, Ands, And, Nots, Not, IsRule}
 use Rattle.vx_model.specs.Grammar as grammar
 use Rattle.vx_model.specs.Parser.{Reads, ◌>>=◌, if_some, behind, behind_arrow, whole, further, joined, atom, closed, Level, not_over, arrow_over, imp_over, lowest, level, of_all, parsed}
 use Rattle.vx_model.specs.declared.token.Token.{Token}

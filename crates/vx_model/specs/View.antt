@@ -1,6 +1,6 @@
 -- How a rule of the program is seen.
 use Rattle.vx_model.specs.Formula as tree
-use Rattle.vx_model.specs.Formula.{Formula, Formulas, formulas}
+use Rattle.vx_model.specs.Formula.{Formula, formulas}
 use Rattle.vx_model.specs.declared.expr.Form.{Form}
 use Rattle.vx_model.specs.declared.expr.Form.TheVariants.{True, False, Named, Not, And, Or, Implies}
 

@@ -1,6 +1,6 @@
 //! The set of allowed configurations.
 
-ghost use Rattle.std.specs.Prelude.{◌≡◌, ◌<◌, length, IfOk, List, Bool};
+ghost use Rattle.std.specs.Prelude.{◌≡◌, ◌<◌, length, IfOk};
 ghost use Rattle.vx_space.specs.Sets.{IsSet, Extends};
 ghost use Rattle.vx_model.specs.Truth.{truth, all_true, any_true, NamesBelow, AllNamesBelow};
 ghost use Rattle.vx_model.specs.Formula.{formulas};

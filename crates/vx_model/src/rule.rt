@@ -1,6 +1,6 @@
 //! Reading a rule from its tokens, from left to right. The calls nest by the nesting of the rule alone.
 
-ghost use Rattle.std.specs.Prelude.{◌≡◌, ◌<◌, ◌≤◌, ◌∷◌, [], length, IfOk, IfSome, IfNone};
+ghost use Rattle.std.specs.Prelude.{◌≡◌, ◌<◌, ◌∷◌, [], length, IfOk, IfSome, IfNone};
 ghost use Rattle.std.specs.Option.{option_map};
 ghost use Rattle.vx_model.specs.Parser.{Gives, Answers, level, joined, part_at, behind, behind_arrow, deeper, atom, whole, parsed, closed};
 

@@ -1,9 +1,8 @@
 //! What a line of a model's text says.
 
 ghost use Rattle.std.specs.Prelude.{◌≡◌, ◌≤◌, ◌<◌, length, IfOk, map, Some, None};
-ghost use Rattle.std.specs.Option.{option_map};
-ghost use Rattle.std.specs.List.{list_all, list_any};
-ghost use Rattle.vx_words.specs.Lines.{words, is_plain, behind_word};
+ghost use Rattle.std.specs.List.{list_any};
+ghost use Rattle.vx_words.specs.Lines.{words};
 ghost use Rattle.vx_model.specs.Text.{begins_comment, slash, is_same_place, clashes, declared, option_line, is_unknown, rule_line, statement_of};
 ghost use Rattle.vx_model.specs.Answers.{Judges};
 

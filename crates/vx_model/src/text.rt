@@ -1,6 +1,6 @@
 //! Reading the text of a feature model, line by line.
 
-ghost use Rattle.std.specs.Prelude.{◌≡◌, ◌+◌, ◌<◌, ◌≤◌, length, IfOk, OnOk, List};
+ghost use Rattle.std.specs.Prelude.{◌≡◌, ◌+◌, ◌<◌, IfOk, OnOk};
 ghost use Rattle.vx_model.specs.Text.{with_statement, model_of};
 ghost use Rattle.vx_model.specs.Models.{IsModel};
 ghost use Rattle.vx_model.specs.Answers.{Answers, fault_at};

@@ -1,7 +1,7 @@
 //! Reading the constant pool (JVMS 4.4): a count, and behind it the entries from index 1 on, each behind its tag.
 
-ghost use Rattle.std.specs.Prelude.{◌≡◌, ◌+◌, ◌-◌, ◌<◌, ◌≤◌, ◌^◌, ℕ, List, [], ◌∷◌, ◌++◌, true, false, sum_by, IfOk, OnErr, OnOk};
-ghost use Rattle.vx_reading.specs.Reading.{Gives, GivesBy, with_front, IsReadAs};
+ghost use Rattle.std.specs.Prelude.{◌≡◌, ◌+◌, ◌-◌, ◌<◌, ℕ, List, [], ◌∷◌, ◌++◌, false, sum_by, IfOk, OnErr};
+ghost use Rattle.vx_reading.specs.Reading.{Gives, with_front, IsReadAs};
 ghost use Rattle.vx_reading.specs.Place.{IsBytes};
 ghost use Rattle.vx_pool.specs.Spelling.{pool_bytes, IsPool};
 ghost use Rattle.vx_reading.specs.Took.{Took};

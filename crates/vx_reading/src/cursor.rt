@@ -1,7 +1,7 @@
 //! A place in a file, from which numbers and bytes are read. Numbers stand with their highest byte first (JVMS 4).
 
-ghost use Rattle.std.specs.Prelude.{◌≡◌, ◌+◌, ◌^◌, ◌<◌, ◌≤◌, ◌==◌, length, Err, OnOk, OnErr, IfOk};
-ghost use Rattle.vx_reading.specs.Place.{start, past, file_length};
+ghost use Rattle.std.specs.Prelude.{◌≡◌, ◌+◌, ◌^◌, ◌<◌, ◌==◌, length, Err, OnOk, OnErr, IfOk};
+ghost use Rattle.vx_reading.specs.Place.{start, file_length};
 ghost use Rattle.vx_reading.specs.Reading.{Gives, GivesBy, Answers, number, room, bytes};
 
 use crate::fault::ClassFault;

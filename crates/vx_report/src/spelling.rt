@@ -1,8 +1,8 @@
 //! Words of a report, put behind what is written already.
 
-ghost use Rattle.std.specs.Prelude.{◌≡◌, ◌++◌, ◌<◌, OnOk, codes, decimal};
+ghost use Rattle.std.specs.Prelude.{◌≡◌, ◌++◌, ◌<◌, OnOk, decimal};
 ghost use Rattle.std.specs.Fmt.{signed_decimal};
-ghost use Rattle.vx_value.specs.Words.{hex_digit, spelled_byte, spelled, is_plain};
+ghost use Rattle.vx_value.specs.Words.{hex_digit, spelled_byte, spelled};
 
 use itoa::Buffer;
 use std::alloc::AllocError;

@@ -1,9 +1,9 @@
 //! Reports in their one spelling.
 
-ghost use Rattle.std.specs.Prelude.{◌≡◌, ◌++◌, ◌+◌, ◌<◌, ◌^◌, [], ◌∷◌, OnOk, IfOk, map, length, codes};
+ghost use Rattle.std.specs.Prelude.{◌≡◌, ◌++◌, ◌+◌, ◌<◌, OnOk, IfOk, map, length, codes};
 ghost use Rattle.std.specs.List.{flat_map};
 ghost use Rattle.vx_value.specs.Words.{word_of};
-ghost use Rattle.vx_report.specs.declared.line.Line.TheVariants.{Head, Count, Named, Limit, Rounds, Numbered, Printed, Ended, Spent, Done};
+ghost use Rattle.vx_report.specs.declared.line.Line.TheVariants.{Head, Count, Named, Limit, Rounds, Numbered, Printed, Ended, Spent};
 ghost use Rattle.vx_report.specs.Lines.{whole_line, kind_word, unsupported_words, end_words, stream_word};
 ghost use Rattle.vx_report.specs.Text.{numbered, front_lines, found_lines, report_text};
 

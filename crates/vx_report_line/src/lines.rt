@@ -1,6 +1,6 @@
 //! Texts cut into lines.
 
-ghost use Rattle.std.specs.Prelude.{◌≡◌, ◌≢◌, ℕ, ◌<◌, ◌∷◌, ◌++◌, length, slice_index, IfSome, MatchOption};
+ghost use Rattle.std.specs.Prelude.{◌≡◌, ◌<◌, ◌∷◌, ◌++◌, MatchOption};
 ghost use Rattle.vx_report_line.specs.LineEnds.{HasNoEnd};
 
 /// The first line of a text without the byte 10 that ends it, and what stands behind that byte; `None` where no byte 10

@@ -2,10 +2,8 @@
 
 ghost use Rattle.std.specs.Prelude.{◌≡◌, ◌≤◌, ◌-◌, ◌^◌, negsuc, IfOk, IfSome};
 ghost use Rattle.vx_value.specs.declared.end.Stream.{Stream};
-ghost use Rattle.vx_words.specs.Decimal.{is_digit};
 ghost use Rattle.vx_report_line.specs.Forms.{is_named, IsSpelled, IsOnly};
 ghost use Rattle.vx_report_line.specs.Parsing.{negative_in, positive_in, code_in, kind_in, unsupported_in, named_end_in, end_in, node_line_in, piece_in, end_line_in, attempts_in, head_in, count_in, name_in, limit_in, rounds_in, setting_in, front_in, last_in, printed_in, line_in};
-ghost use Rattle.std.specs.List.{list_all};
 ghost use Rattle.std.specs.Str.{bytes_eq};
 
 use crate::words::{behind, cut, leading, number, number_below, root, text_in, wide_number};

@@ -12,7 +12,7 @@ use Rattle.vx_report.specs.declared.line.Line.TheVariants.{Head, Count, Named, L
 use Rattle.vx_report.specs.Text.{numbered, front_lines, found_lines, report_lines}
 use Rattle.vx_report_line.specs.Forms.{is_line}
 use Rattle.vx_report_line.proofs.Numbers.{both_true}
-use Rattle.vx_report_reader.specs.Rules.{Draft, MayFollow, after, reached, AreGood, is_nil, numbers, prints, ends, spends}
+use Rattle.vx_report_reader.specs.Rules.{Draft, MayFollow, after, reached, AreGood, is_nil, numbers, prints, ends}
 use Rattle.vx_report_reader.specs.Rules as rules
 
 -- ---- some lines, then others

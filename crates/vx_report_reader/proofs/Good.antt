@@ -17,7 +17,7 @@ use Rattle.vx_report.specs.declared.line.Line.TheVariants.{Head, Count, Named, L
 use Rattle.vx_report.specs.Text.{numbered, front_lines, found_lines, report_lines}
 use Rattle.vx_report_line.specs.Forms.{is_line}
 use Rattle.vx_report_line.proofs.Numbers.{both_true}
-use Rattle.vx_report_reader.specs.Rules.{Draft, MayFollow, MayName, after, reached, AreGood, IsWalked, roots_of, is_nil, numbers, prints, ends, spends, is_done, comes_after, is_above, last_of}
+use Rattle.vx_report_reader.specs.Rules.{Draft, after, reached, AreGood, IsWalked, roots_of, is_nil, ends, comes_after, is_above, last_of}
 use Rattle.vx_report_reader.specs.Rules as rules
 use Rattle.vx_report_reader.specs.Lawful.{EachFollows, IsLawful}
 use Rattle.vx_report_reader.proofs.Drafts.{reached-append, named, nodes_said, pieces_said, ends_said, front_said, begun_report, with_nodes, with_pieces, with_ends, with_attempts, found_said, nil_of, two_empty, one_empty}

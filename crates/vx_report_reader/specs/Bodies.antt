@@ -8,7 +8,7 @@ use Rattle.vx_report.specs.declared.line.Line.{Line}
 use Rattle.vx_report_line.specs.Tables.{IsSetOf}
 use Rattle.vx_report_line.specs.Falls.{IsFalling}
 use Rattle.vx_report_reader.specs.declared.body.Body.{Body}
-use Rattle.vx_report_reader.specs.Rules.{Draft, MayFollow, after, roots_of}
+use Rattle.vx_report_reader.specs.Rules.{MayFollow, after, roots_of}
 use Rattle.vx_report_reader.specs.Rules as rules
 
 abbrev pub report_of : Body → Report

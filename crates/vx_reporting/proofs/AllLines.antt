@@ -1,29 +1,28 @@
 -- The report of findings is what a report of all runs has to be.
-use Rattle.std.proofs.Common.{◌≡◌, ℕ, ◌+◌, Bool, true, false, cond, List, [], ◌∷◌, ◌++◌, Option, Some, None, refl, sym, ap, ◌∙◌, subst, length, drop, map, filter, append-nil, append_assoc, Result, Ok, Err, Vec, Global, IfOk}
+use Rattle.std.proofs.Common.{◌≡◌, ℕ, ◌+◌, Bool, true, false, cond, List, [], ◌∷◌, ◌++◌, Some, None, refl, sym, ap, ◌∙◌, subst, length, drop, map, append-nil, append_assoc, Result, Ok, Err, Vec, Global, IfOk}
 use Rattle.std.specs.Prelude.{option_map, not, ◌==◌, if◌then◌else◌}
 use Rattle.std.specs.List.{list_all}
 use Rattle.std.specs.declared.alloc.AllocError.{AllocError}
 use Rattle.vx_space.specs.Sets.{AreKnown, Sets}
 use Rattle.vx_bdd_tools.specs.declared.node.Node.{Node}
 use Rattle.vx_bdd_tools.specs.Listing.{IsListing}
-use Rattle.vx_bdd_tools.specs.Numbering.{HoldAll, IsNumbered}
+use Rattle.vx_bdd_tools.specs.Numbering.{HoldAll}
 use Rattle.vx_engine.proofs.Apart.{none_holds}
-use Rattle.vx_engine.specs.Findings.{AreAllowed, AreFindings, FindingsView, IsNotFound, piece_by, report_by, shared_by}
+use Rattle.vx_engine.specs.Findings.{AreAllowed, AreFindings, FindingsView, report_by, shared_by}
 use Rattle.vx_findings.specs.declared.shared.Shared.{Shared}
 use Rattle.vx_findings.specs.declared.piece.Piece as written
 use Rattle.vx_java.specs.Report.{attempts_shown, lock_report, projection_of}
 use Rattle.vx_java.specs.Lockstep as lockstep
-use Rattle.vx_java.specs.Step.{Config, RunResult, run}
+use Rattle.vx_java.specs.Step.{Config, run}
 use Rattle.vx_link.specs.declared.program.Program.{Program}
 use Rattle.vx_report.specs.Projection.{attempts_in, project}
 use Rattle.vx_report.specs.Text.{report_text}
 use Rattle.vx_report.specs.declared.report.Report.{Report}
-use Rattle.vx_report.specs.declared.report.AttemptLine.{AttemptLine}
 use Rattle.vx_report_reader.specs.Rules.{roots_of}
 use Rattle.vx_rounds.specs.State.{shared_ids}
 use Rattle.vx_reporting.specs.Listed.{attempts_line, end_line, lines_with, piece_line, report_with}
-use Rattle.vx_reporting.specs.Reported.{IsReported, SaysLockstep, IsHeldNowhere, attempts_of, end_of, piece_of}
-use Rattle.vx_reporting.proofs.Matching.{AreParts, Hold, all_append, attempts_same, drop_more, end_same, held_nowhere, hold_behind, hold_first, hold_none, mapped_same, numbers_of, output_same, parts_of}
+use Rattle.vx_reporting.specs.Reported.{IsReported, SaysLockstep, attempts_of, end_of, piece_of}
+use Rattle.vx_reporting.proofs.Matching.{Hold, all_append, attempts_same, drop_more, end_same, held_nowhere, hold_behind, hold_first, hold_none, mapped_same, numbers_of, output_same, parts_of}
 
 -- the sets of the numbers of attempts, which version 2 alone shows
 abbrev spent_ids : {S I : Type 0} → Bool → List (Shared ℕ S I) → List I

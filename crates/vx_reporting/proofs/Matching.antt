@@ -1,6 +1,6 @@
 -- What the lines of a report say at a configuration is what the findings say there.
-use Rattle.std.proofs.Common.{◌≡◌, ℕ, zero, suc, ◌+◌, ◌≤◌, Bool, true, false, cond, List, [], ◌∷◌, ◌++◌, Option, Some, None, refl, sym, ap, ◌∙◌, arith, length, drop, map, filter, append-nil}
-use Rattle.std.specs.Prelude.{find, flat_map, option_map, not, ◌==◌, ◌&&◌, nat_eq, if◌then◌else◌}
+use Rattle.std.proofs.Common.{◌≡◌, ℕ, ◌+◌, Bool, true, false, cond, List, [], ◌∷◌, ◌++◌, Option, Some, None, refl, ap, ◌∙◌, arith, length, drop, map, filter}
+use Rattle.std.specs.Prelude.{find, flat_map, option_map, not, ◌&&◌}
 use Rattle.std.specs.List.{list_all}
 use Rattle.std.proofs.lemmas.Grind.{common_steps}
 use Rattle.vx_space.specs.Sets.{Sets}
@@ -13,14 +13,11 @@ use Rattle.vx_findings.specs.declared.shared.Shared.{Shared}
 use Rattle.vx_findings.specs.Shared.{leaves_of}
 use Rattle.vx_java.specs.Report.{bytes_of as bytes_of_piece}
 use Rattle.vx_java.specs.Step.{Config, RunResult}
-use Rattle.vx_report.specs.declared.report.AttemptLine.{AttemptLine}
-use Rattle.vx_report.specs.declared.report.EndLine.{EndLine}
 use Rattle.vx_report.specs.declared.report.Piece.{Piece}
 use Rattle.vx_report.specs.Projection.{attempts_in, bytes_of}
 use Rattle.vx_rounds.specs.State.{come_to, output_at, shared_ids}
 use Rattle.vx_value.specs.declared.end.End.{End}
 use Rattle.vx_value.specs.declared.end.Stream.{Stream}
-use Rattle.vx_list.specs.Places.{item_or}
 use Rattle.vx_reporting.specs.Listed.{attempts_line, end_line, lines_with, piece_line}
 
 -- numbers hold the sets of values, one after the other

@@ -1,10 +1,10 @@
 //! Runs that end at a return, by the value that is handed back.
 
-ghost use Rattle.std.specs.Prelude.{◌≡◌, Bool, IfOk, List, false, true, unwrap_or};
+ghost use Rattle.std.specs.Prelude.{◌≡◌, IfOk, true};
 ghost use Rattle.std.specs.Ordering.{bool_cmp};
-ghost use Rattle.vx_space.specs.Sets.{Extends, Sets};
-ghost use Rattle.vx_cond.specs.Leaves.{AreLeaves, value_at};
-ghost use Rattle.vx_group.specs.Group.{IsGroup, path_of};
+ghost use Rattle.vx_space.specs.Sets.{Sets};
+ghost use Rattle.vx_cond.specs.Leaves.{AreLeaves};
+ghost use Rattle.vx_group.specs.Group.{path_of};
 ghost use Rattle.vx_heap.specs.Heap.{HeapView};
 ghost use Rattle.vx_stands.specs.Sites.{Cover, Gives, GivesAt};
 ghost use Rattle.vx_returns.specs.Ends.{end_by, ended_by, ended_where};

@@ -1,6 +1,6 @@
 //! The lines of a source, each with its number from 1 on.
 
-ghost use Rattle.std.specs.Prelude.{◌≡◌, ◌∷◌, ◌++◌, [], length, IfOk, OnOk, if◌then◌else◌};
+ghost use Rattle.std.specs.Prelude.{◌≡◌, ◌∷◌, ◌++◌, [], IfOk, OnOk, if◌then◌else◌};
 ghost use Rattle.vx_source.specs.Reading.{Gives};
 ghost use Rattle.vx_source.specs.Lines.{is_skipped, first_word_of, ends_body, statement_in, said_of, line_of, source_of};
 

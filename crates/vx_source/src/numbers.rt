@@ -1,8 +1,7 @@
 //! Numbers in a source: decimal ones with a sign, and flags of four hexadecimal digits.
 
-ghost use Rattle.std.specs.Prelude.{◌≡◌, ◌+◌, ◌-◌, ◌*◌, ◌≤◌, ◌<◌, ◌^◌, min, drop, pos, slice_index, IsTrue, ◌==◌};
-ghost use Rattle.std.specs.Option.{option_map};
-ghost use Rattle.vx_words.specs.Decimal.{decimal, is_decimal, is_digit};
+ghost use Rattle.std.specs.Prelude.{◌≡◌, ◌+◌, ◌-◌, ◌*◌, ◌≤◌, ◌<◌, min, drop, slice_index, IsTrue, ◌==◌};
+ghost use Rattle.vx_words.specs.Decimal.{is_decimal, is_digit};
 ghost use Rattle.std.specs.List.{list_all};
 ghost use Rattle.vx_source.specs.Reading.{Gives};
 ghost use Rattle.vx_source.specs.Numbers.{magnitude, number_of, spelled, is_within, value, is_hex, hex_value, are_four_hex, four_hex};

@@ -1,6 +1,6 @@
 //! What may stand behind a mnemonic.
 
-ghost use Rattle.std.specs.Prelude.{◌≡◌, ◌+◌, ◌-◌, ◌≤◌, ◌<◌, ◌^◌, ◌==◌, ◌&&◌, length, drop, take, map, pos, true, false, position, int_le, ◌+ℤ◌, IfOk, IsTrue};
+ghost use Rattle.std.specs.Prelude.{◌≡◌, ◌+◌, ◌-◌, ◌≤◌, ◌<◌, ◌==◌, ◌&&◌, length, drop, map, pos, true, false, position, int_le, ◌+ℤ◌, IfOk, IsTrue};
 ghost use Rattle.std.specs.List.{list_all};
 ghost use Rattle.std.specs.Str.{bytes_eq};
 ghost use Rattle.vx_source.specs.Reading.{Gives, check};

@@ -1,6 +1,6 @@
 //! What a line says, by its first word.
 
-ghost use Rattle.std.specs.Prelude.{◌≡◌, length, IfOk, codes, if◌then◌else◌};
+ghost use Rattle.std.specs.Prelude.{◌≡◌, IfOk, codes, if◌then◌else◌};
 ghost use Rattle.vx_source.specs.Reading.{Gives};
 ghost use Rattle.vx_source.specs.Numbers.{are_four_hex, four_hex};
 ghost use Rattle.vx_source.specs.Tokens.{word_at};

@@ -1,7 +1,7 @@
 //! Texts in a source, and their modified UTF-8 (JVMS 4.4.7).
 
-ghost use Rattle.std.specs.Prelude.{◌≡◌, ◌+◌, ◌-◌, ◌*◌, ◌/◌, ◌%◌, ◌≤◌, ◌<◌, ◌++◌, ◌==◌, length, drop, take, slice_index, true, false, not, ◌&&◌, IsTrue, OnOk};
-ghost use Rattle.vx_source.specs.Reading.{Gives, GivesBy};
+ghost use Rattle.std.specs.Prelude.{◌≡◌, ◌+◌, ◌-◌, ◌*◌, ◌/◌, ◌%◌, ◌≤◌, ◌<◌, ◌++◌, ◌==◌, length, drop, take, true, false, not, ◌&&◌, IsTrue, OnOk};
+ghost use Rattle.vx_source.specs.Reading.{GivesBy};
 ghost use Rattle.vx_pool.specs.Text.{is_tail};
 ghost use Rattle.vx_source.specs.Texts.{quote_place, unit_bytes, low_bytes, piece_bytes, is_between, is_two, is_three, is_four, surrogates, escape_at, long_at, piece_at, piece_step, modified, is_quoted, text_of};
 

@@ -1,10 +1,9 @@
 //! The words of a line.
 
-ghost use Rattle.std.specs.Prelude.{◌≡◌, ◌+◌, ◌≤◌, ◌++◌, ◌∷◌, [], ◌==◌, length, drop, take, position, not, slice_index, codes, ◌&&◌, ◌||◌, OnOk, IfErr};
-ghost use Rattle.std.specs.List.{list_all};
+ghost use Rattle.std.specs.Prelude.{◌≡◌, ◌+◌, ◌++◌, ◌∷◌, [], ◌==◌, length, take, position, not, codes, ◌&&◌, ◌||◌, OnOk, IfErr};
 ghost use Rattle.std.specs.Str.{bytes_eq};
-ghost use Rattle.vx_words.specs.Lines.{is_blank, is_plain};
-ghost use Rattle.vx_source.specs.Reading.{Gives, GivesBy};
+ghost use Rattle.vx_words.specs.Lines.{is_blank};
+ghost use Rattle.vx_source.specs.Reading.{GivesBy};
 ghost use Rattle.vx_source.specs.Tokens.{word_at, blank_place, unindented, expects_text, begins_quoted, word_end, first_word, word_step, tokens};
 
 use crate::fault::{LineFault, refused};

@@ -1,6 +1,6 @@
 //! Configurations: which options are on.
 
-ghost use Rattle.std.specs.Prelude.{◌≡◌, ℕ, Bool, List, length, IfOk, slice_get};
+ghost use Rattle.std.specs.Prelude.{◌≡◌, Bool, List, IfOk, slice_get};
 ghost use Rattle.vx_space.specs.Config.{value_of};
 
 use std::alloc::{AllocError, Global};

@@ -1,10 +1,10 @@
 //! Sets of configurations of at most six options, as bits of one number. No call allocates or fails.
 
-ghost use Rattle.std.specs.Prelude.{◌≡◌, ◌≢◌, ℕ, ◌+◌, ◌^◌, ◌<◌, ◌≤◌, Bool, true, false, if◌then◌else◌, nat_eq, ◌-◌, ◌⊎◌, ◌↔◌, IsNone, IfSome, IsOk, IfOk, OnOk, List, ◌&&◌, ◌||◌, not};
+ghost use Rattle.std.specs.Prelude.{◌≡◌, ℕ, ◌+◌, ◌^◌, ◌<◌, ◌≤◌, true, false, if◌then◌else◌, nat_eq, ◌-◌, ◌⊎◌, ◌↔◌, IsNone, IfSome, IsOk, IfOk, OnOk, ◌&&◌, ◌||◌, not};
 ghost use Rattle.std.specs.Int.{bit_at};
 ghost use Rattle.std.proofs.lemmas.Map.Views.{exact_unsigned_eq};
 ghost use Rattle.vx_space.specs.Config.{value_of};
-ghost use Rattle.vx_space.specs.Sets.{Sets, IsKnown, IsTop, IsSet, Extends, IsCompacted, AreKnown};
+ghost use Rattle.vx_space.specs.Sets.{IsKnown, IsTop, IsSet, Extends, IsCompacted, AreKnown};
 ghost use Rattle.vx_space.specs.Mask.{masks, number_of, with_bit, HasBits};
 ghost use Rattle.vx_space.specs.MaskLaws.{lawful_masks};
 

@@ -1,6 +1,6 @@
 //! What every space of sets offers: the calls, what each means for the sets that the space knows, and the laws.
 
-ghost use Rattle.std.specs.Prelude.{◌≡◌, ◌≢◌, ℕ, ◌<◌, Bool, true, false, List, IfOk, OnOk, OnErr, IfSome, IsNone, ◌&&◌, ◌||◌, not, IsTrue, ◌↔◌, ◌⊎◌, map, All};
+ghost use Rattle.std.specs.Prelude.{◌≡◌, ◌<◌, true, false, IfOk, OnOk, OnErr, IfSome, IsNone, ◌&&◌, ◌||◌, not, IsTrue, ◌↔◌, ◌⊎◌, map};
 ghost use Rattle.vx_space.specs.Config.{value_of};
 ghost use Rattle.vx_space.specs.Sets.{Sets, IsKnown, IsSet, IsLawful, Extends, IsTop, IsCompacted, IsJustUnder, AreKnown};
 ghost use Rattle.vx_space.specs.Under.{IsNumberUnder};

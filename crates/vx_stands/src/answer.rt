@@ -1,6 +1,5 @@
 //! What an instruction makes of its operands at one configuration.
 
-ghost use Rattle.std.specs.Prelude.{◌≡◌};
 
 use vx_value::{ClassId, Exact, Slot};
 

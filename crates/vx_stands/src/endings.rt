@@ -1,6 +1,6 @@
 //! Groups that come to one outcome as a whole.
 
-ghost use Rattle.std.specs.Prelude.{◌≡◌, IfOk};
+ghost use Rattle.std.specs.Prelude.{IfOk};
 ghost use Rattle.vx_space.specs.Sets.{Sets};
 ghost use Rattle.vx_group.specs.Group.{IsGroup};
 ghost use Rattle.vx_java.specs.Machine.{go, illegal_in};

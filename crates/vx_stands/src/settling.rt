@@ -1,8 +1,8 @@
 //! Operands that have to fit in a method's greatest stack.
 
-ghost use Rattle.std.specs.Prelude.{◌≡◌, ◌+◌, ◌<◌, ◌≤◌, ◌^◌, Some, IfOk, Bool, List, length, nat_le, true};
+ghost use Rattle.std.specs.Prelude.{◌≡◌, ◌+◌, ◌<◌, ◌^◌, Some, IfOk, Bool, List, length, nat_le, true};
 ghost use Rattle.std.specs.Ordering.{bool_cmp, nat_cmp};
-ghost use Rattle.vx_space.specs.Sets.{Sets, Extends};
+ghost use Rattle.vx_space.specs.Sets.{Extends};
 ghost use Rattle.vx_cond.specs.Cond.{IsCond, cond_at};
 ghost use Rattle.vx_cond.specs.Leaves.{AreLeaves};
 ghost use Rattle.vx_cond.specs.Row.{IsRow};

@@ -2,11 +2,10 @@
 use Rattle.std.specs.Fmt.{signed_decimal}
 use Rattle.std.specs.Option.{option_cmp}
 use Rattle.std.specs.Ordering.{nat_cmp}
-use Rattle.std.specs.Prelude.{◌≡◌, ◌<◌, ℕ, ℤ, pos, zero, Bool, true, false, List, [], ◌∷◌, ◌++◌, ◌&&◌, ◌==◌, length, drop, Option, Some, None, unwrap_or, bytes_eq, codes}
+use Rattle.std.specs.Prelude.{◌≡◌, ◌<◌, ℕ, ℤ, pos, zero, Bool, true, false, List, [], ◌∷◌, ◌++◌, length, drop, Option, Some, None, unwrap_or}
 use Rattle.vx_cond.specs.declared.cond.Leaf.{Leaf}
 use Rattle.vx_cond.specs.Cond.{Conditional, cond_at}
 use Rattle.vx_cond.specs.Leaves.{AreLeaves, value_at}
-use Rattle.vx_families.specs.Built.{is_println_method}
 use Rattle.vx_frame.specs.Frame.{frame_at}
 use Rattle.vx_group.specs.Group.{GroupView, IsGroup, path_of}
 use Rattle.vx_heap.specs.Heap.{HeapView, IsHeap, name_at, objects_at}
@@ -16,7 +15,6 @@ use Rattle.vx_java.specs.Machine.{Outcome as PlainOutcome, Write, Int as IntValu
 use Rattle.vx_java.specs.Returns.{instruction_size}
 use Rattle.vx_java.specs.Texts.{stream_of_cell}
 use Rattle.vx_link.specs.Parts.{method_at}
-use Rattle.vx_link.specs.declared.program.LinkedMethod.{LinkedMethod}
 use Rattle.vx_list.specs.Places.{item_or}
 use Rattle.vx_opcode.specs.Decode.{instruction_at}
 use Rattle.vx_space.specs.Sets.{Sets}

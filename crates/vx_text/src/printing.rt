@@ -3,7 +3,7 @@
 
 ghost use Rattle.std.specs.Prelude.{◌≡◌, ◌<◌, ◌+◌, IfOk, OnOk, Bool, List, drop, false, length, true};
 ghost use Rattle.vx_class.specs.Members.{STATIC};
-ghost use Rattle.vx_space.specs.Sets.{Sets, Extends};
+ghost use Rattle.vx_space.specs.Sets.{Extends};
 ghost use Rattle.vx_cond.specs.Leaves.{AreLeaves};
 ghost use Rattle.vx_cond.specs.Row.{IsRow};
 ghost use Rattle.vx_value.specs.Slot.{slot_cmp};

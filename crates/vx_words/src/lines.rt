@@ -1,6 +1,6 @@
 //! The next line of a text, and the next word of a line.
 
-ghost use Rattle.std.specs.Prelude.{◌≡◌, ◌∷◌, [], ◌<◌, ◌≤◌, ◌+◌, length, IfSome, IsNone, ◌↔◌, drop, not, take_while};
+ghost use Rattle.std.specs.Prelude.{◌≡◌, ◌∷◌, [], ◌<◌, ◌≤◌, length, IfSome, IsNone, ◌↔◌, drop, take_while};
 ghost use Rattle.std.specs.List.{list_all, prefix_len, position_or_len};
 ghost use Rattle.vx_words.specs.Lines.{lines, words, is_blank, is_plain, is_line_feed, without_return, skip, behind_word};
 

@@ -1,5 +1,5 @@
 -- The one spelling of a class spells it.
-use Rattle.std.specs.Prelude.{◌≡◌, ℕ, zero, suc, ◌+◌, ◌<◌, ◌≤◌, ◌^◌, List, [], ◌∷◌, ◌++◌, length, filter, is_some, Bool, true, false, not, ◌&&◌, ◌||◌, Option, Some, None, codes, refl}
+use Rattle.std.specs.Prelude.{◌≡◌, ℕ, zero, suc, ◌+◌, ◌<◌, ◌^◌, List, [], ◌∷◌, length, filter, is_some, Bool, true, false, not, ◌&&◌, ◌||◌, Option, Some, None, codes, refl}
 use Rattle.std.specs.List.{flat_map, slice_get, position_or_len, AllByRecursion}
 use Rattle.std.proofs.Common.{ap, subst, ◌∙◌, arith, cond, length-append}
 use Rattle.std.proofs.lemmas.Bool.{lt-ltb}
@@ -14,7 +14,7 @@ use Rattle.vx_class.specs.declared.class_file.Method.{Method}
 use Rattle.vx_class.specs.declared.class_file.Code.{Code}
 use Rattle.vx_code.specs.Lookups.{text, utf8}
 use Rattle.vx_class.specs.Members.{has, INTERFACE, STATIC, is_given, is_text_of}
-use Rattle.vx_class.specs.Spelling.{u2, u4, Attribute, attribute_bytes, attributes_bytes, catch_bytes, code_bytes, IsAttribute, AreAttributes, One, IsOneAmong, constant_of, IsConstant, is_constant, IsCode, is_code, FieldSpells, MethodSpells, AllSpell, Spells}
+use Rattle.vx_class.specs.Spelling.{u2, Attribute, code_bytes, IsAttribute, AreAttributes, One, IsOneAmong, constant_of, IsConstant, is_constant, IsCode, is_code, FieldSpells, MethodSpells, AllSpell, Spells}
 use Rattle.vx_class.specs.File.{File}
 use Rattle.vx_writer.specs.Written.{is_text_entry, least_place, constant_attributes, field_bytes, code_attribute, code_attributes, method_bytes, head_bytes, members_bytes, spelling}
 

@@ -1,7 +1,7 @@
 //! The constant pool (JVMS 4.4), and the names that attributes have in it.
 
 ghost use Rattle.std.specs.Prelude.{◌≡◌, ◌++◌, OnOk, position};
-ghost use Rattle.std.specs.Int.{w32, w64, cast_unsigned};
+ghost use Rattle.std.specs.Int.{cast_unsigned};
 ghost use Rattle.std.specs.List.{flat_map};
 ghost use Rattle.byteorder.specs.Endian.{big_bytes};
 ghost use Rattle.vx_class.specs.Spelling.{u2};

@@ -1,4 +1,4 @@
-use Rattle.std.proofs.Common.{◌+◌, refl, arith}
+use Rattle.std.proofs.Common.{arith}
 use Rattle.vx_link.specs.Linked.{option_field}
 use Rattle.vx_link.proofs.Layouts.{numbered_more}
 use Rattle.vx_link.proofs.entries.option_fields.Goals as goal

@@ -1,4 +1,4 @@
-use Rattle.std.proofs.Common.{◌≡◌, Option, option_map, length, ap, sym, subst, ◌∙◌, arith}
+use Rattle.std.proofs.Common.{◌≡◌, Option, option_map, length, ap, subst, ◌∙◌, arith}
 use Rattle.vx_list.specs.Places.{item_or}
 use Rattle.vx_value.specs.declared.ids.ClassId.{ClassId}
 use Rattle.vx_link.specs.Linked.{instance_fields}

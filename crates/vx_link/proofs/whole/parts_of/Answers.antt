@@ -1,8 +1,5 @@
-use Rattle.std.proofs.Common.{◌≡◌, ◌++◌, ap, sym, ◌∙◌, arith}
-use Rattle.std.proofs.lemmas.List.{map-append}
-use Rattle.vx_link.specs.Faults.{name_of}
+use Rattle.std.proofs.Common.{◌++◌, ap, ◌∙◌, arith}
 use Rattle.vx_link.specs.Linked.{linked_classes}
-use Rattle.vx_link.specs.Tables.{names_of}
 use Rattle.vx_link.proofs.Numbering.{both_classes, both_methods, both_fields, names_of_both, so_many_classes}
 use Rattle.vx_link.proofs.whole.parts_of.Goals as goal
 

@@ -1,4 +1,4 @@
-use Rattle.std.proofs.Common.{◌≡◌, ◌++◌, ap, sym, subst, ◌∙◌, arith, List, length}
+use Rattle.std.proofs.Common.{◌++◌, ap, sym, subst, ◌∙◌, arith, List, length}
 use Rattle.std.specs.List.{All}
 use Rattle.std.proofs.lemmas.List.{length-append}
 use Rattle.vx_link.specs.Few.{HasFewFields}
