@@ -1,7 +1,6 @@
 -- Loops over the lines of a source, the instructions of a body and its catch rows.
-use Rattle.std.proofs.Common.{◌≡◌, ℕ, suc, ◌+◌, ◌<◌, ◌≤◌, List, [], ◌∷◌, ◌++◌, length, drop, get_or, Bool, true, Ok, Err, refl, sym, ap, ◌∙◌, arith, add-one, drop-cons, append_assoc, length-drop}
+use Rattle.std.proofs.Common.{◌≡◌, ℕ, ◌+◌, ◌<◌, List, [], ◌∷◌, ◌++◌, length, drop, get_or, Bool, true, Ok, Err, refl, sym, ap, ◌∙◌, append_assoc}
 use Rattle.std.specs.Prelude.{Result}
-use Rattle.std.proofs.lemmas.List.{nil_from_length}
 use Rattle.vx_source.specs.Reading.{Read, Fails, check}
 use Rattle.vx_source.specs.declared.fault.LineFault.{LineFault}
 use Rattle.vx_source.specs.declared.fault.LineFault.TheVariants as line_fault
@@ -17,13 +16,7 @@ use Rattle.vx_source.specs.declared.statement.CatchLine.{CatchLine}
 use Rattle.vx_asm.specs.declared.class_draft.Body.{Body}
 use Rattle.vx_asm.specs.Bodies.{places_from, with_caught, with_rows, are_known, is_lawful_row, with_row, catch_said}
 use Rattle.vx_asm.specs.Source.{Fault, onward, with_line, is_late, located, fault_at, walk, Refuses}
-
--- the item of an index, and those behind it
-front_is : {A : Type 0} (xs : List A) (i : ℕ) (x : A) → i < length xs → x ≡ get_or xs i x → drop i xs ≡ x ∷ drop (i + 1) xs
-front_is xs i x lt e = drop-cons xs i x lt ∙ ap (λ y. y ∷ drop (suc i) xs) (sym e) ∙ ap (λ k. x ∷ drop k xs) (sym (add-one i))
-
-pub none_left : {A : Type 0} (xs : List A) (i : ℕ) → length xs ≤ i → drop i xs ≡ []
-none_left {A = A} xs i le = nil_from_length (drop i xs) (omega (arith, length-drop i xs))
+use Rattle.vx_draft.proofs.Loops.{front_is}
 
 -- ---- places
 

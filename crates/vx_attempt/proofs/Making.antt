@@ -1,8 +1,7 @@
 -- From what a family made of a group to the attempt with native methods carried out, and what an attempt that isn't built means.
-use Rattle.std.proofs.Common.{◌≡◌, ℕ, ◌<◌, ◌+◌, ◌≤◌, zero, suc, Bool, true, false, List, [], ◌∷◌, ◌&&◌, refl, sym, ◌∙◌, ap, length, arith}
-use Rattle.std.proofs.lemmas.Bool.Decides.{nat_tests}
+use Rattle.std.proofs.Common.{◌≡◌, ℕ, ◌<◌, ◌+◌, ◌≤◌, zero, suc, Bool, true, false, List, [], ◌∷◌, ◌&&◌, refl, sym, ◌∙◌, ap, length}
 use Rattle.std.specs.List.{list_all}
-use Rattle.std.specs.Prelude.{◌≢◌, Ok, Err, Option, Some, None, nat_lt, ok_or}
+use Rattle.std.specs.Prelude.{◌≢◌, Ok, Err, Option, Some, None, ok_or}
 use Rattle.vx_class.specs.declared.class_file.Code.{Code}
 use Rattle.vx_space.specs.Sets.{Sets, Extends, IsLawful}
 use Rattle.vx_space.proofs.Differences.{some_difference}
@@ -42,6 +41,7 @@ use Rattle.vx_value.specs.declared.ids.ClassId.{ClassId}
 use Rattle.vx_attempt.specs.Attempted.{IsAttempted, IsUnbuiltThere, MayAttempt, carried_out_row}
 use Rattle.vx_attempt.specs.Carrying.{AreCarriedOut, HasUnbuilt}
 use Rattle.vx_attempt.proofs.Alone.{state_alone}
+use Rattle.vx_fields.proofs.Pools.{below}
 
 -- ---- the instruction where it stands
 
@@ -53,9 +53,6 @@ code_short : (methods : List LinkedMethod) (m : ℕ) → list_all (λ (m : Linke
 code_short [] m h = refl
 code_short (x ∷ xs) zero h = both_first (has_short_code x.code) (list_all (λ (m : LinkedMethod). has_short_code m.code) xs) h
 code_short (x ∷ xs) (suc m) h = code_short xs m (both_second (has_short_code x.code) (list_all (λ (m : LinkedMethod). has_short_code m.code) xs) h)
-
-below : (n : ℕ) → nat_lt n 65536 ≡ true → n < 65536
-below n h = grind (arith, nat_tests)
 
 pub code_is_short : (p : Program) (m : ℕ) (code : Code) → IsBounded p → (method_at p m).code ≡ Some code → length code.bytes < 65536
 code_is_short p m code b e = below (length code.bytes) (sym (ap has_short_code e) ∙ code_short p.methods m b.codes)

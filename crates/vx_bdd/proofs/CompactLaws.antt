@@ -9,12 +9,13 @@ use Rattle.vx_space.specs.Under.{fixed, Under, never, always, root, part}
 use Rattle.vx_space.specs.Sets.{IsSet, AreKept, IsCompacted, IsJustUnder}
 use Rattle.vx_bdd.specs.declared.node.Node.{Node}
 use Rattle.vx_bdd.specs.Diagram.{node_at, walk, reaches, is_stored, IsReduced}
-use Rattle.vx_bdd.specs.Canonical.{node_cases, walk-end, reaches-part, order_cases}
+use Rattle.vx_bdd.specs.Canonical.{node_cases, walk-end, reaches-part}
 use Rattle.vx_bdd.specs.Table.{id_of, IsIndex}
 use Rattle.vx_bdd.specs.Space.{sets_of}
 use Rattle.vx_bdd.specs.Marks.{Below, here, low, high, IsClosed, AreMarked, IsMarking, kept_id, IsSwept, IsBounded}
 use Rattle.vx_bdd.proofs.TableLaws.{some_same}
 use Rattle.vx_bdd.proofs.SpaceLaws.{IsTop-node}
+use Rattle.vx_bdd_tools.proofs.NodeSets.{order_cases}
 
 -- what a swept table has
 pub record KeepsMarked (has : ℕ → Bool) (old new : List (Option Node)) : Type 0 where

@@ -5,6 +5,7 @@ use Rattle.vx_space.specs.Config.{value_of, with_option, AgreeBelow}
 use Rattle.vx_space.proofs.Configs.{value_of-same, value_of-other}
 use Rattle.vx_bdd.specs.declared.node.Node.{Node}
 use Rattle.vx_bdd.specs.Diagram.{node_at, child, walk, reaches, is_stored, level_of, level, IsNode, IsReduced}
+use Rattle.vx_bdd_tools.proofs.NodeSets.{order_cases}
 
 -- an id has a node or not
 pub node_cases : (o : Option Node) → (o ≡ None) ⊎ ((node : Node) × (o ≡ Some node))
@@ -106,15 +107,6 @@ pub stored_end : {options : ℕ} {slots : List (Option Node)} → IsReduced opti
 stored_end r zero s n = inl refl
 stored_end r (suc zero) s n = inr refl
 stored_end r (suc (suc k)) s n = cc (s, n)
-
-pub order_cases : (i j : ℕ) → (i < j) ⊎ (j < i) ⊎ (i ≡ j)
-order_cases zero zero = inr (inr refl)
-order_cases zero (suc j) = inl (omega arith)
-order_cases (suc i) zero = inr (inl (omega arith))
-order_cases (suc i) (suc j) = elim (order_cases i j) [
-  | inl l ↦ inl (omega (arith, l))
-  | inr m ↦ elim m [ inl l ↦ inr (inl (omega (arith, l))) | inr e ↦ inr (inr (ap suc e)) ]
-]
 
 -- in a reduced table equal sets have equal ids, of ids with so many levels below
 abbrev pub IsCanonical : ℕ → List (Option Node) → ℕ → Type 0

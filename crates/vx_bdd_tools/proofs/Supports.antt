@@ -18,6 +18,7 @@ use Rattle.vx_bdd_tools.specs.Support.{IsSupport}
 use Rattle.vx_bdd_tools.proofs.Walks.{swap_values}
 use Rattle.vx_bdd_tools.proofs.NodeLists.{node_cases, node_within, walk-end}
 use Rattle.vx_bdd_tools.proofs.NodeSets.{node_rules, part_later, order_cases, holds-free, holds-part, holds-options, canonical}
+use Rattle.vx_space.specs.MaskLaws.{known_lt}
 
 -- the sets that the numbers of a list hold
 abbrev list_sets : ℕ → List Node → Sets ℕ
@@ -31,9 +32,6 @@ list_sets options nodes = record {
   count = 0;
   base = 0;
 }
-
-known_lt : (m n : ℕ) → nat_lt m n ≡ true → m < n
-known_lt m n e = grind (arith, nat_tests)
 
 lt_known : (m n : ℕ) → m < n → nat_lt m n ≡ true
 lt_known m n l = grind (arith, nat_tests)

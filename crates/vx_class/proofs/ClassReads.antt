@@ -221,7 +221,7 @@ field_attribute_passes pool static d a found few is not_mine =
 code_name : (a : Attribute) (pool : Pool) (t : List ℕ) → text pool a.name ≡ Some t → is_code pool a ≡ bytes_eq t (codes "Code")
 code_name a pool t is = ap (is_given (codes "Code")) is
 
-abbrev TakesCode : Pool → ℕ → ℕ → Bool → Code → Type 0
+abbrev pub TakesCode : Pool → ℕ → ℕ → Bool → Code → Type 0
 TakesCode pool major slots takes code = (takes ≡ true) × CodeHolds pool major slots code
 
 method_attribute_makes : (pool : Pool) (major slots : ℕ) (takes : Bool) (a : Attribute) (code : Code) → length pool.entries < 256 ^ 2 → IsAttribute pool a → is_code pool a ≡ true

@@ -1,12 +1,12 @@
 -- The bytes that are read hold the class.
-use Rattle.std.proofs.Common.{◌≡◌, ℕ, zero, suc, ◌+◌, ◌<◌, ◌≤◌, ◌^◌, List, [], ◌∷◌, ◌++◌, length, filter, ◌⊎◌, inl, inr, Bool, true, false, cond, Option, Some, None, Result, Ok, refl, sym, ap, subst, ◌∙◌, append_assoc, arith, ◌&&◌, ◌||◌}
+use Rattle.std.proofs.Common.{◌≡◌, ℕ, zero, suc, ◌+◌, ◌<◌, ◌≤◌, ◌^◌, List, [], ◌∷◌, ◌++◌, length, filter, ◌⊎◌, inl, inr, Bool, true, false, cond, Option, Some, None, Ok, refl, sym, ap, subst, ◌∙◌, append_assoc, arith, ◌&&◌, ◌||◌}
 use Rattle.std.specs.Prelude.{is_none, is_some, unwrap_or, codes, not, ◌==◌, nat_le, slice_get, IsTrue}
 use Rattle.std.proofs.lemmas.List.{append-nil, nil_from_length}
 use Rattle.std.proofs.lemmas.Bool.{eqb-true, leb-true}
 use Rattle.std.specs.List.{flat_map, AllByRecursion}
 use Rattle.std.specs.Str.{bytes_eq}
 use Rattle.vx_reading.specs.Place.{Place, IsBytes, start}
-use Rattle.vx_reading.specs.Reading.{Fault, Read, ◌>>=◌, check, number, steps, behind}
+use Rattle.vx_reading.specs.Reading.{Read, ◌>>=◌, check, number, steps, behind}
 use Rattle.vx_reading.specs.Took.{bind_ok, check_ok, ok_is, Took, Took-then, width2, width4, number_took}
 use Rattle.vx_pool.specs.declared.pool.Entry.{Entry}
 use Rattle.vx_pool.specs.declared.pool.Pool.{Pool}
@@ -28,9 +28,10 @@ use Rattle.vx_class.specs.Code.{content_at, code_at, all_skipped_at}
 use Rattle.vx_class.specs.Members.{has, STATIC, INTERFACE, is_constant_for, constant_at, field_attribute_at, constant_among, lawful_at, is_given, is_text_of, field_at, fields_at, method_attribute_at, code_among, takes_code, slots_of, method_at, methods_at}
 use Rattle.vx_class.specs.Class.{versions_at, checked_pool_at, interface_at, class_at, interfaces_at, head_at, file_at, class_of}
 use Rattle.vx_class.specs.Spelling.{u2, u4, MAGIC, Attribute, attribute_bytes, attributes_bytes, member_bytes, IsAttribute, AreAttributes, IsOneAmong, is_constant, IsConstant, is_code, IsCode, constant_of, FieldSpells, MethodSpells, AllSpell, Spells}
-use Rattle.vx_class.specs.File.{CodeHolds, CodeIs, EachBehind, FieldHolds, MethodHolds, IsInterfaceAt, IsClassAt, Holds, File}
-use Rattle.vx_class.proofs.Took.{at_end, utf8_took, content_took, all_skipped_took, ItemTook, counted_took, code_took}
+use Rattle.vx_class.specs.File.{CodeIs, EachBehind, FieldHolds, MethodHolds, IsInterfaceAt, IsClassAt, Holds, File}
+use Rattle.vx_class.proofs.Took.{at_end, utf8_took, content_took, all_skipped_took, ItemTook, counted_took, code_took, unit_is}
 use Rattle.vx_class.proofs.Among.{one_first, one_second, Steps, among_took}
+use Rattle.vx_class.proofs.ClassReads.{TakesCode}
 
 chosen : {A : Type 0} (b : Bool) (x y z : A) → cond b x y ≡ z → ((b ≡ true) × (x ≡ z)) ⊎ ((b ≡ false) × (y ≡ z))
 chosen true x y z e = inl (refl, e)
@@ -91,9 +92,6 @@ field_attribute_took pool static descriptor found next s t fits e =
           let all = at_end (λ (y : Option ℕ) u. (y ≡ found) × Took s (attribute_bytes (attribute name.0.0.0 content.0.0)) u) found next content.0.1 t content.2 (refl, both) in
           (attribute name.0.0.0 content.0.0, all.1, (ap is_some one.1, two.1), inr (ap (λ (b : Bool). static && b) test ∙ p.0, all.0))
     ]
-
-abbrev TakesCode : Pool → ℕ → ℕ → Bool → Code → Type 0
-TakesCode pool major slots takes code = (takes ≡ true) × CodeHolds pool major slots code
 
 abbrev MethodCodeHolds : Pool → ℕ → ℕ → Bool → Code → List ℕ → Type 0
 MethodCodeHolds pool major slots takes code content = IsCode pool code content × TakesCode pool major slots takes code
@@ -332,9 +330,6 @@ versions_took s t v fits e =
 
 abbrev PoolHolds : Pool → Type 0
 PoolHolds p = IsPool p × AllByRecursion (λ e. IsTrue (all_hold (checks_of p e))) p.entries
-
-unit_is : (u : Unit {0}) (r : Result (Unit {0}) Fault) → r ≡ Ok u → r ≡ Ok tt
-unit_is tt r e = e
 
 checked_pool_took : (s t : Place) (p : Pool) → IsBytes s.rest → checked_pool_at s ≡ Ok (p, t) → Took s (pool_bytes p) t × PoolHolds p
 unfolding checked_pool_at

@@ -208,7 +208,7 @@ parts_took pool slots s t x fits e =
     let both = at_end (λ (y : Parts) u. Took s (code_bytes y.code six.0) u × CodeFits slots y.code) made x rest.0.1 t rest.2 (all, number_fits) in
     (six.0, six.2, both.0, both.1)
 
-unit_is : (u : Unit {0}) (r : Result (Unit {0}) Fault) → r ≡ Ok u → r ≡ Ok tt
+pub unit_is : (u : Unit {0}) (r : Result (Unit {0}) Fault) → r ≡ Ok u → r ≡ Ok tt
 unit_is tt r e = e
 
 rows_hold : (pool : Pool) (starts code : List ℕ) (rows : List Catch) (at : ℕ) → catches_checked pool starts code rows at ≡ Ok tt

@@ -1,12 +1,10 @@
 -- What a run of a linked program came to, in terms of its class files and its model.
 use Rattle.std.proofs.Common.{◌≡◌, ◌≤◌, ℕ, Bool, true, List, Result, Ok, Err, sym, ap, subst, length, inr}
-use Rattle.std.specs.Ordering.{nat_cmp}
-use Rattle.std.specs.Prelude.{All, ◌++◌}
+use Rattle.std.specs.Prelude.{All}
 use Rattle.vx_class.specs.File.{Holds}
 use Rattle.vx_class.specs.declared.class_file.ClassFile.{ClassFile}
 use Rattle.vx_engine.specs.Findings.{AreAllowed, AreFindings, FindingsView, report_by}
 use Rattle.vx_families.specs.Bounds.{IsBounded}
-use Rattle.vx_heap.proofs.Known.{AreKnown-append}
 use Rattle.vx_heap.specs.Heap.{has_options}
 use Rattle.vx_java.specs.Report.{lock_report}
 use Rattle.vx_java.specs.Step.{Config}
@@ -18,10 +16,7 @@ use Rattle.vx_model.specs.Models.{is_allowed}
 use Rattle.vx_model.specs.declared.model.Model.{Model}
 use Rattle.vx_reporting.specs.Reported.{IsReported}
 use Rattle.vx_rounds.specs.Rounds.{MeetsUnbuilt}
-use Rattle.vx_rounds.specs.State.{shared_ids}
-use Rattle.vx_rounds.proofs.Keeping.{findings_known}
-use Rattle.vx_space.specs.Sets.{AreKnown, Sets}
-use Rattle.vx_value.specs.Ends.{compare_ends}
+use Rattle.vx_space.specs.Sets.{Sets}
 use Rattle.vx_cli.specs.Job.{IsReportOf, main_path, names_of, or_bad_link, program_in, slashed}
 use Rattle.vx_cli.specs.Run.{IsRefusedRun}
 use Rattle.vx_cli.specs.declared.status.Status.{Status}
@@ -49,12 +44,6 @@ pub refused_unbuilt : (folder main : List ℕ) (limit : ℕ) (model : Model) (pa
     → program_in main model classes ≡ Ok p → MeetsUnbuilt p allowed limit → status ≡ NotYet (main_path folder paths p) → IsRefusedRun folder main limit model paths classes status
 refused_unbuilt folder main limit model paths classes p allowed status same linked meets is =
     inr (inr (p, linked, subst (λ f. MeetsUnbuilt p f limit) (allowed_is model allowed same) meets, is))
-
--- the ids that findings hold are known
-pub found_known : {S I : Type 0} (p : Program) (sets : Sets I) (allowed : Config → Bool) (limit : ℕ) (f : FindingsView S I) → AreFindings p sets allowed limit f → AreKnown sets (shared_ids f.found ++ (shared_ids f.ends ++ shared_ids f.spent))
-found_known p sets allowed limit f found =
-    AreKnown-append sets (shared_ids f.found) (shared_ids f.ends ++ shared_ids f.spent) found.known
-    (AreKnown-append sets (shared_ids f.ends) (shared_ids f.spent) (findings_known compare_ends sets f.ends found.ends) (findings_known nat_cmp sets f.spent found.spent))
 
 -- findings say what the report of lockstep does of each list of just the allowed configurations
 abbrev pub SayLockstep : {S I : Type 0} → Program → Sets I → ℕ → (Config → Bool) → ℕ → FindingsView S I → Type 0

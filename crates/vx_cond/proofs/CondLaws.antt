@@ -47,7 +47,7 @@ IsCondOf-restricted {T = T} cmp {s0 = s0} {s1 = s1} {s2 = s2} cond within scope 
     cases false o true h = refl
     cases false o false h = refl
 
-some_or : {T : Type 0} (a b : Option T) → is_some (option_or a b) ≡ (is_some a || is_some b)
+pub some_or : {T : Type 0} (a b : Option T) → is_some (option_or a b) ≡ (is_some a || is_some b)
 some_or None b = refl
 some_or (Some v) b = refl
 

@@ -1,7 +1,7 @@
 -- Laws of rows, for callers, and what the loops over their parts keep.
 use Rattle.std.proofs.Common.{◌≡◌, ℕ, ◌+◌, ◌<◌, ◌≤◌, Bool, true, false, List, [], ◌∷◌, ◌++◌, refl, sym, ◌∙◌, ap, arith, take, zero, suc, get_or, length, map}
 use Rattle.std.proofs.lemmas.List.{take_more, take_all, map-append, length-map, length-take}
-use Rattle.std.specs.Prelude.{Option, Some, None, if◌then◌else◌, is_some, ◌&&◌, ◌||◌}
+use Rattle.std.specs.Prelude.{Option, None, if◌then◌else◌, is_some, ◌&&◌, ◌||◌}
 use Rattle.std.specs.Option.{option_or}
 use Rattle.std.specs.declared.cmp.Ordering.{Ordering}
 use Rattle.vx_space.specs.Sets.{Sets, Extends, IsSet, IsLawful, AreKept}
@@ -12,7 +12,7 @@ use Rattle.vx_cond.specs.Keeping.{AreKept-append_left, AreKept-append_right, val
 use Rattle.vx_cond.specs.Leaves.{value_within, first_of, AreLeaves}
 use Rattle.vx_cond.specs.Cond.{Conditional, cond_at, cond_ids, IsCond, IsCondOf, AreDisjoint}
 use Rattle.vx_cond.specs.Row.{Conditionals, row_ids, AreConds, IsRow, IsRowOf, conds_at, values_within, firsts_of, zip_with}
-use Rattle.vx_cond.proofs.CondLaws.{IsCond-extends, cond_at-extends, AreDisjoint-extends}
+use Rattle.vx_cond.proofs.CondLaws.{IsCond-extends, cond_at-extends, AreDisjoint-extends, some_or}
 
 pub AreConds-extends : {T S I : Type 0} (cmp : T → T → Ordering) {old new : Sets I} → Extends old new → (scope : I) (xs : List (Conditional T S I)) → AreConds cmp old scope xs → AreConds cmp new scope xs
 unfolding IsCond IsCondOf IsRow IsRowOf
@@ -90,10 +90,6 @@ zip_with-append f (a ∷ xs) [] x y e = cc
 zip_with-append f (a ∷ xs) (b ∷ ys) x y e =
     let shorter : length xs ≡ length ys = omega (arith, e) in
     ap (λ zs. f a b ∷ zs) (zip_with-append f xs ys x y shorter)
-
-some_or : {T : Type 0} (a b : Option T) → is_some (option_or a b) ≡ (is_some a || is_some b)
-some_or None b = refl
-some_or (Some v) b = refl
 
 conds_at-more : {T S I : Type 0} (sets : Sets I) (xs : List (Conditional T S I)) (i : ℕ) (x : Conditional T S I) (c : List Bool) → i < length xs → x ≡ get_or xs i x → conds_at sets (take (i + 1) xs) c ≡ conds_at sets (take i xs) c ++ cond_at sets x c ∷ []
 conds_at-more sets xs i x c l e = ap (λ ys. conds_at sets ys c) (take_more xs i x l ∙ ap (λ y. take i xs ++ y ∷ []) (sym e)) ∙ map-append (λ q. cond_at sets q c) (take i xs) (x ∷ [])

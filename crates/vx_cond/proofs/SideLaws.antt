@@ -14,11 +14,11 @@ pub cond_at-covers : {T S I : Type 0} (cmp : T → T → Ordering) (sets : Sets 
 unfolding IsCond
 cond_at-covers cmp sets cond v c = v.covers c
 
-first_there : {T : Type 0} (a b : Option T) → is_some a ≡ true → option_or a b ≡ a
+pub first_there : {T : Type 0} (a b : Option T) → is_some a ≡ true → option_or a b ≡ a
 first_there None b h = cc
 first_there (Some x) b h = refl
 
-first_absent : {T : Type 0} (a b : Option T) → is_some a ≡ false → option_or a b ≡ b
+pub first_absent : {T : Type 0} (a b : Option T) → is_some a ≡ false → option_or a b ≡ b
 first_absent None b h = refl
 first_absent (Some x) b h = cc
 

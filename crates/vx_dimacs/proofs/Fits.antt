@@ -21,6 +21,7 @@ use Rattle.vx_dimacs.specs.declared.line.Line.TheVariants as line
 use Rattle.vx_dimacs.specs.declared.line.Naming.{Naming}
 use Rattle.vx_dimacs.specs.declared.number.Mark.{Mark}
 use Rattle.vx_dimacs.specs.declared.number.Mark.TheVariants as mark
+use Rattle.vx_model.proofs.Fits.{passed}
 
 -- ---- what the parts of a line are
 
@@ -53,10 +54,6 @@ Fits st line.Nothing = Unit {0}
 Fits st (line.Names naming) = Fresh st naming
 Fits st (line.Heads header) = (st.header ≡ None) × (header.variables ≤ 64)
 Fits st (line.Numbers ms) = Counted st ms
-
-pub passed : {A : Type 0} (b : Bool) (reason : ℕ) (next : Result A ℕ) (x : A) → (if b then Err reason else next) ≡ Ok x → (b ≡ false) × (next ≡ Ok x)
-passed true reason next x e = cc
-passed false reason next x e = (refl, e)
 
 both : (a b : Bool) → (a && b) ≡ true → (a ≡ true) × (b ≡ true)
 both true b e = (refl, e)

@@ -8,11 +8,12 @@ use Rattle.vx_model.specs.declared.model.Model.{Model}
 use Rattle.vx_model.specs.declared.statement.Refusal.{Refusal}
 use Rattle.vx_model.specs.declared.statement.Refusal.TheVariants as refusal
 use Rattle.vx_dimacs.specs.Dimacs.{State, line_of, with_line, lines_of, end_of, dimacs_of, with_mark, with_marks, has_too_many, begun}
-use Rattle.vx_dimacs.proofs.Fits.{Fits, line_fits, passed}
+use Rattle.vx_dimacs.proofs.Fits.{Fits, line_fits}
 use Rattle.vx_dimacs.specs.declared.number.Mark.{Mark}
 use Rattle.vx_dimacs.specs.declared.number.Mark.TheVariants as mark
 use Rattle.vx_dimacs.specs.declared.line.Line.{Line}
 use Rattle.vx_dimacs.specs.declared.line.Line.TheVariants as line
+use Rattle.vx_model.proofs.Fits.{passed}
 
 -- reading the rest behind this state gives the model of the whole text
 pub record ReadsOn (bytes : List ℕ) (most : ℕ) (st : State) (rest : List ℕ) (number : ℕ) : Type 0 where
@@ -23,7 +24,7 @@ pub record ReadsOn (bytes : List ℕ) (most : ℕ) (st : State) (rest : List ℕ
 abbrev pub FewVariables : State → Type 0
 FewVariables st = IfSome st.header (λ h. h.variables ≤ 64)
 
-mark_header : (st : State) (m : Mark) → (with_mark st m).header ≡ st.header
+pub mark_header : (st : State) (m : Mark) → (with_mark st m).header ≡ st.header
 mark_header st mark.End = refl
 mark_header st (mark.On k) = refl
 mark_header st (mark.Off k) = refl

@@ -22,7 +22,9 @@ use Rattle.vx_dimacs.specs.declared.line.Line.{Line}
 use Rattle.vx_dimacs.specs.declared.line.Line.TheVariants as line
 use Rattle.vx_dimacs.specs.declared.number.Mark.{Mark}
 use Rattle.vx_dimacs.specs.declared.number.Mark.TheVariants as mark
-use Rattle.vx_dimacs.proofs.Fits.{Fits, IsOwn, MarkBelow, MarksBelow, line_fits, numeral_spells, passed, same_tail}
+use Rattle.vx_dimacs.proofs.Fits.{Fits, IsOwn, MarkBelow, MarksBelow, line_fits, numeral_spells, same_tail}
+use Rattle.vx_dimacs.proofs.Following.{mark_header}
+use Rattle.vx_model.proofs.Fits.{passed}
 
 -- ---- options that are apart
 
@@ -91,11 +93,6 @@ mark_sound header st (mark.Off k) is below h = record {
   within = subst (λ o. Within o st.rules (with_mark st (mark.Off k)).literals) (sym is)
       (mark_within header st (mark.Off k) below (behind_header st.header header st.rules st.literals is h.within));
 }
-
-mark_header : (st : State) (m : Mark) → (with_mark st m).header ≡ st.header
-mark_header st mark.End = refl
-mark_header st (mark.On k) = refl
-mark_header st (mark.Off k) = refl
 
 marks_sound : (header : Header) (ms : List Mark) (st : State) → st.header ≡ Some header → MarksBelow header.variables ms → IsSound st → IsSound (with_marks st ms)
 unfolding with_marks

@@ -13,7 +13,7 @@ use Rattle.vx_draft.specs.Instructions.{is_above, ascend}
 use Rattle.vx_draft.specs.Drafts.{next_place, draft_bytes, code_bytes, reaches, all_reach}
 
 -- the item of an index, and those behind it
-front_is : {A : Type 0} (xs : List A) (i : ℕ) (x : A) → i < length xs → x ≡ get_or xs i x → drop i xs ≡ x ∷ drop (i + 1) xs
+pub front_is : {A : Type 0} (xs : List A) (i : ℕ) (x : A) → i < length xs → x ≡ get_or xs i x → drop i xs ≡ x ∷ drop (i + 1) xs
 front_is xs i x lt e = drop-cons xs i x lt ∙ ap (λ y. y ∷ drop (suc i) xs) (sym e) ∙ ap (λ k. x ∷ drop k xs) (sym (add-one i))
 
 -- ---- labels

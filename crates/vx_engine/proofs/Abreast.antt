@@ -2,16 +2,17 @@
 use Rattle.std.proofs.Common.{◌≡◌, ℕ, zero, suc, ◌*◌, ◌<◌, ◌≤◌, List, [], ◌∷◌, ◌++◌, refl, ap, ◌∙◌, arith, length, map}
 use Rattle.std.specs.Prelude.{Contains, None, Option, Some, option_map}
 use Rattle.vx_findings.specs.declared.piece.Piece.{Piece as FoundPiece}
-use Rattle.vx_java.proofs.Members.{added, left, total}
+use Rattle.vx_java.proofs.Members.{added, total}
 use Rattle.vx_java.proofs.Rounds.{total_falls}
 use Rattle.vx_java.specs.Lockstep.{ConfigRun, Lockstep, Piece, Shared, all_pieces_appended, compare_pieces, first_key, groups_of, if_first, lockstep, member_after_round, round, rounds_from, run_after_round}
-use Rattle.vx_java.specs.Step.{Config, Live, Over, Run, start}
+use Rattle.vx_java.specs.Step.{Config, Run, start}
 use Rattle.vx_link.specs.declared.program.Program.{Program}
 use Rattle.vx_rounds.proofs.Configurations.{Contains-here, Contains-next}
 use Rattle.vx_rounds.specs.Rounds.{pieces_in}
 use Rattle.vx_value.specs.declared.key.KeyPart.{KeyPart}
 use Rattle.vx_engine.proofs.FirstKeys.{member}
 use Rattle.vx_engine.proofs.Grouped.{pair_with, pairs_of}
+use Rattle.vx_java.proofs.Projecting.{left_le}
 
 -- ---- members
 
@@ -54,10 +55,6 @@ pub record IsAbreast (p : Program) (n : ℕ) (list : List Config) (rounds : ℕ)
   pub bound : ℕ
   pub enough : total n (members_of runs list) ≤ bound
   pub same : lockstep p list n ≡ rounds_from p n bound (lockstep_at rounds pieces runs list)
-
-left_le : (n : ℕ) (r : Run) → left n r ≤ n
-left_le n (Live g) = omega arith
-left_le n (Over e g) = omega arith
 
 start_total : (p : Program) (n : ℕ) (list : List Config) → total n (members_of (start p) list) ≤ length list * n
 start_total p n [] = omega arith

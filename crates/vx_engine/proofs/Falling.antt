@@ -1,7 +1,6 @@
 -- Each round takes attempts away, so that rounds come to an end.
 use Rattle.std.proofs.Common.{◌≡◌, ℕ, ◌-◌, ◌<◌, ◌≤◌, Bool, true, false, List, refl, ap, ◌∙◌, arith}
 use Rattle.std.specs.Prelude.{None, Option, Some, slice_get}
-use Rattle.vx_engine.proofs.Runs.{live_is}
 use Rattle.vx_engine.proofs.Standings.{group_there, running_there, same_group, standing_of_group}
 use Rattle.vx_group.specs.Group.{GroupView, path_of}
 use Rattle.vx_java.proofs.Members.{attempts_of, step_advances}
@@ -13,6 +12,7 @@ use Rattle.vx_rounds.specs.Rounds.{IsRound, after_round}
 use Rattle.vx_rounds.specs.State.{AreRunning, Came, Runs, Standing, StateView, attempts_left, came_to, configurations, group_of, left_of, progress_at, result_at, standing_at, standing_if, standing_in, standing_of}
 use Rattle.vx_sched.specs.Groups.{AreGroups}
 use Rattle.vx_space.specs.Sets.{IsLawful, Sets}
+use Rattle.vx_java.proofs.Rounds.{live_is}
 
 -- ---- the attempts that are left at a configuration
 

@@ -3,6 +3,7 @@ pub mod Apart
 pub mod Falling
 pub mod FirstKeys
 pub mod Grouped
+pub mod Known
 pub mod LockEnds
 pub mod LockRounds
 pub mod Runs

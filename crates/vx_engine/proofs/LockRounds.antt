@@ -11,7 +11,7 @@ use Rattle.vx_cond.specs.Leaves.{value_at}
 use Rattle.vx_engine.proofs.Abreast.{IsAbreast, appended, lockstep_at, members_of, next_abreast, piece_seen}
 use Rattle.vx_engine.proofs.FirstKeys.{IsLeast, first_key_is}
 use Rattle.vx_engine.proofs.Grouped.{are_met, grouped, own, shared_in}
-use Rattle.vx_engine.proofs.Runs.{live_is, moved, moved_if, moved_runs}
+use Rattle.vx_engine.proofs.Runs.{moved, moved_if, moved_runs}
 use Rattle.vx_engine.proofs.Standings.{group_there, held_by, key_kept, one_key, place_of, same_group, standing_nowhere, standing_of_group}
 use Rattle.vx_engine.specs.Findings.{AreAllowed, piece_by}
 use Rattle.vx_findings.specs.Orders.{piece_cmp}
@@ -32,6 +32,7 @@ use Rattle.vx_space.specs.Sets.{AreKept, IsLawful, Sets}
 use Rattle.vx_value.specs.Key.{key_cmp}
 use Rattle.vx_value.specs.KeyLaws.{key_cmp_total, key_exact}
 use Rattle.vx_value.specs.declared.key.KeyPart.{KeyPart}
+use Rattle.vx_java.proofs.Rounds.{live_is}
 
 -- ---- what stands, and the runs
 

@@ -1,6 +1,5 @@
 -- The run of one configuration through the rounds: in a round of its group it makes an attempt, if it may, and in others it stays.
-use Rattle.std.proofs.Common.{◌≡◌, ℕ, zero, suc, ◌+◌, ◌-◌, ◌<◌, ◌≤◌, Bool, true, false, List, refl, sym, ap, ◌∙◌, arith, length}
-use Rattle.std.proofs.lemmas.Bool.{ltb-false, ltb-true}
+use Rattle.std.proofs.Common.{◌≡◌, ℕ, zero, suc, ◌+◌, ◌-◌, Bool, true, false, List, refl, sym, ap, ◌∙◌, arith, length}
 use Rattle.std.specs.Prelude.{None, Option, Some, nat_lt}
 use Rattle.vx_java.proofs.Members.{Moves, attempts_of, rest_stays, steps_on}
 use Rattle.vx_java.specs.Initialisation.{chain_blocked, init_chain, quiet_chain}
@@ -9,39 +8,10 @@ use Rattle.vx_java.specs.Machine.{State, current_class, depth, frame_bound}
 use Rattle.vx_java.specs.Step.{Config, Live, Over, Progress, Run, before_main, begun, if_quiet, result, run, start, step, steps, with_room}
 use Rattle.vx_link.specs.declared.program.Program.{Program}
 use Rattle.vx_space.specs.Sets.{Sets}
+use Rattle.vx_java.proofs.Projecting.{over_is_run}
+use Rattle.vx_java.proofs.Rounds.{IsLive, live_is}
 
 -- ---- a run that may make an attempt
-
-pub record IsLive (n : ℕ) (r : Run) (g : Progress) : Type 0 where
-  pub run : r ≡ Live g
-  pub below : g.attempts < n
-
-pub live_is : (n : ℕ) (r : Run) (g : Progress) → live_progress n r ≡ Some g → IsLive n r g
-live_is n (Over e f) g h = cc
-live_is n (Live f) g h = by (nat_lt f.attempts n) refl
-  where
-    by : (b : Bool) → nat_lt f.attempts n ≡ b → IsLive n (Live f) g
-    by true e =
-        let same : Some f ≡ Some g = rw e at h in
-        let f_is_g : f ≡ g = cc in
-        record { run = ap Live f_is_g; below = rw (← f_is_g) (ltb-true _ _ e) }
-    by false e = let bad = rw e at h in cc
-
--- a run that is not live has come to what the whole run comes to
-over_is_run : (p : Program) (n : ℕ) (r : Run) → live_progress n r ≡ None → steps p (n - attempts_of r) r ≡ r
-over_is_run p n (Over e g) h = by (n - g.attempts)
-  where
-    by : (k : ℕ) → steps p k (Over e g) ≡ Over e g
-    by zero = refl
-    by (suc k) = refl
-over_is_run p n (Live g) h = by (nat_lt g.attempts n) refl
-  where
-    by : (b : Bool) → nat_lt g.attempts n ≡ b → steps p (n - g.attempts) (Live g) ≡ Live g
-    by true e = let bad = rw e at h in cc
-    by false e =
-        let past : n ≤ g.attempts = ltb-false _ _ e in
-        let none : n - g.attempts ≡ 0 = omega arith in
-        rw none refl
 
 -- ---- a round
 

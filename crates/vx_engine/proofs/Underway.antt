@@ -7,7 +7,7 @@ use Rattle.vx_engine.proofs.Apart.{HoldNot, round_apart}
 use Rattle.vx_engine.proofs.Abreast.{IsAbreast, start_abreast}
 use Rattle.vx_engine.proofs.LockEnds.{is_over, report_is}
 use Rattle.vx_engine.proofs.LockRounds.{AreStanding, live_of, lock_round}
-use Rattle.vx_engine.proofs.Runs.{IsReached, live_is, moved, moved_if, moved_reached, moved_runs, start_reached, whole_run}
+use Rattle.vx_engine.proofs.Runs.{IsReached, moved, moved_if, moved_reached, moved_runs, start_reached, whole_run}
 use Rattle.vx_engine.proofs.Standings.{standing_nowhere}
 use Rattle.vx_engine.specs.Findings.{AreAllowed, AreFindings, FindingsView, piece_by, report_by}
 use Rattle.vx_group.specs.Group.{GroupView, key_of, path_of}
@@ -20,6 +20,7 @@ use Rattle.vx_rounds.specs.State.{IsState, Runs, StateView, standing_at, standin
 use Rattle.vx_sched.specs.Picks.{IsFirstKey}
 use Rattle.vx_space.specs.Sets.{Extends, IsLawful, Sets}
 use Rattle.vx_value.specs.declared.key.KeyPart.{KeyPart}
+use Rattle.vx_java.proofs.Rounds.{live_is}
 
 -- before a round; what is said of lockstep holds where `FirstPicked` does
 pub record IsUnderway {S I : Type 0} (p : Program) (sets : Sets I) (options : ℕ) (is_allowed : Config → Bool) (limit : ℕ) (FirstPicked : Type 0) (st : StateView S I) : Type 0 where

@@ -24,10 +24,11 @@ use Rattle.vx_stands.specs.Stands.{frame_held}
 use Rattle.vx_stands.specs.declared.answer.Answer.{Answer}
 use Rattle.vx_stands.specs.declared.site.Site.{Site}
 use Rattle.vx_stands.proofs.AnswerLaws.{operands_at-push}
-use Rattle.vx_stands.proofs.StateLaws.{allowed_known, both_first, both_second, frame_held-extends}
+use Rattle.vx_stands.proofs.StateLaws.{both_first, both_second, frame_held-extends}
 use Rattle.vx_families.specs.Attempts.{IsGiven}
 use Rattle.vx_families.specs.Texts.{HasMoreTexts}
 use Rattle.vx_families.proofs.MoreTexts.{IsHeap-texts, IsHeapFor-texts, frame_held-texts}
+use Rattle.vx_heap.proofs.Written.{allowed_known}
 
 module _ {S I : Type 0} (site : Site) (operation : Operation) (sets : Sets I) (heap : HeapView S I) (group : GroupView S I) (given : IsGiven site operation sets heap group) where
   -- ---- the instruction

@@ -22,7 +22,7 @@ use Rattle.vx_stands.proofs.EndingLaws.{GivesAt-before}
 use Rattle.vx_families.specs.Pushing.{is_push}
 
 -- a value takes a word at least
-word_at_least : (v : Value) → 1 ≤ width v
+pub word_at_least : (v : Value) → 1 ≤ width v
 word_at_least TopValue = omega arith
 word_at_least (IntValue n) = omega arith
 word_at_least (LongValue n) = omega arith
@@ -30,7 +30,7 @@ word_at_least NullValue = omega arith
 word_at_least (RefValue r) = omega arith
 word_at_least (TextValue units) = omega arith
 
-words_at_least : (vs : List Value) → length vs ≤ stack_size vs
+pub words_at_least : (vs : List Value) → length vs ≤ stack_size vs
 words_at_least [] = omega arith
 words_at_least (v ∷ vs) = omega (arith, word_at_least v, words_at_least vs)
 
@@ -48,7 +48,7 @@ answer_full sets heap c h operands (Push slot) full t = push_full h (value_of se
 answer_full sets heap c h operands (Jump position) full t = cc
 
 -- there are as many plain operands as conditional ones
-operand_count : {S I : Type 0} (sets : Sets I) (heap : HeapView S I) (group : GroupView S I) (c : List Bool) → length (map (value_of sets heap c) (frame_at sets group.top c).operands) ≡ length group.top.stack.conds
+pub operand_count : {S I : Type 0} (sets : Sets I) (heap : HeapView S I) (group : GroupView S I) (c : List Bool) → length (map (value_of sets heap c) (frame_at sets group.top c).operands) ≡ length group.top.stack.conds
 operand_count sets heap group c = simp (length-map, length-reverse)
 
 pub full-gives : {S I : Type 0} (site : Site) (sets : Sets I) (group : GroupView S I) (answers : Conditional Answer S I) (outcomes : List (Outcome S I)) → site.code.now.max_stack ≤ length group.top.stack.conds → ((c : List Bool) → sets.test (path_of group) c ≡ true → is_push (answer_at sets answers c) ≡ true) → Gives site.program.now (illegal_in site.program.now) sets sets group outcomes → (heap : HeapView S I) → GivesAt site.program.now (answered_by site 0 sets answers) sets sets group outcomes heap

@@ -1,6 +1,5 @@
 -- What of the machine is built so far: one frame, the instructions of numbers, locals, the operand stack, jumps and static fields, the return, and println of an int. A run that comes to anything else is refused by name.
 use Rattle.std.specs.Prelude.{Bool, true, false, List, [], ◌∷◌, ◌&&◌, ◌==◌, not, Option, Some, None, ℕ, bytes_eq, codes}
-use Rattle.vx_class.specs.declared.class_file.Catch.{Catch}
 use Rattle.vx_class.specs.declared.class_file.Code.{Code}
 use Rattle.vx_java.specs.Machine.{Outcome, State, Go, Raise, Throw, Begin, Native, Write, Ended, current_class}
 use Rattle.vx_java.specs.Operation.{operation_of}
@@ -20,6 +19,7 @@ use Rattle.vx_opcode.specs.declared.instruction.Instruction.{Instruction}
 use Rattle.vx_pool.specs.declared.pool.Pool.{Pool}
 use Rattle.vx_value.specs.declared.key.Kind.{Kind}
 use Rattle.vx_value.specs.declared.key.Kind.TheVariants.{Call}
+use Rattle.vx_java.specs.Selection.{catches_of}
 
 -- ---- states
 
@@ -36,10 +36,6 @@ abbrev pub is_single : State → Bool
 is_single s = is_call s.top.kind && has_none s.callers
 
 -- ---- exceptions
-
-abbrev pub catches_of : Option Code → List Catch
-catches_of None = []
-catches_of (Some code) = code.catches
 
 -- the method on top has no catch row
 abbrev pub catches_nothing : Program → State → Bool

@@ -1,7 +1,6 @@
 -- An attempt over a heap whose static fields and initialisation states changed.
-use Rattle.std.proofs.Common.{◌≡◌, Bool, true, false, List, [], ◌∷◌, ◌&&◌, refl, ◌∙◌, ap, map}
+use Rattle.std.proofs.Common.{◌≡◌, Bool, true, false, List, ◌&&◌, refl, ◌∙◌, ap}
 use Rattle.std.specs.Prelude.{Option, slice_get}
-use Rattle.std.specs.List.{list_all}
 use Rattle.vx_frame.specs.Frame.{PlainFrame, frame_at}
 use Rattle.vx_group.specs.Callers.{callers_of, frames_at}
 use Rattle.vx_group.specs.Group.{GroupView, IsGroup, path_of, stack_of}
@@ -19,21 +18,13 @@ use Rattle.vx_stands.specs.Sites.{GivesAt}
 use Rattle.vx_stands.specs.Stands.{Continues, Grows, StandsIn, callers_at, frame_held, plain_frame, state_at, state_of}
 use Rattle.vx_stands.specs.declared.site.Site.{Site}
 use Rattle.vx_stands.proofs.OutcomeStates.{CameTo-through}
-use Rattle.vx_stands.proofs.StateLaws.{Continues-same, StandsIn-extends, state_at-extends}
+use Rattle.vx_stands.proofs.StateLaws.{Continues-same, StandsIn-extends, state_at-extends, all_same, map_same}
 use Rattle.vx_value.specs.Texts.{text_at}
 use Rattle.vx_value.specs.declared.slot.Slot.{Slot}
 use Rattle.vx_value.specs.declared.slot.Slot.TheVariants.{Top, Int, Long, Null, Ref, Text}
 use Rattle.vx_families.specs.Attempts.{AttemptsBy}
 use Rattle.vx_fields.specs.Changing.{IsChanged, with_globals}
 use Rattle.vx_fields.proofs.Changes.{IsHeapFor-changed}
-
-map_same : {A B : Type 0} (f g : A → B) → ((a : A) → f a ≡ g a) → (xs : List A) → map f xs ≡ map g xs
-map_same f g h [] = refl
-map_same f g h (x ∷ xs) = λ i. h x i ∷ map_same f g h xs i
-
-all_same : {A : Type 0} (f g : A → Bool) → ((a : A) → f a ≡ g a) → (xs : List A) → list_all f xs ≡ list_all g xs
-all_same f g h [] = refl
-all_same f g h (x ∷ xs) = λ i. h x i && all_same f g h xs i
 
 module _ {S I : Type 0} {s0 s1 : Sets I} (before after : HeapView S I) (change : List Bool → Globals → Globals) (changed : IsChanged s0 s1 before after change) where
   -- ---- values

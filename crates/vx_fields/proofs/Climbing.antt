@@ -12,12 +12,13 @@ use Rattle.vx_link.specs.Parts.{class_at}
 use Rattle.vx_link.specs.declared.program.Program.{Program}
 use Rattle.vx_space.specs.Sets.{Extends, IsLawful, IsSet, Sets}
 use Rattle.vx_space.proofs.Spaces.{Extends-refl, Extends-trans}
-use Rattle.vx_stands.proofs.StateLaws.{allowed_known}
+use Rattle.vx_stands.proofs.StateLaws.{both_first}
 use Rattle.vx_value.specs.declared.ids.ClassId.{ClassId}
 use Rattle.vx_value.specs.declared.slot.InitState.{InitState}
 use Rattle.vx_value.specs.declared.slot.InitState.TheVariants.{Not, Running, Done, Failed}
 use Rattle.vx_fields.specs.Initialising.{AreMarks, has_failed, is_quiet, marked_at}
 use Rattle.vx_fields.specs.declared.initialising.Mark.{Mark}
+use Rattle.vx_heap.proofs.Written.{allowed_known}
 
 -- ---- the end of a walk
 
@@ -28,10 +29,6 @@ chain_none p (suc n) = refl
 chain_zero : (p : Program) (n : ℕ) (next : Option ClassId) → n ≤ 0 → chain_from p n next ≡ []
 chain_zero p zero next l = refl
 chain_zero p (suc n) next l = absurd (omega arith)
-
-both_first : (a b : Bool) → (a && b) ≡ true → a ≡ true
-both_first true b h = refl
-both_first false b h = cc
 
 -- the states stay where the space is extended
 pub inits_later : {S I : Type 0} {s0 s1 : Sets I} → Extends s0 s1 → (heap : HeapView S I) → IsHeap s0 heap → (c : List Bool) → inits_at s1 heap c ≡ inits_at s0 heap c

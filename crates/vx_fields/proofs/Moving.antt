@@ -27,11 +27,11 @@ use Rattle.vx_stands.proofs.AnswerLaws.{operands_at-push}
 use Rattle.vx_stands.proofs.OutcomeStates.{CameTo-append, CameTo-extends, CameTo-one, CameTo-same}
 use Rattle.vx_stands.proofs.PartLaws.{jumped-gives}
 use Rattle.vx_stands.proofs.SettleLaws.{stack_scope}
-use Rattle.vx_stands.proofs.StateLaws.{Continues-moved, both, operands_held, state_at-moved}
+use Rattle.vx_stands.proofs.StateLaws.{Continues-moved, both, operands_held, state_at-moved, both_first, both_second}
 use Rattle.vx_value.specs.Slot.{slot_cmp}
 use Rattle.vx_value.specs.declared.slot.Slot.{Slot}
 use Rattle.vx_fields.specs.Initialising.{GivesWithin}
-use Rattle.vx_fields.proofs.Splitting.{GivesWithin-part, both_first, both_second}
+use Rattle.vx_fields.proofs.Splitting.{GivesWithin-part}
 
 -- the operands of a group over a later space
 pub operands_later : {S I : Type 0} {s0 s1 : Sets I} → Extends s0 s1 → (group : GroupView S I) → IsGroup s0 group → (c : List Bool) → operands_at s1 group.top.stack c ≡ operands_at s0 group.top.stack c

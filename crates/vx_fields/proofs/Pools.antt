@@ -27,7 +27,7 @@ passes_if [] i h = refl
 passes_if (x ∷ xs) zero h = both_first (is_short_entry x) (list_all is_short_entry xs) h
 passes_if (x ∷ xs) (suc i) h = passes_if xs i (both_second (is_short_entry x) (list_all is_short_entry xs) h)
 
-below : (n : ℕ) → nat_lt n 65536 ≡ true → n < 65536
+pub below : (n : ℕ) → nat_lt n 65536 ≡ true → n < 65536
 below n h = grind (arith, nat_tests)
 
 utf8_short : (o : Option Entry) → short_if o ≡ true → IsShort (unwrap_or (utf8 o) [])

@@ -13,6 +13,7 @@ use Rattle.vx_fields.specs.declared.initialising.Mark.{Mark}
 use Rattle.vx_fields.specs.declared.initialising.Readiness.{Readiness}
 use Rattle.vx_fields.proofs.Changes.{IsChanged-before, IsChanged-none, IsChanged-trans, with_done-append}
 use Rattle.vx_fields.proofs.Climbing.{inits_later, marked_at-append, marked_at-extends}
+use Rattle.vx_stands.proofs.StateLaws.{both_first}
 
 -- what the loop keeps: the marks so far are put
 pub record IsMarking {S I : Type 0} (start sets : Sets I) (before heap : HeapView S I) (marks : List (Mark S I)) (i : ℕ) : Type 0 where
@@ -85,10 +86,6 @@ done_where false x cs = refl
 pub AreMarks-inside : {S I : Type 0} (sets : Sets I) (set wider : List Bool → Bool) (marks : List (Mark S I)) → ((c : List Bool) → set c ≡ true → wider c ≡ true) → AreMarks sets set marks → AreMarks sets wider marks
 AreMarks-inside sets set wider [] i h = tt
 AreMarks-inside sets set wider (m ∷ ms) i h = (h.0, (λ c t. i c (h.1 c t)), AreMarks-inside sets set wider ms i h.2)
-
-both_first : (a b : Bool) → (a && b) ≡ true → a ≡ true
-both_first true b h = refl
-both_first false b h = cc
 
 -- the rest is inside the path
 pub rest_inside : {I : Type 0} {s0 s1 : Sets I} (s2 : Sets I) (path fails rest : I) → s0.is_known path ≡ true → Extends s0 s1 → IsSet s2 rest (λ c. s1.test path c && not (s1.test fails c)) → (c : List Bool) → s2.test rest c ≡ true → s0.test path c ≡ true

@@ -1,6 +1,5 @@
 -- What a group that runs at an instruction gives its calls, while its heap changes.
-use Rattle.std.proofs.Common.{◌≡◌, ℕ, ◌<◌, Bool, true, List, [], ◌∷◌, ◌&&◌, refl, sym, ◌∙◌, ap, arith, length}
-use Rattle.std.specs.List.{list_all}
+use Rattle.std.proofs.Common.{◌≡◌, ℕ, ◌<◌, Bool, true, List, ◌&&◌, refl, sym, ◌∙◌, ap, arith, length}
 use Rattle.vx_cond.specs.Cond.{IsInside}
 use Rattle.vx_group.specs.Group.{GroupView, IsPartOf, path_of}
 use Rattle.vx_group.proofs.GroupLaws.{IsGroup-path_known}
@@ -12,7 +11,7 @@ use Rattle.vx_space.proofs.Spaces.{Extends-refl, Extends-trans}
 use Rattle.vx_stands.specs.Answering.{operands_at}
 use Rattle.vx_stands.specs.declared.site.Site.{Site}
 use Rattle.vx_stands.proofs.Gathering.{part_path}
-use Rattle.vx_stands.proofs.StateLaws.{allowed_known}
+use Rattle.vx_stands.proofs.StateLaws.{all_same, both_first}
 use Rattle.vx_fields.specs.Changing.{IsChanged}
 use Rattle.vx_fields.specs.Initialising.{IsReadied, goes_on}
 use Rattle.vx_fields.specs.Statics.{IsRunning}
@@ -20,8 +19,8 @@ use Rattle.vx_fields.specs.declared.initialising.Readiness.{Readiness}
 use Rattle.vx_fields.proofs.Attempting.{held_same}
 use Rattle.vx_fields.proofs.Climbing.{runs_inside}
 use Rattle.vx_fields.proofs.Moving.{operands_later}
-use Rattle.vx_fields.proofs.Splitting.{both_first}
 use Rattle.vx_fields.proofs.Storing.{static_value_there}
+use Rattle.vx_heap.proofs.Written.{allowed_known}
 
 -- where the class is needed it runs
 pub needs_inside : {S I : Type 0} (site : Site) {s0 s1 : Sets I} (heap : HeapView S I) (group : GroupView S I) (needs : I) (asks : List Bool → Bool) → IsRunning site s0 heap group → Extends s0 s1 → IsSet s1 needs (λ c. s0.test (path_of group) c && asks c) → IsInside s1 needs heap.allowed
@@ -56,10 +55,6 @@ pub running_runs : {S I : Type 0} (site : Site) {s0 sx s1 : Sets I} (before afte
 running_runs {S = S} {I = I} site {s0 = s0} {s1 = s1} before after change group r e changed = record {
   inside = λ c t. ap (λ (h : HeapView S I). s1.test h.allowed c) changed.same ∙ e.test before.allowed c (allowed_known s0 before r.is_heap) ∙ r.runs.inside c (sym (e.test (path_of group) c (IsGroup-path_known s0 group r.is_group)) ∙ t);
 }
-
-all_same : {A : Type 0} (f g : A → Bool) → ((a : A) → f a ≡ g a) → (xs : List A) → list_all f xs ≡ list_all g xs
-all_same f g h [] = refl
-all_same f g h (x ∷ xs) = λ i. h x i && all_same f g h xs i
 
 pub running_held : {S I : Type 0} (site : Site) {s0 sx s1 : Sets I} (before after : HeapView S I) (change : List Bool → Globals → Globals) (group : GroupView S I) → IsRunning site s0 before group → Extends s0 s1 → IsChanged sx s1 before after change → (c : List Bool) → s1.test (path_of group) c ≡ true → are_held s1 after c (operands_at s1 group.top.stack c) ≡ true
 running_held site {s0 = s0} {s1 = s1} before after change group r e changed c t =

@@ -15,7 +15,7 @@ use Rattle.vx_stands.specs.Sites.{Gives, GivesAt}
 use Rattle.vx_stands.specs.Stands.{CameTo, state_at}
 use Rattle.vx_stands.proofs.Gathering.{CameTo-part}
 use Rattle.vx_stands.proofs.OutcomeStates.{CameTo-append, CameTo-extends, CameTo-none, CameTo-one, CameTo-same}
-use Rattle.vx_stands.proofs.StateLaws.{Continues-same, StandsIn-part}
+use Rattle.vx_stands.proofs.StateLaws.{Continues-same, StandsIn-part, both_first, both_second}
 use Rattle.vx_value.specs.declared.ids.ClassId.{ClassId}
 use Rattle.vx_fields.specs.Initialising.{GivesWithin}
 
@@ -33,14 +33,6 @@ begun-gives {S = S} {I = I} p sets group class start outcomes none made heap tre
 -- over a later space
 pub GivesAt-later : {S I : Type 0} (p : Program) (s0 : Sets I) {s1 s2 : Sets I} (says : HeapView S I → List Bool → State → PlainOutcome) (group : GroupView S I) (outcomes : List (Outcome S I)) (heap : HeapView S I) → Extends s0 s1 → Extends s1 s2 → GivesAt p says s0 s1 group outcomes heap → GivesAt p says s0 s2 group outcomes heap
 GivesAt-later p s0 says group outcomes heap e f gives tree h s = CameTo-extends p s0 tree f heap (IsHeap-extends e heap h) group _ (s0.test (path_of group)) outcomes (gives tree h s)
-
-pub both_first : (a b : Bool) → (a && b) ≡ true → a ≡ true
-both_first true b h = refl
-both_first false b h = cc
-
-pub both_second : (a b : Bool) → (a && b) ≡ true → b ≡ true
-both_second true b h = h
-both_second false b h = cc
 
 pub not_true : (b : Bool) → not b ≡ true → b ≡ false
 not_true true h = cc

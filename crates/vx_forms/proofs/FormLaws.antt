@@ -20,7 +20,7 @@ use Rattle.vx_group.specs.Group.{GroupView, IsPartOf, path_of}
 use Rattle.vx_group.proofs.GroupLaws.{IsGroupIn-group, IsGroup-path_known}
 use Rattle.vx_heap.specs.Heap.{HeapView, is_held, value_of}
 use Rattle.vx_heap.proofs.HeapLaws.{IsHeap-extends}
-use Rattle.vx_java.specs.Machine.{Here, State, Value, at_position, go, illegal, illegal_in, settle, stack_size, when, width}
+use Rattle.vx_java.specs.Machine.{Here, State, Value, at_position, go, illegal, illegal_in, settle, stack_size, when}
 use Rattle.vx_java.specs.Machine.{Top as TopValue, Int as IntValue, Long as LongValue, Null as NullValue, Ref as RefValue, Text as TextValue}
 use Rattle.vx_java.specs.Row.{row_of}
 use Rattle.vx_java.specs.declared.operation.Operation.{Operation}
@@ -47,6 +47,7 @@ use Rattle.vx_forms.specs.declared.cut.Cut.TheVariants.{Divided}
 use Rattle.vx_forms.specs.declared.order.Order.{Order}
 use Rattle.vx_forms.specs.declared.order.Order.TheVariants.{Dropped, Swapped, Doubled}
 use Rattle.vx_forms.proofs.CutLaws.{counts_within, stack-formed}
+use Rattle.vx_families.proofs.Pushes.{operand_count, words_at_least}
 
 -- ---- lists in another order
 
@@ -96,19 +97,6 @@ rest_within Doubled a b rest = omega (arith, length-append a (b ++ (a ++ rest)),
 
 -- ---- operands that don't fit
 
--- a value takes a word at least
-word_at_least : (v : Value) → 1 ≤ width v
-word_at_least TopValue = omega arith
-word_at_least (IntValue n) = omega arith
-word_at_least (LongValue n) = omega arith
-word_at_least NullValue = omega arith
-word_at_least (RefValue r) = omega arith
-word_at_least (TextValue units) = omega arith
-
-words_at_least : (vs : List Value) → length vs ≤ stack_size vs
-words_at_least [] = omega arith
-words_at_least (v ∷ vs) = omega (arith, word_at_least v, words_at_least vs)
-
 no_room : (h : Here) (values : List Value) → h.code.max_stack < length values → settle h values ≡ illegal h
 no_room h values more = ap (λ b. when b (go h values) (illegal h)) (lt-leb (stack_size values) h.code.max_stack (omega (arith, more, words_at_least values)))
 
@@ -119,9 +107,6 @@ formed_full site order u l s a b more =
     let rest = drop l (drop u operands) in
     let left : site.code.now.max_stack < length rest = omega (arith, a, b, more, length-drop l (drop u operands), length-drop u operands) in
     no_room (here site s) (operands_reordered order u l operands) (omega (arith, left, rest_within order (take u operands) (take l (drop u operands)) rest))
-
-operand_count : {S I : Type 0} (sets : Sets I) (heap : HeapView S I) (group : GroupView S I) (c : List Bool) → length (map (value_of sets heap c) (frame_at sets group.top c).operands) ≡ length group.top.stack.conds
-operand_count sets heap group c = simp (length-map, length-reverse)
 
 -- ---- one part
 

@@ -73,7 +73,7 @@ IsFrame-kept {old = old} {new = new} n frame k v = record {
 }
 
 -- two known ids of one set are one id
-same_set : {I : Type 0} {sets : Sets I} → IsLawful sets → (a b : I) (set : List Bool → Bool) → IsSet sets a set → IsSet sets b set → a ≡ b
+pub same_set : {I : Type 0} {sets : Sets I} → IsLawful sets → (a b : I) (set : List Bool → Bool) → IsSet sets a set → IsSet sets b set → a ≡ b
 same_set lawful a b set s t = lawful.equal_sets a b s.known t.known (λ c. s.test c ∙ sym (t.test c))
 
 both_hold : (a b : Bool) → (a && b) ≡ true → b ≡ true

@@ -12,12 +12,12 @@ use Rattle.vx_cond.proofs.CondLaws.{IsCond-of, cond_at-of, IsCondOf-extends}
 use Rattle.vx_cond.proofs.SideLaws.{cond_at-covers}
 use Rattle.vx_frame.specs.declared.frame.Frame.{Frame}
 use Rattle.vx_frame.specs.Frame.{PlainFrame, Shape, IsFrameOf, frame_at, part_of, scope_of, shape_of, side_at}
-use Rattle.vx_frame.proofs.FrameLaws.{IsFrame-of, frame_at-of, IsFrameOf-extends, IsFrame-scope_known, frame_at-extends}
+use Rattle.vx_frame.proofs.FrameLaws.{IsFrame-of, frame_at-of, IsFrameOf-extends, IsFrame-scope_known, frame_at-extends, same_set}
 use Rattle.vx_group.specs.declared.callers.Caller.{Caller}
 use Rattle.vx_group.specs.Callers.{callers_of, AreCallers, frames_at, AreJoined}
 use Rattle.vx_group.specs.Group.{GroupView, path_of, shapes_of, group_at, IsGroup, IsGroupIn, IsGroupOf, PlainGroup}
 use Rattle.vx_group.proofs.CallerLaws.{Keeps-refl, AreCallers-later, frames_at-extends}
-use Rattle.vx_group.proofs.GroupLaws.{IsGroup-attempts, IsGroup-top, IsGroup-one_scope, IsGroup-path_known, IsGroupIn-group, IsGroupIn-callers, IsGroupIn-parts, joined_scope, same_id}
+use Rattle.vx_group.proofs.GroupLaws.{IsGroup-attempts, IsGroup-top, IsGroup-one_scope, IsGroup-path_known, IsGroupIn-group, IsGroupIn-callers, IsGroupIn-parts, joined_scope, tail_of}
 
 map_parts : {S I : Type 0} (frames : List (Frame S I)) → map (λ (s : Shape). s.part) (map shape_of frames) ≡ map part_of frames
 map_parts [] = refl
@@ -26,15 +26,12 @@ map_parts (f ∷ fs) = ap (λ ps. part_of f ∷ ps) (map_parts fs)
 heads : {A : Type 0} (x y : A) (xs ys : List A) → x ∷ xs ≡ y ∷ ys → x ≡ y
 heads x y xs ys e = cc
 
-tails : {A : Type 0} (x y : A) (xs ys : List A) → x ∷ xs ≡ y ∷ ys → xs ≡ ys
-tails x y xs ys e = cc
-
 -- groups of equal shapes have equal shapes on top and below, and equal parts below
 pub same_tops : {S I : Type 0} (tree : List (Option (Caller S I))) (a b : GroupView S I) → shapes_of tree a ≡ shapes_of tree b → shape_of a.top ≡ shape_of b.top
 same_tops tree a b e = heads _ _ _ _ e
 
 pub same_callers_shapes : {S I : Type 0} (tree : List (Option (Caller S I))) (a b : GroupView S I) → shapes_of tree a ≡ shapes_of tree b → map shape_of (callers_of tree (length a.below) a.caller) ≡ map shape_of (callers_of tree (length b.below) b.caller)
-same_callers_shapes tree a b e = tails _ _ _ _ e
+same_callers_shapes tree a b e = tail_of _ _ _ _ e
 
 pub same_below : {S I : Type 0} (sets : Sets I) (tree : List (Option (Caller S I))) (a b : GroupView S I) → IsGroupIn sets tree a → IsGroupIn sets tree b → shapes_of tree a ≡ shapes_of tree b → a.below ≡ b.below
 same_below sets tree a b v w e =
@@ -80,7 +77,7 @@ joined_one_scope {s0 = s0} {s1 = s1} {s2 = s2} {s3 = s3} lawful a b attempts top
       known = j.third.known (scope_of top) j.scope.known;
       test = λ c. j.third.test (scope_of top) c j.scope.known ∙ j.scope.test c ∙ rw (j.first.test (scope_of a.top) c known_a, j.first.test (scope_of b.top) c known_b, IsGroup-one_scope s0 a v, IsGroup-one_scope s0 b w) refl;
     } in
-    same_id lawful (scope_of top) attempts.scope _ top_set (joined_path a b attempts top caller v w j)
+    same_set lawful (scope_of top) attempts.scope _ top_set (joined_path a b attempts top caller v w j)
 
 pub joined_shapes : {S I : Type 0} {s0 s1 s2 s3 : Sets I} {t0 t1 : List (Option (Caller S I))} (a b : GroupView S I) (attempts : Conditional ℕ S I) (top : Frame S I) (caller : Option ℕ) → AreJoinParts s0 s1 s2 s3 t0 t1 a b attempts top caller → shapes_of t1 (record { attempts = attempts; top = top; below = a.below; caller = caller }) ≡ shapes_of t0 a
 joined_shapes a b attempts top caller j = λ i. j.shape i ∷ j.callers.shapes i

@@ -12,7 +12,7 @@ use Rattle.vx_cond.proofs.CondLaws.{IsCond-extends, IsCond-of, cond_at-of, cond_
 use Rattle.vx_cond.proofs.SideLaws.{cond_at-covers}
 use Rattle.vx_frame.specs.declared.frame.Frame.{Frame}
 use Rattle.vx_frame.specs.Frame.{Shape, IsFrame, IsFrameOf, frame_at, part_of, scope_of, shape_of}
-use Rattle.vx_frame.proofs.FrameLaws.{IsFrame-extends, IsFrame-of, frame_at-of, IsFrame-scope_known, frame_at-extends}
+use Rattle.vx_frame.proofs.FrameLaws.{IsFrame-extends, IsFrame-of, frame_at-of, IsFrame-scope_known, frame_at-extends, same_set}
 use Rattle.vx_group.specs.declared.callers.Caller.{Caller}
 use Rattle.vx_group.specs.Callers.{node_at, callers_of, IsCallerFrame, AreCallers, Keeps, frames_at, IsFrameInside}
 use Rattle.vx_group.specs.Group.{GroupView, path_of, stack_of, group_at, attempts_at, top_at, IsGroup, IsGroupIn, IsGroupOf, IsPartOf, IsPopped, PlainGroup}
@@ -156,7 +156,7 @@ one_frame {S = S} {I = I} sets tree group v n = from group.below group.caller (I
     from (part ∷ rest) None h m = cc (h.1)
     from (part ∷ rest) (Some k) h m = cc
 
-tail_of : {A : Type 0} (x y : A) (xs ys : List A) → x ∷ xs ≡ y ∷ ys → xs ≡ ys
+pub tail_of : {A : Type 0} (x y : A) (xs ys : List A) → x ∷ xs ≡ y ∷ ys → xs ≡ ys
 tail_of x y xs ys e = cc
 
 -- what `pop` makes
@@ -210,10 +210,6 @@ joined_scope s0 s1 a b made v w m = record {
     some_or None q = refl
     some_or (Some x) q = refl
 
--- two known ids of one set are one id
-pub same_id : {I : Type 0} {sets : Sets I} → IsLawful sets → (a b : I) (set : List Bool → Bool) → IsSet sets a set → IsSet sets b set → a ≡ b
-same_id lawful a b set s t = lawful.equal_sets a b s.known t.known (λ c. s.test c ∙ sym (t.test c))
-
 both_second : (a b : Bool) → (a && b) ≡ true → b ≡ true
 both_second true b h = h
 both_second false b h = cc
@@ -223,7 +219,7 @@ pub part_scope : {S I : Type 0} {s0 s1 s2 : Sets I} → IsLawful s2 → (group :
 part_scope {s0 = s0} {s1 = s1} {s2 = s2} lawful group within attempts top v k e f a s =
     let known = IsFrame-scope_known s0 group.top (IsGroup-top s0 group v) in
     let paths : IsSet s2 (scope_of top) (λ c. s0.test (path_of group) c && s0.test within c) = record { known = s.known; test = λ c. s.test c ∙ rw (e.test (scope_of group.top) c known, e.test within c k) (ap (λ i. s0.test i c && s0.test within c) (IsGroup-one_scope s0 group v)) } in
-    same_id lawful (scope_of top) attempts.scope _ paths (IsSet-extends f attempts.scope _ (restricted_scope s0 s1 group.attempts attempts within (IsGroup-attempts s0 group v) a))
+    same_set lawful (scope_of top) attempts.scope _ paths (IsSet-extends f attempts.scope _ (restricted_scope s0 s1 group.attempts attempts within (IsGroup-attempts s0 group v) a))
 
 -- what restricting attempts and frame on top makes
 pub IsPartOf-made : {S I : Type 0} {s0 s1 s2 : Sets I} → IsLawful s2 → (group : GroupView S I) (within : I) (attempts : Conditional ℕ S I) (top : Frame S I) → IsGroup s0 group → s0.is_known within ≡ true → Extends s0 s1 → Extends s1 s2 → IsCondOf nat_cmp s1 (value_within s0 within (cond_at s0 group.attempts)) attempts → IsSet s2 (scope_of top) (λ c. s1.test (scope_of group.top) c && s1.test within c) → shape_of top ≡ shape_of group.top → IsFrameOf s2 (frame_at s1 group.top) top → IsPartOf s0 s2 (λ c. s0.test (path_of group) c && s0.test within c) group (record { attempts = attempts; top = top; below = group.below; caller = group.caller })

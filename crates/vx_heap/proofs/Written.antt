@@ -16,7 +16,7 @@ use Rattle.vx_cond.specs.Row.{AreConds}
 use Rattle.vx_cond.specs.Slots.{or_top, slot_at}
 use Rattle.vx_cond.proofs.CondLaws.{IsCond-of, cond_at-of}
 use Rattle.vx_cond.proofs.RowLaws.{cond_in_row, scope_is}
-use Rattle.vx_cond.proofs.SideLaws.{cond_at-covers}
+use Rattle.vx_cond.proofs.SideLaws.{cond_at-covers, first_absent, first_there}
 use Rattle.vx_java.specs.Machine.{Value, Top as TopValue}
 use Rattle.vx_heap.specs.Heap.{HeapView, IsHeap, IsInitWritten, IsStaticRead, IsStaticWritten, globals_at, init_of, inits_at, is_held, no_cond, static_of, statics_at, value_of}
 use Rattle.vx_heap.proofs.HeapLaws.{IsHeap-extends, globals_at-extends, is_held-extends, value_of-extends}
@@ -37,15 +37,6 @@ within_there false o h = cc
 within_scope : {T : Type 0} (b : Bool) (o : Option T) → (b ≡ true → is_some o ≡ true) → is_some (if b then o else None) ≡ b
 within_scope true o h = h refl
 within_scope false o h = refl
-
--- the first value where there is one, else the second
-first_there : {T : Type 0} (a b : Option T) → is_some a ≡ true → option_or a b ≡ a
-first_there None b h = cc
-first_there (Some x) b h = refl
-
-first_absent : {T : Type 0} (a b : Option T) → is_some a ≡ false → option_or a b ≡ b
-first_absent None b h = refl
-first_absent (Some x) b h = cc
 
 either_scope : {T : Type 0} (a b : Option T) (inner outer : Bool) → is_some a ≡ inner → is_some b ≡ outer → (inner ≡ true → outer ≡ true) → is_some (option_or a b) ≡ outer
 either_scope None b inner outer h k i = k
@@ -113,7 +104,7 @@ with_static_is_heap sets heap field made v w s h = record {
   statics_held = λ c. passes-set (is_held sets heap c) (λ cond. slot_at sets cond c) heap.statics field made (v.statics_held c) (h c);
 }
 
-allowed_known : {S I : Type 0} (sets : Sets I) (heap : HeapView S I) → IsHeap sets heap → sets.is_known heap.allowed ≡ true
+pub allowed_known : {S I : Type 0} (sets : Sets I) (heap : HeapView S I) → IsHeap sets heap → sets.is_known heap.allowed ≡ true
 unfolding IsHeap
 allowed_known sets heap v = v.allowed_known
 

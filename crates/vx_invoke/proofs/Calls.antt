@@ -23,11 +23,9 @@ use Rattle.vx_invoke.specs.Named.{println}
 use Rattle.vx_invoke.specs.declared.call.Call.{Call}
 use Rattle.vx_invoke.specs.declared.call.Call.TheVariants as call
 use Rattle.vx_invoke.specs.declared.call.Receiver.TheVariants as receiver
+use Rattle.vx_stands.proofs.Operands.{with_operands}
 
 -- ---- the operands
-
-abbrev with_operands : Here → List Value → Here
-with_operands h operands = record h { state = record (h.state) { top = record (h.state.top) { operands = operands } } }
 
 -- what holds with these operands holds where they are the operands
 at_operands : (f g : Here → Outcome) (h : Here) (operands : List Value) → h.state.top.operands ≡ operands → f (with_operands h operands) ≡ g (with_operands h operands) → f h ≡ g h

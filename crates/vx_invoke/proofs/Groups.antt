@@ -1,7 +1,6 @@
 -- What a group comes to by its receivers.
-use Rattle.std.proofs.Common.{◌≡◌, ◌≢◌, ℕ, ◌+◌, ◌<◌, zero, suc, Bool, true, false, List, [], ◌∷◌, ◌++◌, refl, sym, ◌∙◌, ap, subst, arith, map, drop, get_or, length}
+use Rattle.std.proofs.Common.{◌≡◌, ℕ, ◌+◌, ◌<◌, suc, Bool, true, false, List, [], ◌∷◌, ◌++◌, refl, sym, ◌∙◌, ap, subst, arith, map, drop, get_or, length}
 use Rattle.std.proofs.lemmas.List.{length-map}
-use Rattle.std.specs.declared.cmp.Ordering.{Ordering}
 use Rattle.std.specs.Prelude.{Option, Some, None, IfSome, is_some, slice_get}
 use Rattle.vx_cond.specs.declared.cond.Leaf.{Leaf}
 use Rattle.vx_cond.specs.Cond.{Conditional, IsCondLifting2, cond_at}
@@ -10,13 +9,13 @@ use Rattle.vx_cond.specs.Slots.{or_top}
 use Rattle.vx_cond.proofs.LiftingLaws.{IsCond-lifting2}
 use Rattle.vx_cond.proofs.RowSteps.{IsRow-get}
 use Rattle.vx_cond.proofs.SideLaws.{cond_at-covers}
-use Rattle.vx_frame.specs.Frame.{PlainFrame, Shape, frame_at, shape_of}
+use Rattle.vx_frame.specs.Frame.{PlainFrame, Shape, frame_at}
 use Rattle.vx_frame.proofs.FrameLaws.{IsFrame-stack, frame_at-extends}
 use Rattle.vx_group.specs.declared.callers.Caller.{Caller}
 use Rattle.vx_group.specs.Group.{GroupView, IsGroup, IsPartOf, path_of}
 use Rattle.vx_group.proofs.GroupLaws.{IsGroup-extends, IsGroup-path_known, IsGroup-top}
 use Rattle.vx_heap.specs.declared.object.HeapObject.{HeapObject}
-use Rattle.vx_heap.specs.Heap.{HeapView, are_held, is_held, is_object_held, name_at, no_heap_object, object_in, object_of as plain_object, value_of}
+use Rattle.vx_heap.specs.Heap.{HeapView, are_held, is_held, name_at, no_heap_object, object_in, object_of as plain_object, value_of}
 use Rattle.vx_heap.proofs.Cells.{named}
 use Rattle.vx_heap.proofs.HeapLaws.{IsHeap-extends}
 use Rattle.vx_heap.proofs.Places.{at_place}
@@ -28,23 +27,22 @@ use Rattle.vx_link.specs.declared.program.Program.{Program}
 use Rattle.vx_list.specs.Places.{item_or}
 use Rattle.vx_outcome.specs.declared.outcome.Outcome.{Outcome}
 use Rattle.vx_outcome.specs.declared.outcome.Outcome.TheVariants as shared
-use Rattle.vx_space.specs.Sets.{Sets, Extends, IsLawful}
-use Rattle.vx_space.proofs.Differences.{some_difference}
+use Rattle.vx_space.specs.Sets.{Sets, Extends}
 use Rattle.vx_space.proofs.Spaces.{Extends-refl}
 use Rattle.vx_stands.specs.Answering.{operands_at}
-use Rattle.vx_stands.specs.Sites.{Gives, GivesAt, here}
+use Rattle.vx_stands.specs.Sites.{Gives, GivesAt, here, IsSomewhere}
 use Rattle.vx_stands.specs.Stands.{CameTo, frame_held, state_at}
 use Rattle.vx_stands.specs.declared.site.Site.{Site}
 use Rattle.vx_stands.proofs.EndingLaws.{GivesAt-before}
 use Rattle.vx_stands.proofs.Gathering.{AreLeaves-of, Cover-answers, leaf_value, part_path}
 use Rattle.vx_stands.proofs.OutcomeStates.{CameTo-one}
 use Rattle.vx_stands.proofs.SettleLaws.{stack_scope}
-use Rattle.vx_stands.proofs.StateLaws.{Continues-same, StandsIn-extends, StandsIn-part, both_first, both_second, frame_held-extends, state_at-extends, state_at-part}
+use Rattle.vx_stands.proofs.StateLaws.{Continues-same, StandsIn-extends, StandsIn-part, both_second, frame_held-extends, state_at-extends, state_at-part}
 use Rattle.vx_value.specs.declared.ids.MethodId.{MethodId}
 use Rattle.vx_value.specs.declared.slot.Slot.{Slot}
 use Rattle.vx_value.specs.declared.slot.Slot.TheVariants.{Top, Ref}
 use Rattle.vx_value.specs.Slot.{slot_cmp}
-use Rattle.vx_invoke.specs.Called.{AreReceivers, HasReceiver, IsCalling, IsEntry, IsRunning, IsSomewhere, SomeEnters, call_of, called, is_enter, operand_at, receiver_at, receiver_of}
+use Rattle.vx_invoke.specs.Called.{AreReceivers, HasReceiver, IsCalling, IsEntry, IsRunning, SomeEnters, call_of, called, is_enter, operand_at, receiver_at, receiver_of}
 use Rattle.vx_invoke.specs.Named.{IsReference, by_reference, println, referenced}
 use Rattle.vx_invoke.specs.declared.reference.Reference.{Reference}
 use Rattle.vx_invoke.specs.Receivers.{receiver_cmp}
@@ -53,7 +51,9 @@ use Rattle.vx_invoke.specs.declared.call.Call.TheVariants as call
 use Rattle.vx_invoke.specs.declared.call.Receiver.{Receiver}
 use Rattle.vx_invoke.specs.declared.call.Receiver.TheVariants as receiver
 use Rattle.vx_invoke.proofs.Calls.{argument_of, entry_of, few_call, illegal_call, null_call, object_call, receiver_slot}
-use Rattle.vx_invoke.proofs.Operands.{length-operands, operand_there, two_operands}
+use Rattle.vx_stands.proofs.KindLaws.{some_same}
+use Rattle.vx_stands.proofs.Operands.{length-operands, operand_there, two_operands, held_there, item_held}
+use Rattle.vx_stands.proofs.GroupParts.{part_shape, part_frame, part_group}
 
 -- ---- one outcome
 
@@ -69,16 +69,6 @@ native-gives {S = S} {I = I} p sets group method start outcomes none made heap t
     subst P (sym (made ∙ (λ i. none i ++ shared.Native group method ∷ []))) (CameTo-one p sets sets heap tree group what (sets.test (path_of group)) (shared.Native group method) (Continues-same p tree (Extends-refl sets) heap h group s) (λ c. refl) (λ c t. refl))
 
 -- ---- the receiver
-
-held_there : {S I : Type 0} (sets : Sets I) (c : List Bool) (os : List (HeapObject S I)) (i : ℕ) (d : HeapObject S I) → is_object_held sets c (slice_get os i) ≡ true → (i < length os) × (sets.test (item_or os i d).presence c ≡ true)
-held_there sets c [] i d h = cc
-held_there sets c (o ∷ os) zero d h = (omega arith, h)
-held_there sets c (o ∷ os) (suc i) d h = let more = held_there sets c os i d h in (omega (arith, more.0), more.1)
-
-item_held : {S I : Type 0} (sets : Sets I) (heap : HeapView S I) (c : List Bool) (slots : List Slot) (i : ℕ) → are_held sets heap c slots ≡ true → is_held sets heap c (item_or slots i Top) ≡ true
-item_held sets heap c [] i h = refl
-item_held sets heap c (x ∷ xs) zero h = both_first (is_held sets heap c x) _ h
-item_held sets heap c (x ∷ xs) (suc i) h = item_held sets heap c xs i (both_second (is_held sets heap c x) _ h)
 
 -- it is there at each configuration of the group
 pub receiver_there : {S I : Type 0} (site : Site) (sets : Sets I) (heap : HeapView S I) (group : GroupView S I) (reference : ℕ) → IsCalling site sets heap group → HasReceiver sets group (receiver.Object reference) → (c : List Bool) → sets.test (path_of group) c ≡ true → (reference < length heap.objects) × (sets.test (object_in heap reference).presence c ≡ true)
@@ -196,18 +186,6 @@ AreReceivers-zipped {s0 = s0} {s1 = s1} R group first second argument under rece
 
 -- ---- parts
 
-part_shape : {S I : Type 0} (s0 s1 : Sets I) (set : List Bool → Bool) (group part : GroupView S I) → IsPartOf s0 s1 set group part → shape_of part.top ≡ shape_of group.top
-unfolding IsPartOf
-part_shape s0 s1 set group part q = q.shape
-
-part_frame : {S I : Type 0} (s0 s1 : Sets I) (set : List Bool → Bool) (group part : GroupView S I) → IsPartOf s0 s1 set group part → (c : List Bool) → s1.test (path_of part) c ≡ true → frame_at s1 part.top c ≡ frame_at s0 group.top c
-unfolding IsPartOf
-part_frame s0 s1 set group part q c t = ap (λ top. top.frame) (q.at c t)
-
-part_group : {S I : Type 0} (s0 s1 : Sets I) (set : List Bool → Bool) (group part : GroupView S I) → IsPartOf s0 s1 set group part → IsGroup s1 part
-unfolding IsPartOf
-part_group s0 s1 set group part q = q.is_group
-
 pub IsCalling-part : {S I : Type 0} (site : Site) {s0 s1 : Sets I} (set : List Bool → Bool) (heap : HeapView S I) (group part : GroupView S I) → Extends s0 s1 → IsCalling site s0 heap group → ((c : List Bool) → set c ≡ true → s0.test (path_of group) c ≡ true) → IsPartOf s0 s1 set group part → IsCalling site s1 heap part
 IsCalling-part site {s0 = s0} {s1 = s1} set heap group part e k inside q =
     let depth : length part.top.stack.conds ≡ length group.top.stack.conds = ap (λ (s : Shape). s.part.depth) (part_shape s0 s1 set group part q) in
@@ -239,9 +217,6 @@ IsCalling-later site {s0 = s0} {s1 = s1} heap group e k enough = record {
   enough = enough;
 }
 
-some_same : {T : Type 0} (a b : T) → Some a ≡ Some b → a ≡ b
-some_same a b e = cc
-
 -- the part of one leaf has its receiver
 pub HasReceiver-part : {S I : Type 0} {s0 s1 : Sets I} (group part : GroupView S I) (receivers : List (Leaf Receiver S I)) (i : ℕ) (x : Leaf Receiver S I) → AreReceivers s0 group receivers → i < length receivers → x ≡ get_or receivers i x → ((c : List Bool) → s0.test x.condition c ≡ true → s0.test (path_of group) c ≡ true) → IsPartOf s0 s1 (s0.test x.condition) group part → HasReceiver s1 part x.value
 HasReceiver-part {s0 = s0} {s1 = s1} group part receivers i x are l at inside q = record {
@@ -254,24 +229,6 @@ HasReceiver-part {s0 = s0} {s1 = s1} group part receivers i x are l at inside q 
 
 pub HasReceiver-is : {S I : Type 0} (sets : Sets I) (group : GroupView S I) (r other : Receiver) → r ≡ other → HasReceiver sets group r → HasReceiver sets group other
 HasReceiver-is sets group r other e h = record { at = λ c t. h.at c t ∙ e }
-
--- some configuration is in a leaf's condition
-first_leaf : {K S I : Type 0} (cmp : K → K → Ordering) (sets : Sets I) (xs : List (Leaf K S I)) (i : ℕ) (x : Leaf K S I) → AreLeaves cmp sets xs → i < length xs → x ≡ get_or xs i x → (sets.is_known x.condition ≡ true) × (x.condition ≢ sets.never)
-first_leaf cmp sets [] i x h l e = absurd (omega (arith, l))
-first_leaf {K = K} {S = S} {I = I} cmp sets (y ∷ ys) zero x h l e =
-    let P : Leaf K S I → Type 0 = λ leaf. (sets.is_known leaf.condition ≡ true) × (leaf.condition ≢ sets.never) in
-    subst P (sym e) (h.0.known, h.0.nonempty)
-first_leaf cmp sets (y ∷ ys) (suc i) x h l e = first_leaf cmp sets ys i x h.1 (omega (arith, l)) e
-
-unlike_false : (a b : Bool) → a ≢ b → b ≡ false → a ≡ true
-unlike_false true b n e = refl
-unlike_false false b n e = absurd (n (sym e))
-
-pub IsSomewhere-leaf : {K S I : Type 0} (cmp : K → K → Ordering) {s0 : Sets I} (s1 : Sets I) → IsLawful s0 → (group part : GroupView S I) (xs : List (Leaf K S I)) (i : ℕ) (x : Leaf K S I) → AreLeaves cmp s0 xs → i < length xs → x ≡ get_or xs i x → IsPartOf s0 s1 (s0.test x.condition) group part → IsSomewhere s1 (path_of part)
-IsSomewhere-leaf cmp {s0 = s0} s1 lawful group part xs i x are l e q =
-    let leaf = first_leaf cmp s0 xs i x are l e in
-    let found = some_difference lawful x.condition s0.never leaf.0 lawful.never_known leaf.1 in
-    record { config = found.0; inside = part_path s0 s1 (s0.test x.condition) group part q found.0 ∙ unlike_false (s0.test x.condition found.0) (s0.test s0.never found.0) found.1 (lawful.never_test found.0) }
 
 -- ---- what some part enters, told of the whole group
 

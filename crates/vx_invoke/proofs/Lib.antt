@@ -1,5 +1,4 @@
 pub mod ReferenceLaws
 pub mod Calls
-pub mod Operands
 pub mod Groups
 pub mod Rows

@@ -111,11 +111,6 @@ pub record IsCalling {S I : Type 0} (site : Site) (sets : Sets I) (heap : HeapVi
 pub record HasReceiver {S I : Type 0} (sets : Sets I) (group : GroupView S I) (receiver : Receiver) : Type 0 where
   pub at : (c : List Bool) → sets.test (path_of group) c ≡ true → receiver_at sets group c ≡ receiver
 
--- some configuration is in the set
-pub record IsSomewhere {I : Type 0} (sets : Sets I) (path : I) : Type 0 where
-  pub config : List Bool
-  pub inside : sets.test path config ≡ true
-
 -- leaves are the receivers of a group
 pub record AreReceivers {S I : Type 0} (sets : Sets I) (group : GroupView S I) (receivers : List (Leaf Receiver S I)) : Type 0 where
   pub are_leaves : AreLeaves receiver_cmp sets receivers

@@ -7,9 +7,9 @@ ghost use Rattle.vx_group.specs.Group.{path_of};
 ghost use Rattle.vx_java.specs.Calls.{call_instance};
 ghost use Rattle.vx_java.specs.Ids.{HasClassNumbers};
 ghost use Rattle.vx_java.specs.declared.operation.Mode.TheVariants.{Virtual};
-ghost use Rattle.vx_stands.specs.Sites.{Gives, GivesAt, here};
+ghost use Rattle.vx_stands.specs.Sites.{Gives, GivesAt, here, IsSomewhere};
 ghost use Rattle.vx_families.specs.Attempts.{IsAttemptBy, IsGiven, MeetsUnbuilt};
-ghost use Rattle.vx_invoke.specs.Called.{AreReceivers, HasReceiver, IsCalling, IsRunning, IsSomewhere, SomeEnters, called, is_enter};
+ghost use Rattle.vx_invoke.specs.Called.{AreReceivers, HasReceiver, IsCalling, IsRunning, SomeEnters, called, is_enter};
 ghost use Rattle.vx_invoke.specs.Named.{is_built_call, pool_of, println, referenced};
 
 use crate::call::{Call, Receiver, call_of, receiver_of};

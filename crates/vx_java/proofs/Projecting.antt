@@ -119,7 +119,7 @@ finished p n c (suc k) l r at h = by (first_key n l.members) refl (λ key. finis
     by (Some key) e ih = let falls = total_falls p n key l.members e in ih key (omega arith)
 
 -- a run that is not live has come to what the whole run comes to
-over_is_run : (p : Program) (n : ℕ) (r : Run) → live_progress n r ≡ None → steps p (n - attempts_of r) r ≡ r
+pub over_is_run : (p : Program) (n : ℕ) (r : Run) → live_progress n r ≡ None → steps p (n - attempts_of r) r ≡ r
 over_is_run p n (Over e g) h = by (n - g.attempts)
   where
     by : (k : ℕ) → steps p k (Over e g) ≡ Over e g
@@ -159,7 +159,7 @@ start_unused p c =
     let chain = init_chain p s.inits main_class in
     unused_begun p s main_class chain (chain_blocked p chain)
 
-left_le : (n : ℕ) (r : Run) → left n r ≤ n
+pub left_le : (n : ℕ) (r : Run) → left n r ≤ n
 left_le n (Live g) = omega arith
 left_le n (Over e g) = omega arith
 

@@ -22,11 +22,11 @@ own_reverse Greater h = cc
 key_self : (k : List KeyPart) → key_cmp k k ≡ Equal
 key_self k = own_reverse (key_cmp k k) (key_cmp_total.antisymm k k)
 
-record IsLive (n : ℕ) (r : Run) (g : Progress) : Type 0 where
-  run : r ≡ Live g
-  below : g.attempts < n
+pub record IsLive (n : ℕ) (r : Run) (g : Progress) : Type 0 where
+  pub run : r ≡ Live g
+  pub below : g.attempts < n
 
-live_is : (n : ℕ) (r : Run) (g : Progress) → live_progress n r ≡ Some g → IsLive n r g
+pub live_is : (n : ℕ) (r : Run) (g : Progress) → live_progress n r ≡ Some g → IsLive n r g
 live_is n (Over e f) g h = cc
 live_is n (Live f) g h = by (nat_lt f.attempts n) refl
   where

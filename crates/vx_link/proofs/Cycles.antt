@@ -15,6 +15,7 @@ use Rattle.vx_link.specs.Names.{class_name}
 use Rattle.vx_link.specs.Tables.{names_of, parent_places, place_of_class, all_parents}
 use Rattle.vx_link.specs.declared.fault.LinkFault.TheVariants.{Cycle}
 use Rattle.vx_link.proofs.Lookups.{file_there, file_absent}
+use Rattle.vx_ancestry.proofs.Ranked.{false-unless}
 
 -- ---- the places of a class's parents
 
@@ -51,10 +52,6 @@ row-at all name place h =
     ∙ row-of all (file_named all name)
 
 -- ---- names and places
-
-false-unless : (b : Bool) → (b ≡ true → ⊥) → b ≡ false
-false-unless false h = refl
-false-unless true h = absurd (h refl)
 
 at-place : (names : List (List ℕ)) (name : List ℕ) (place : ℕ) → Some place ≡ place_of names name → get_or names place [] ≡ name
 at-place names name place h =

@@ -1,6 +1,6 @@
 -- Constants and locals that are pushed, and places without a local or an operand.
 use Rattle.std.proofs.Common.{◌≡◌, ℕ, ℤ, ◌≤◌, Bool, true, false, List, [], ◌∷◌, refl, sym, ◌∙◌, ap, subst, map, length, arith}
-use Rattle.std.proofs.lemmas.List.{length-map, length-reverse}
+use Rattle.std.proofs.lemmas.List.{length-map}
 use Rattle.std.specs.Prelude.{Option, Some, slice_get, unwrap_or, if◌then◌else◌}
 use Rattle.vx_list.specs.Places.{item_or}
 use Rattle.vx_value.specs.declared.slot.Slot.{Slot}
@@ -39,6 +39,7 @@ use Rattle.vx_families.specs.Pushing.{is_push}
 use Rattle.vx_locals.specs.Slots.{loaded, slot_is_of}
 use Rattle.vx_locals.proofs.Lifts.{mapped_at, one_at}
 use Rattle.vx_locals.proofs.Values.{item_got, item_held, item_past, item_value, same_sort}
+use Rattle.vx_families.proofs.Pushes.{operand_count}
 
 -- ---- constants
 
@@ -87,9 +88,6 @@ increase_none site sets group n by outcomes past gives = illegal_as site sets gr
 store_empty : (h : Here) (sort : Sort) (n : ℕ) (operands : List Value) → length operands ≡ 0 → illegal h ≡ store h sort n operands
 store_empty h sort n [] e = refl
 store_empty h sort n (v ∷ vs) e = absurd (omega arith)
-
-operand_count : {S I : Type 0} (sets : Sets I) (heap : HeapView S I) (group : GroupView S I) (c : List Bool) → length (map (value_of sets heap c) (frame_at sets group.top c).operands) ≡ length group.top.stack.conds
-operand_count sets heap group c = simp (length-map, length-reverse)
 
 pub store_none : {S I : Type 0} (site : Site) (sets : Sets I) (group : GroupView S I) (sort : Sort) (n : ℕ) (outcomes : List (Outcome S I)) → length group.top.stack.conds ≡ 0 → Gives site.program.now (illegal_in site.program.now) sets sets group outcomes → Gives site.program.now (λ s. store (here site s) sort n s.top.operands) sets sets group outcomes
 store_none site sets group sort n outcomes none gives = illegal_as site sets group (λ s. store (here site s) sort n s.top.operands) outcomes (λ heap tree c. store_empty (here site (state_at sets heap tree group c)) sort n (state_at sets heap tree group c).top.operands (operand_count sets heap group c ∙ none)) gives

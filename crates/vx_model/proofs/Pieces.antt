@@ -1,13 +1,11 @@
 -- How the first piece of a rule's text stands in it.
-use Rattle.std.proofs.Common.{◌≡◌, ℕ, suc, ◌+◌, List, [], ◌∷◌, length, take, drop, Bool, true, false, ◌&&◌, refl, sym, ap, ◌∙◌, arith, nat_eq, eqb-true, if◌then◌else◌}
+use Rattle.std.proofs.Common.{◌≡◌, ℕ, ◌+◌, List, [], ◌∷◌, length, take, drop, Bool, true, false, ◌&&◌, refl, sym, ap, ◌∙◌, arith, nat_eq, eqb-true, if◌then◌else◌}
 use Rattle.std.specs.List.{prefix_len}
 use Rattle.std.proofs.lemmas.Bool.Decides.{nat_tests}
 use Rattle.vx_words.specs.Lines.{with_first, is_blank, skip}
 use Rattle.vx_model.specs.Tokens.{pieces, joins_arrow, joins, piece_length}
 use Rattle.vx_words.specs.Names.{is_word_byte}
-
-one_more : (n : ℕ) → 1 + n ≡ suc n
-one_more n = omega arith
+use Rattle.vx_words.proofs.Parts.{one_more}
 
 skip_case : (x : ℕ) (xs : List ℕ) → pieces xs ≡ pieces (skip is_blank xs) → (b : Bool) → is_blank x ≡ b → pieces (x ∷ xs) ≡ pieces (skip is_blank (x ∷ xs))
 skip_case x xs h true e = rw e h

@@ -22,16 +22,16 @@ use Rattle.vx_report_line.proofs.Numbers.{by_test, both_true, number_in_of, wide
 nat_same : (i : ℕ) → nat_eq i i ≡ true
 nat_same i = grind (arith, nat_tests)
 
-le_of : (i j : ℕ) → i ≤ j → nat_le i j ≡ true
+pub le_of : (i j : ℕ) → i ≤ j → nat_le i j ≡ true
 le_of i j l = grind (arith, nat_tests)
 
 not_le : (i j : ℕ) → j < i → nat_le i j ≡ false
 not_le i j l = grind (arith, nat_tests)
 
-le_from : (i j : ℕ) → nat_le i j ≡ true → i ≤ j
+pub le_from : (i j : ℕ) → nat_le i j ≡ true → i ≤ j
 le_from i j t = grind (arith, nat_tests)
 
-lt_from : (i j : ℕ) → nat_lt i j ≡ true → i < j
+pub lt_from : (i j : ℕ) → nat_lt i j ≡ true → i < j
 lt_from i j t = grind (arith, nat_tests)
 
 pub behind_of : (word rest : List ℕ) → behind word (word ++ rest) ≡ Some rest

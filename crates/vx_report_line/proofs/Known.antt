@@ -7,11 +7,7 @@ use Rattle.vx_bdd_tools.specs.declared.node.Node.{Node}
 use Rattle.vx_bdd_tools.specs.contracts.node.NodePartialEq.TheImpl as node_eq
 use Rattle.vx_report_line.specs.Tables.{has_node, IsSetOf}
 use Rattle.vx_report_line.proofs.Numbers.{by_test, both_true}
-
-node_same : (m n : Node) → m.option ≡ n.option → m.low ≡ n.low → m.high ≡ n.high → m ≡ n
-node_same m n e f g =
-    let make : ℕ → ℕ → ℕ → Node = λ o l h. record { option = o; low = l; high = h } in
-    ap (λ o. make o m.low m.high) e ∙ ap (λ l. make n.option l m.high) f ∙ ap (λ h. make n.option n.low h) g
+use Rattle.vx_bdd_tools.proofs.NodeSets.{node_same}
 
 node_eq-exact : (m n : Node) → node_eq.ghosts.eq m n ≡ true → m ≡ n
 node_eq-exact m n e =

@@ -19,6 +19,7 @@ use Rattle.vx_report_line.specs.Forms.{is_text, is_code, is_named, is_end, is_ro
 use Rattle.vx_report_line.specs.Parsing.{◌>>=◌, only_if, reading, behind, cut, number_in, leading, hex_value, escaped_byte, first_byte, unspelled, text_in, negative_in, positive_in, code_in, number_of_word, kind_in, unsupported_in, named_end_in, end_in, node_line_in, root_in, piece_in, end_line_in, attempts_in, head_in, count_in, name_in, limit_in, rounds_in, setting_in, front_in, last_in, printed_in, line_in}
 use Rattle.vx_report_line.proofs.Numbers.{by_test, both_true, only_if_is, number_in_is, same_bytes_same}
 use Rattle.vx_report_line.proofs.Texts.{bind_is}
+use Rattle.vx_report_line.proofs.Again.{le_from, le_of}
 
 some_same : {A : Type 0} {x y : A} → Some x ≡ Some y → x ≡ y
 some_same h = cc
@@ -78,7 +79,7 @@ hex_value_is b n h = by_test (nat_le 48 b && nat_le b 57)
     let e : b - 48 ≡ n = some_same (rw t at h) in
     let low : 48 ≤ b = le_of 48 b p.0 in
     let high : b ≤ 57 = le_of b 57 p.1 in
-    let small : nat_le n 9 ≡ true = of_le n 9 (omega (arith, e, low, high)) in
+    let small : nat_le n 9 ≡ true = le_of n 9 (omega (arith, e, low, high)) in
     let value : b ≡ 48 + n = omega (arith, e, low) in
     (rw small value, omega (arith, e, high)))
     (λ f. letter f (rw f at h))
@@ -89,8 +90,8 @@ hex_value_is b n h = by_test (nat_le 48 b && nat_le b 57)
     le_of : (i j : ℕ) → nat_le i j ≡ true → i ≤ j
     le_of i j t = grind (arith, nat_tests)
 
-    of_le : (i j : ℕ) → i ≤ j → nat_le i j ≡ true
-    of_le i j l = grind (arith, nat_tests)
+    le_of : (i j : ℕ) → i ≤ j → nat_le i j ≡ true
+    le_of i j l = grind (arith, nat_tests)
 
     not_le : (i j : ℕ) → j < i → nat_le i j ≡ false
     not_le i j l = grind (arith, nat_tests)
@@ -203,12 +204,6 @@ text_in_is least text bytes h =
 
 of_lt : (i j : ℕ) → i < j → nat_lt i j ≡ true
 of_lt i j l = grind (arith, nat_tests)
-
-of_le : (i j : ℕ) → i ≤ j → nat_le i j ≡ true
-of_le i j l = grind (arith, nat_tests)
-
-le_from : (i j : ℕ) → nat_le i j ≡ true → i ≤ j
-le_from i j t = grind (arith, nat_tests)
 
 negative_is : (digits : List ℕ) (z : ℤ) → negative_in digits ≡ Some z → (45 ∷ digits ≡ signed_decimal z) × (is_code z ≡ true)
 unfolding negative_in
@@ -421,7 +416,7 @@ unfolding count_in line_text is_line
 count_is text line h =
     let a = map_is Count (number_in 65 text) line h in
     let n = number_in_is 65 text a.0 a.1 in
-    subst (λ (x : Line). IsSpelled (codes "options " ++ text) x) a.2 (record { spelled = ap (λ x. codes "options " ++ x) n.0; lawful = of_le a.0 64 (omega (arith, n.1)) })
+    subst (λ (x : Line). IsSpelled (codes "options " ++ text) x) a.2 (record { spelled = ap (λ x. codes "options " ++ x) n.0; lawful = le_of a.0 64 (omega (arith, n.1)) })
 
 name_is : (text : List ℕ) (line : Line) → name_in text ≡ Some line → IsSpelled (codes "option " ++ text) line
 unfolding name_in line_text is_line
@@ -435,7 +430,7 @@ limit_is text line h =
     let a = bind_is _ _ _ h in
     let b = only_if_is (nat_le 1 a.0) (Some (Limit a.0)) line a.2 in
     let n = number_in_is 1000000001 text a.0 a.1 in
-    subst (λ (x : Line). IsSpelled (codes "limit " ++ text) x) (some_same b.1) (record { spelled = ap (λ x. codes "limit " ++ x) n.0; lawful = both (nat_le 1 a.0) (nat_le a.0 1000000000) b.0 (of_le a.0 1000000000 (omega (arith, n.1))) })
+    subst (λ (x : Line). IsSpelled (codes "limit " ++ text) x) (some_same b.1) (record { spelled = ap (λ x. codes "limit " ++ x) n.0; lawful = both (nat_le 1 a.0) (nat_le a.0 1000000000) b.0 (le_of a.0 1000000000 (omega (arith, n.1))) })
 
 rounds_is : (text : List ℕ) (line : Line) → rounds_in text ≡ Some line → IsSpelled (codes "rounds " ++ text) line
 unfolding rounds_in line_text is_line

@@ -1,11 +1,11 @@
 -- One more node line.
-use Rattle.std.proofs.Common.{◌≡◌, ℕ, suc, zero, ◌+◌, ◌<◌, List, [], ◌∷◌, ◌++◌, Bool, true, false, ◌&&◌, length, slice_get, Some, nat_eq, refl, ap, arith, ◌⊎◌, inl, inr}
-use Rattle.std.proofs.lemmas.Bool.Decides.{nat_tests}
+use Rattle.std.proofs.Common.{◌≡◌, ℕ, suc, zero, ◌+◌, ◌<◌, List, [], ◌∷◌, ◌++◌, Bool, true, false, ◌&&◌, length, slice_get, Some, nat_eq, refl, ap, ◌⊎◌, inl, inr}
 use Rattle.vx_bdd_tools.specs.declared.node.Node.{Node}
 use Rattle.vx_bdd_tools.specs.Numbering.{NumbersAll}
 use Rattle.vx_report.specs.declared.report.Report.{Report}
 use Rattle.vx_report_line.specs.Falls.{IsFalling}
 use Rattle.vx_report_reader.specs.Rules.{roots_of, numbers, is_nil}
+use Rattle.vx_report_reader.proofs.Drafts.{nil_of}
 
 get_more : (nodes : List Node) (node : Node) (place : ℕ) (x : Node) → slice_get (nodes ++ node ∷ []) place ≡ Some x → (slice_get nodes place ≡ Some x) ⊎ ((x ≡ node) × (place ≡ length nodes))
 get_more [] node zero x e = inr (cc, refl)
@@ -22,10 +22,6 @@ falls_more nodes node f low high = record {
 walk_none : (nodes more : List Node) (g : ℕ) (roots : List ℕ) → roots ≡ [] → NumbersAll nodes 2 roots g → NumbersAll more 2 roots g
 walk_none nodes more g [] e (NumbersAll.none _) = NumbersAll.none 2
 walk_none nodes more g (r ∷ rs) e w = cc
-
-nil_of : {A : Type 0} (xs : List A) → is_nil xs ≡ true → xs ≡ []
-nil_of [] e = refl
-nil_of (x ∷ xs) e = absurd (grind (arith, nat_tests))
 
 all_true : (a b c d : Bool) → (a && b && c && d) ≡ true → (a ≡ true) × (b ≡ true) × (c ≡ true)
 all_true true true true d e = (refl, refl, refl)

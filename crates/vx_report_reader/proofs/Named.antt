@@ -5,12 +5,7 @@ use Rattle.vx_bdd_tools.specs.declared.node.Node.{Node}
 use Rattle.vx_bdd_tools.specs.Numbering.{Numbers, NumbersAll}
 use Rattle.vx_report.specs.declared.report.Report.{Report}
 use Rattle.vx_report_reader.specs.Rules.{roots_of, IsWalked}
-
-numbers_same : (nodes : List Node) (n k m l : ℕ) → Numbers nodes n k m → Numbers nodes n k l → m ≡ l
-numbers_same nodes n k m l (Numbers.given _ _ h) (Numbers.given _ _ g) = refl
-numbers_same nodes n k m l (Numbers.given _ _ h) (Numbers.made _ _ between node g e low high) = absurd (omega (arith, h, g))
-numbers_same nodes n k m l (Numbers.made _ _ between node h e low high) (Numbers.given _ _ g) = absurd (omega (arith, h, g))
-numbers_same nodes n k m l (Numbers.made _ _ between node h e low high) (Numbers.made _ _ other next g f first last) = refl
+use Rattle.vx_report_line.proofs.Orders.{numbers_same}
 
 pub all_more : (nodes : List Node) (n g m : ℕ) (roots : List ℕ) (node : ℕ) → NumbersAll nodes n roots g → Numbers nodes g node m → NumbersAll nodes n (roots ++ node ∷ []) m
 all_more nodes n g m [] node (NumbersAll.none _) w = NumbersAll.first n node m [] m w (NumbersAll.none m)

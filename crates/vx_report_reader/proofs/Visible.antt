@@ -18,18 +18,13 @@ use Rattle.vx_report.specs.declared.line.Line.TheVariants.{Head, Count, Named, L
 use Rattle.vx_report.specs.Lines.{kinds, word_in, kind_word, end_words, stream_word, line_text}
 use Rattle.vx_report_line.specs.Forms.{is_text, is_code, is_end, is_root, is_line}
 use Rattle.vx_report_line.proofs.Numbers.{by_test, both_true}
+use Rattle.vx_report_line.proofs.Again.{le_from, lt_from}
 
 abbrev pub is_visible : ℕ → Bool
 is_visible b = nat_le 32 b
 
 abbrev pub AreVisible : List ℕ → Type 0
 AreVisible bytes = list_all is_visible bytes ≡ true
-
-le_from : (i j : ℕ) → nat_le i j ≡ true → i ≤ j
-le_from i j t = grind (arith, nat_tests)
-
-lt_from : (i j : ℕ) → nat_lt i j ≡ true → i < j
-lt_from i j t = grind (arith, nat_tests)
 
 one : (b : ℕ) → 32 ≤ b → AreVisible (b ∷ [])
 one b l = let e : nat_le 32 b ≡ true = grind (arith, nat_tests) in rw e refl

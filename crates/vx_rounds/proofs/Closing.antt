@@ -20,7 +20,6 @@ use Rattle.vx_java.specs.Machine.{Outcome as PlainOutcome}
 use Rattle.vx_java.specs.Step.{Progress, next, text_of}
 use Rattle.vx_link.specs.declared.program.Program.{Program}
 use Rattle.vx_stands.specs.Stands.{state_at}
-use Rattle.vx_stands.proofs.StateLaws.{allowed_known}
 use Rattle.vx_rounds.specs.declared.placing.Round.{Round}
 use Rattle.vx_attempt.specs.Attempted.{carried_out_row}
 use Rattle.vx_rounds.specs.Placing.{end_after, piece_after, spent_after, waiting_at, waiting_in, waits_after}
@@ -33,6 +32,7 @@ use Rattle.vx_rounds.proofs.Standing.{bytes_after, bytes_in, output_append, outp
 use Rattle.vx_rounds.proofs.Trees.{AllSingle, AreGroups-tree, AreRunning-tree, nodes_of, running_single, swept_known, waiting_at-tree}
 use Rattle.vx_rounds.proofs.Turning.{IsTurn, left_falls, turned_ends, turned_spent, turned_texts, turned_waits, waited}
 use Rattle.vx_rounds.proofs.Waiting.{no_group, none_waits}
+use Rattle.vx_heap.proofs.Written.{allowed_known}
 
 -- ---- lists of ids
 

@@ -6,8 +6,9 @@ use Rattle.std.proofs.lemmas.List.Elements.{Contains-append_left, Contains-appen
 use Rattle.std.proofs.lemmas.List.Sums.{sum-map, sum_by-cons, sum_by-le-sum_by}
 use Rattle.std.specs.Prelude.{Contains, slice_index_or, sum}
 use Rattle.std.specs.List.{sum_by}
-use Rattle.vx_space.proofs.Differences.{some_difference}
-use Rattle.vx_space.specs.Config.{AgreeBelow, value_of}
+use Rattle.vx_space.proofs.Differences.{some_difference, firsts, value_of-firsts}
+use Rattle.vx_space.specs.Mask.{tail_of}
+use Rattle.vx_space.specs.Config.{value_of}
 use Rattle.vx_space.specs.Sets.{IsLawful, Sets}
 use Rattle.vx_rounds.specs.State.{configurations}
 
@@ -39,27 +40,9 @@ Contains-configurations n c e = subst (λ m. Contains (configurations m) c) e (o
 
 -- ---- nonempty sets
 
-abbrev tail_of : List Bool → List Bool
-tail_of [] = []
-tail_of (v ∷ c) = c
-
--- the first n values
-abbrev firsts : ℕ → List Bool → List Bool
-firsts zero c = []
-firsts (suc n) c = value_of c 0 ∷ firsts n (tail_of c)
-
 length-firsts : (n : ℕ) (c : List Bool) → length (firsts n c) ≡ n
 length-firsts zero c = refl
 length-firsts (suc n) c = ap suc (length-firsts n (tail_of c))
-
-value_of-tail : (c : List Bool) (i : ℕ) → value_of (tail_of c) i ≡ value_of c (suc i)
-value_of-tail [] i = refl
-value_of-tail (v ∷ c) i = refl
-
-value_of-firsts : (n : ℕ) (c : List Bool) → AgreeBelow n (firsts n c) c
-value_of-firsts zero c i l = absurd (omega (arith, l))
-value_of-firsts (suc n) c zero l = refl
-value_of-firsts (suc n) c (suc i) l = value_of-firsts n (tail_of c) i (omega (arith, l)) ∙ value_of-tail c i
 
 -- a configuration of just the options of a space
 pub record IsIn {I : Type 0} (sets : Sets I) (id : I) : Type 0 where

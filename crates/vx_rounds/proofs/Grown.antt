@@ -20,7 +20,7 @@ use Rattle.vx_link.specs.declared.program.Program.{Program}
 use Rattle.vx_sched.specs.Groups as sched
 use Rattle.vx_sched.proofs.GroupsLaws.{AreGroups-later, standing_at-later}
 use Rattle.vx_stands.specs.Stands.{Grows, frame_held, plain_frame, state_of}
-use Rattle.vx_stands.proofs.StateLaws.{allowed_known, both, both_first, both_second}
+use Rattle.vx_stands.proofs.StateLaws.{both, both_first, both_second}
 use Rattle.vx_value.specs.Ends.{compare_ends}
 use Rattle.vx_value.specs.Texts.{text_at}
 use Rattle.vx_value.specs.declared.slot.Slot.{Slot}
@@ -28,6 +28,7 @@ use Rattle.vx_value.specs.declared.slot.Slot.TheVariants.{Top, Int, Long, Null, 
 use Rattle.vx_rounds.specs.declared.placing.Round.{Round}
 use Rattle.vx_rounds.specs.Placing.{AreWaiting, IsGood, IsUnderway, waiting_at}
 use Rattle.vx_rounds.proofs.Waiting.{no_frame, run_by, state_by, waiting_at-standing}
+use Rattle.vx_heap.proofs.Written.{allowed_known}
 
 -- ---- names and texts
 

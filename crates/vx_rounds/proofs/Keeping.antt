@@ -33,7 +33,8 @@ use Rattle.vx_value.specs.Slot.{slot_cmp}
 use Rattle.vx_rounds.specs.Placing.{AreWaiting, IsGood, waiting_at}
 use Rattle.vx_rounds.specs.State.{IsState, StateView, attempts_left, configurations, group_of, left_of, output_at, shared_ids, standing_at, state_ids}
 use Rattle.vx_rounds.proofs.Running.{AreRunning-waiting, AreWaiting-running, left_by, left_of-by, standing_at-by, standing_by}
-use Rattle.vx_rounds.proofs.Waiting.{all_same, no_frame, run_by, state_by, waiting_at-standing}
+use Rattle.vx_rounds.proofs.Waiting.{no_frame, run_by, state_by, waiting_at-standing}
+use Rattle.vx_stands.proofs.StateLaws.{map_same, all_same}
 
 -- ---- the parts of the ids
 
@@ -132,10 +133,6 @@ standing_kept {S = S} {I = I} old new e tree t (group ∷ groups) k a c =
     cases false false q h r = r
 
 -- ---- what waits
-
-map_same : {A B : Type 0} (f g : A → B) → ((a : A) → f a ≡ g a) → (xs : List A) → map f xs ≡ map g xs
-map_same f g h [] = refl
-map_same f g h (x ∷ xs) = λ i. h x i ∷ map_same f g h xs i
 
 plain_frame-kept : {S I : Type 0} (old new : Sets I) (heap : HeapView S I) → AreKept old new (heap_ids heap) → (c : List Bool) (f : PlainFrame) → plain_frame new heap c f ≡ plain_frame old heap c f
 plain_frame-kept old new heap k c f =

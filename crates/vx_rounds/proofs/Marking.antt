@@ -6,7 +6,7 @@ use Rattle.vx_cond.proofs.CondLaws.{IsCond-extends, IsCond-of, cond_at-extends, 
 use Rattle.vx_cond.specs.Cond.{Conditional, IsCondOf, cond_at}
 use Rattle.vx_cond.specs.Leaves.{value_within}
 use Rattle.vx_heap.proofs.Places.{passes_at}
-use Rattle.vx_heap.proofs.Written.{within_there}
+use Rattle.vx_heap.proofs.Written.{within_there, allowed_known}
 use Rattle.vx_heap.specs.First.{IsFirstHeap}
 use Rattle.vx_heap.specs.Heap.{HeapView, IsHeap, IsHeapFor, IsInitWritten, globals_at, inits_at}
 use Rattle.vx_java.specs.Machine.{inits_with}
@@ -38,10 +38,6 @@ IsDone-extends e scope k done d = record {
   scope_is = d.scope_is;
   at = λ c t. cond_at-extends init_state_cmp e done d.is_cond c ∙ d.at c (sym (e.test scope c k) ∙ t);
 }
-
-allowed_known : {S I : Type 0} (sets : Sets I) (heap : HeapView S I) → IsHeap sets heap → sets.is_known heap.allowed ≡ true
-unfolding IsHeap
-allowed_known sets heap v = v.allowed_known
 
 -- ---- the loop over classes
 

@@ -1,6 +1,6 @@
 -- A round begins: the group that makes an attempt, and all else.
 use Rattle.std.proofs.Common.{◌≡◌, ℕ, ◌<◌, Bool, true, false, List, [], ◌∷◌, refl, sym, ◌∙◌, ap, subst, zero, suc, arith}
-use Rattle.std.specs.Prelude.{◌^◌, Option, Some, None, if◌then◌else◌, is_some, slice_get}
+use Rattle.std.specs.Prelude.{◌^◌, Option, Some, if◌then◌else◌, is_some, slice_get}
 use Rattle.std.specs.List.{list_all, remove}
 use Rattle.vx_space.specs.Sets.{Sets, Extends}
 use Rattle.vx_space.proofs.Spaces.{Extends-refl}
@@ -8,7 +8,7 @@ use Rattle.vx_cond.specs.Cond.{Conditional}
 use Rattle.vx_cond.specs.Leaves.{value_at}
 use Rattle.vx_group.specs.declared.callers.Caller.{Caller}
 use Rattle.vx_group.specs.Callers.{frames_at}
-use Rattle.vx_group.specs.Group.{GroupView, IsGroup, IsGroupIn, PlainGroup, attempts_at, group_at, path_of, shapes_of, stack_of}
+use Rattle.vx_group.specs.Group.{GroupView, IsGroup, IsGroupIn, PlainGroup, attempts_at, path_of, shapes_of, stack_of}
 use Rattle.vx_group.proofs.GroupLaws.{IsGroupIn-group, IsGroupIn-same_callers, IsGroup-path_known}
 use Rattle.vx_heap.specs.Heap.{HeapView, IsHeap}
 use Rattle.vx_heap.proofs.HeapLaws.{IsHeap-extends}
@@ -26,7 +26,7 @@ use Rattle.vx_rounds.specs.Placing.{AreWaiting, IsGood, IsUnderway, IsUnwritten,
 use Rattle.vx_rounds.specs.State.{AreRunning, IsRunning, IsState, StateView, group_of}
 use Rattle.vx_rounds.specs.Stepping.{IsBegun, IsCount, IsSpent}
 use Rattle.vx_rounds.proofs.Grown.{some_within}
-use Rattle.vx_rounds.proofs.Running.{AreWaiting-running}
+use Rattle.vx_rounds.proofs.Running.{AreWaiting-running, later_none}
 use Rattle.vx_rounds.proofs.Waiting.{groups_apart}
 
 -- ---- the group of a place
@@ -57,14 +57,6 @@ chosen_is_group p sets allowed st after which round group h b = IsGroupIn-group 
 
 -- ---- the others wait
 
-none_apart : {S I : Type 0} (sets : Sets I) (tree : List (Option (Caller S I))) (set : I) (groups : List (GroupView S I)) → sched.AreApart sets set groups → (c : List Bool) → sets.test set c ≡ true → sched.standing_at sets tree groups c ≡ None
-none_apart sets tree set [] a c t = refl
-none_apart {S = S} {I = I} sets tree set (group ∷ groups) a c t = cases (sets.test (path_of group) c) (a.0.apart c t) (none_apart sets tree set groups a.1 c t)
-  where
-    cases : (b : Bool) → b ≡ false → sched.standing_at sets tree groups c ≡ None → (if b then Some (group_at sets tree group c) else sched.standing_at sets tree groups c) ≡ None
-    cases true h r = cc h
-    cases false h r = r
-
 pub rest_waits : {S I : Type 0} (p : Program) (sets : Sets I) (st : StateView S I) (which : ℕ) (group : GroupView S I) → AreWaiting p sets st.heap st.tree st.limit st.groups → IsTaken sets st.tree st.groups group (remove st.groups which) → AreWaiting p sets st.heap st.tree st.limit (remove st.groups which)
 rest_waits {S = S} {I = I} p sets st which group w k = record {
   are_groups = k.others;
@@ -73,7 +65,7 @@ rest_waits {S = S} {I = I} p sets st which group w k = record {
 }
   where
     cases : (c : List Bool) (b : Bool) → sets.test (path_of group) c ≡ b → IsGood sets st.heap st.limit c (sched.standing_at sets st.tree st.groups c) → IsGood sets st.heap st.limit c (sched.standing_at sets st.tree (remove st.groups which) c)
-    cases c true t g = let Q : Option PlainGroup → Type 0 = λ o. IsGood sets st.heap st.limit c o in subst Q (sym (none_apart sets st.tree (path_of group) (remove st.groups which) k.beside.apart c t)) tt
+    cases c true t g = let Q : Option PlainGroup → Type 0 = λ o. IsGood sets st.heap st.limit c o in subst Q (sym (later_none sets st.tree (path_of group) (remove st.groups which) k.beside.apart c t)) tt
     cases c false t g = let Q : Option PlainGroup → Type 0 = λ o. IsGood sets st.heap st.limit c o in subst Q (k.outside c t) g
 
 pub begun_underway : {S I : Type 0} (p : Program) (sets : Sets I) (allowed : I) (st after : StateView S I) (which : ℕ) (round : Round S I) (group : GroupView S I) → IsState p sets allowed st → IsBegun st after which round group → IsUnderway p sets st.heap st.limit round

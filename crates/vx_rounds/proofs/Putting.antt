@@ -40,7 +40,7 @@ IsPut-before p s2 e heap v limit made leads before after u q = record {
 
 -- ---- one after the other
 
-then_put : {A B : Type 0} (f : A → Option B) (a b : Option A) (o : Option B) → put_if f b (put_if f a o) ≡ put_if f (option_or b a) o
+pub then_put : {A B : Type 0} (f : A → Option B) (a b : Option A) (o : Option B) → put_if f b (put_if f a o) ≡ put_if f (option_or b a) o
 then_put f a None o = refl
 then_put f a (Some n) o = refl
 

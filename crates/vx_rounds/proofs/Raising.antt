@@ -8,10 +8,10 @@ use Rattle.vx_group.specs.Callers.{callers_of, frames_at}
 use Rattle.vx_group.specs.Group.{GroupView, path_of}
 use Rattle.vx_heap.specs.Heap.{HeapView, IsHeap}
 use Rattle.vx_class.specs.declared.class_file.Catch.{Catch}
-use Rattle.vx_families.specs.Built.{catches_of, has_none, is_call}
+use Rattle.vx_families.specs.Built.{has_none, is_call}
 use Rattle.vx_java.specs.Machine.{Ends, Null, Ref, State, next_object, no_object, object_at, with_objects}
 use Rattle.vx_java.specs.FirstObjects.{string_object}
-use Rattle.vx_java.specs.Selection.{handler_for, handler_in}
+use Rattle.vx_java.specs.Selection.{handler_for, handler_in, catches_of}
 use Rattle.vx_java.specs.Throwing.{exception_objects, handler_of, next_after_raise, next_in_handler, passed_object, passed_state, throwable, uncaught, unwind}
 use Rattle.vx_link.specs.ClassNames.{class_text}
 use Rattle.vx_link.specs.Parts.{class_at, method_at}

@@ -6,7 +6,7 @@ use Rattle.std.proofs.Common.{arith}
 use Rattle.vx_space.specs.Sets.{Sets}
 use Rattle.vx_heap.specs.Heap.{HeapView}
 use Rattle.vx_class.specs.Members.{STATIC}
-use Rattle.vx_families.specs.Built.{catches_of, has_none, is_built, is_built_at, is_built_outcome, is_call, is_single, println_int}
+use Rattle.vx_families.specs.Built.{has_none, is_built, is_built_at, is_built_outcome, is_call, is_single, println_int}
 use Rattle.vx_java.specs.Calls.{arguments_off, if_arguments}
 use Rattle.vx_java.specs.Checks.{is_instance_of}
 use Rattle.vx_java.specs.Machine.{Begin, Ended, Go, Here, Native, Outcome, Raise, State, Throw, Value, Write, illegal, when}
@@ -23,6 +23,7 @@ use Rattle.vx_outcome.specs.declared.outcome.Outcome.{Outcome as SharedOutcome}
 use Rattle.vx_outcome.specs.declared.outcome.Outcome.TheVariants as shared
 use Rattle.vx_stands.specs.Stands.{outcome_at, state_at}
 use Rattle.vx_rounds.specs.Placing.{has_place, is_refused}
+use Rattle.vx_java.specs.Selection.{catches_of}
 
 -- ---- println of an int comes to no native method
 

@@ -78,7 +78,7 @@ running_of p sets st group v h g =
     }
 
 -- where a group stands no later one does
-later_none : {S I : Type 0} (sets : Sets I) (tree : List (Option (Caller S I))) (set : I) (groups : List (GroupView S I)) → sched.AreApart sets set groups → (c : List Bool) → sets.test set c ≡ true → sched.standing_at sets tree groups c ≡ None
+pub later_none : {S I : Type 0} (sets : Sets I) (tree : List (Option (Caller S I))) (set : I) (groups : List (GroupView S I)) → sched.AreApart sets set groups → (c : List Bool) → sets.test set c ≡ true → sched.standing_at sets tree groups c ≡ None
 later_none sets tree set [] a c t = refl
 later_none {S = S} {I = I} sets tree set (group ∷ groups) a c t = cases (sets.test (path_of group) c) (a.0.apart c t) (later_none sets tree set groups a.1 c t)
   where

@@ -23,7 +23,7 @@ use Rattle.vx_stands.specs.Stands.{message_of, outcome_at}
 use Rattle.vx_stands.proofs.StateLaws.{StandsIn-extends, both_first, both_second, state_at-extends}
 use Rattle.vx_rounds.specs.declared.placing.Round.{Round}
 use Rattle.vx_rounds.specs.Placing.{ArePlaceable, HasGoing, HasPlace, HavePlaces, IsGoing, IsOutcomePlaced, IsPlaceable, IsUnderway, IsUnwritten, IsVacant, has_place, led_by, made_at, piece_after, put_if, said_by, said_in}
-use Rattle.vx_rounds.proofs.Putting.{IsPut-same, IsPut-then, IsVacant-put}
+use Rattle.vx_rounds.proofs.Putting.{IsPut-same, IsPut-then, IsVacant-put, then_put}
 
 -- ---- over a later space
 
@@ -167,10 +167,6 @@ led_or : {A B : Type 0} (f : A → B) (a b : Option A) → option_or (option_map
 led_or f None b = refl
 led_or f (Some x) b = refl
 
-put_or : {A B : Type 0} (f : A → Option B) (a b : Option A) (o : Option B) → put_if f b (put_if f a o) ≡ put_if f (option_or b a) o
-put_or f a None o = refl
-put_or f a (Some n) o = refl
-
 pub IsPlacing-step : {S I : Type 0} (p : Program) {s0 s s1 : Sets I} → IsLawful s0 → (heap : HeapView S I) → IsHeap s0 heap → (limit : ℕ) (attempts : Conditional ℕ S I) → IsCond nat_cmp s0 attempts → (before round after : Round S I) (outcomes xs : List (Outcome S I)) (x : Outcome S I) → IsPlacing p s0 s heap limit attempts before round outcomes (x ∷ xs) → Extends s s1 → IsOutcomePlaced p s s1 heap limit attempts (said_by s heap x) round after → IsPlacing p s0 s1 heap limit attempts before after outcomes xs
 IsPlacing-step {S = S} {I = I} p {s0 = s0} {s = s} {s1 = s1} l heap v limit attempts a before round after outcomes xs x k e q =
     let there = said_by-extends p l k.extends heap v attempts x k.placeable.0 k.places.0 in
@@ -189,7 +185,7 @@ IsPlacing-step {S = S} {I = I} p {s0 = s0} {s = s} {s1 = s1} l heap v limit atte
             (λ c n h. refl) both;
         written = record {
           texts = λ c. q.written.texts c ∙ ap (λ o. put_if piece_after o (value_at s (leaves_of round.texts.items) c)) (there c) ∙ ap (λ o. put_if piece_after (said_by s0 heap x c) o) (k.placed.written.texts c)
-              ∙ put_or piece_after (said_in s0 heap k.done c) (said_by s0 heap x c) (value_at s0 (leaves_of before.texts.items) c)
+              ∙ then_put piece_after (said_in s0 heap k.done c) (said_by s0 heap x c) (value_at s0 (leaves_of before.texts.items) c)
               ∙ ap (λ o. put_if piece_after o (value_at s0 (leaves_of before.texts.items) c)) (either (said_in s0 heap k.done c) (said_by s0 heap x c) (λ h. (next_free p heap limit attempts before round outcomes xs x k c (k.extends.test (condition_of x) c k.placeable.0.known ∙ holds (s0.test (condition_of x) c) (outcome_at s0 heap [] c x) h)).1) ∙ sym (said_in-append s0 heap k.done x c));
         };
       };

@@ -1,7 +1,6 @@
 -- What waits at a configuration, and what it keeps where the space is extended.
 use Rattle.std.proofs.Common.{◌≡◌, ℕ, Bool, true, false, List, [], ◌∷◌, refl, sym, ◌∙◌, ap, subst, map}
-use Rattle.std.specs.Prelude.{◌&&◌, Option, Some, None, if◌then◌else◌, option_map}
-use Rattle.std.specs.List.{list_all}
+use Rattle.std.specs.Prelude.{Option, Some, None, if◌then◌else◌, option_map}
 use Rattle.vx_space.specs.Sets.{Sets, Extends}
 use Rattle.vx_frame.specs.Frame.{PlainFrame}
 use Rattle.vx_group.specs.declared.callers.Caller.{Caller}
@@ -14,20 +13,13 @@ use Rattle.vx_link.specs.declared.program.Program.{Program}
 use Rattle.vx_sched.specs.Groups as sched
 use Rattle.vx_sched.proofs.GroupsLaws.{AreGroups-later, standing_at-later}
 use Rattle.vx_stands.specs.Stands.{frame_held, plain_frame, state_of}
-use Rattle.vx_stands.proofs.StateLaws.{allowed_known, frame_held-extends, plain_frame-extends}
+use Rattle.vx_stands.proofs.StateLaws.{frame_held-extends, plain_frame-extends, all_same, map_same}
 use Rattle.vx_value.specs.declared.key.Kind.TheVariants.{Call}
 use Rattle.vx_rounds.specs.Placing.{AreWaiting, IsGood, Waiting, waiting_at, waiting_in}
 use Rattle.vx_rounds.specs.State.{group_of}
+use Rattle.vx_heap.proofs.Written.{allowed_known}
 
 -- ---- tests
-
-pub all_same : {A : Type 0} (f g : A → Bool) → ((a : A) → f a ≡ g a) → (xs : List A) → list_all f xs ≡ list_all g xs
-all_same f g h [] = refl
-all_same f g h (x ∷ xs) = λ i. h x i && all_same f g h xs i
-
-map_same : {A B : Type 0} (f g : A → B) → ((a : A) → f a ≡ g a) → (xs : List A) → map f xs ≡ map g xs
-map_same f g h [] = refl
-map_same f g h (x ∷ xs) = λ i. h x i ∷ map_same f g h xs i
 
 -- ---- the plain state of plain frames
 

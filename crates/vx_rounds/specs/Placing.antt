@@ -9,7 +9,7 @@ use Rattle.vx_frame.specs.Frame.{Shape}
 use Rattle.vx_group.specs.declared.callers.Caller.{Caller}
 use Rattle.vx_group.specs.Group.{GroupView, PlainGroup, attempts_at, path_of}
 use Rattle.vx_heap.specs.Heap.{HeapView}
-use Rattle.vx_families.specs.Built.{catches_of, has_none, is_built_outcome, is_call}
+use Rattle.vx_families.specs.Built.{has_none, is_built_outcome, is_call}
 use Rattle.vx_findings.specs.declared.piece.Piece.{Piece}
 use Rattle.vx_findings.specs.Orders.{piece_cmp}
 use Rattle.vx_findings.specs.Shared.{leaves_of}
@@ -29,6 +29,7 @@ use Rattle.vx_value.specs.declared.end.End.TheVariants.{Unfinished}
 use Rattle.vx_value.specs.declared.end.Stream.{Stream}
 use Rattle.vx_rounds.specs.declared.placing.Round.{Round}
 use Rattle.vx_rounds.specs.State.{group_of}
+use Rattle.vx_java.specs.Selection.{catches_of}
 
 -- ---- the groups that wait
 

@@ -2,21 +2,15 @@
 use Rattle.std.proofs.Common.{◌≡◌, ◌≢◌, ◌⊎◌, ℕ, ◌<◌, Bool, true, false, List, [], ◌∷◌, refl, sym, ◌∙◌, arith, zero, suc, inl, inr}
 use Rattle.vx_space.specs.Config.{value_of}
 use Rattle.vx_space.specs.Sets.{Sets, IsLawful}
-
-abbrev tail_of : List Bool → List Bool
-tail_of [] = []
-tail_of (v ∷ c) = c
+use Rattle.vx_space.specs.Mask.{tail_of}
+use Rattle.vx_space.specs.MaskLaws.{value_of-tail}
 
 -- the first n values
-abbrev firsts : ℕ → List Bool → List Bool
+abbrev pub firsts : ℕ → List Bool → List Bool
 firsts zero c = []
 firsts (suc n) c = value_of c 0 ∷ firsts n (tail_of c)
 
-value_of-tail : (c : List Bool) (i : ℕ) → value_of (tail_of c) i ≡ value_of c (suc i)
-value_of-tail [] i = refl
-value_of-tail (v ∷ c) i = refl
-
-value_of-firsts : (n : ℕ) (c : List Bool) (i : ℕ) → i < n → value_of (firsts n c) i ≡ value_of c i
+pub value_of-firsts : (n : ℕ) (c : List Bool) (i : ℕ) → i < n → value_of (firsts n c) i ≡ value_of c i
 value_of-firsts zero c i l = absurd (omega (arith, l))
 value_of-firsts (suc n) c zero l = refl
 value_of-firsts (suc n) c (suc i) l = value_of-firsts n (tail_of c) i (omega (arith, l)) ∙ value_of-tail c i

@@ -5,13 +5,13 @@ use Rattle.std.specs.Int.{bit_at, bit_not, w64, w32}
 use Rattle.std.proofs.lemmas.Nat.{pow_pos, or_lt, and_le_l, one_shl}
 use Rattle.std.proofs.lemmas.Bool.{cases_eq}
 use Rattle.std.proofs.lemmas.Nat.Bits.{bit_at-suc, bit_at-lt, bit_at_lowest, bit_at_and, bit_at_or, bit_at_not, bit_at_set_same, bit_at_set_other, bit_at_clear_same, bit_at_clear_other, same_from_bits, same_from_bits_below}
-use Rattle.std.proofs.lemmas.Bool.Decides.{nat_tests}
 use Rattle.vx_space.specs.Config.{value_of, with_option}
 use Rattle.vx_space.specs.Under.{IsFree, fixed}
 use Rattle.vx_space.specs.Sets.{IsSet, IsLawful, IsTop}
 use Rattle.vx_space.proofs.Differences.{some_difference}
 use Rattle.vx_space.specs.Mask.{tail_of, number_of, with_bit, masks, HasBits}
-use Rattle.vx_space.specs.MaskLaws.{value_of-tail, number_of-lt, lawful_masks}
+use Rattle.vx_space.specs.MaskLaws.{value_of-tail, number_of-lt, lawful_masks, bit_small, known_lt, lt_known, pow_twice}
+use Rattle.vx_space.proofs.Configs.{value_of-other, value_of-same}
 
 tail-with_option : (c : List Bool) (i : ℕ) (b : Bool) → tail_of (with_option c (suc i) b) ≡ with_option (tail_of c) i b
 tail-with_option [] i b = refl
@@ -28,10 +28,6 @@ first-with_first (v ∷ c) b = refl
 first-with_later : (c : List Bool) (i : ℕ) (b : Bool) → value_of (with_option c (suc i) b) 0 ≡ value_of c 0
 first-with_later [] i b = refl
 first-with_later (v ∷ c) i b = refl
-
-bit_small : (b : Bool) → (if b then 1 else 0) < 2
-bit_small true = omega arith
-bit_small false = omega arith
 
 half_of : (p m : ℕ) → p < 2 → (p + 2 * m) / 2 ≡ m
 half_of p m l = omega (arith, l)
@@ -54,9 +50,6 @@ bit_at-number_of (suc n) c zero l = bit_at_lowest (number_of (suc n) c) ∙ rest
 bit_at-number_of (suc n) c (suc i) l =
     let less : i < n = omega (arith, l) in
     bit_at-suc (number_of (suc n) c) i ∙ ap (λ k. bit_at k i) (half_of (if value_of c 0 then 1 else 0) (number_of n (tail_of c)) (bit_small (value_of c 0))) ∙ bit_at-number_of n (tail_of c) i less ∙ ap (λ v. if v then 1 else 0) (value_of-tail c i)
-
-pow_twice : (n : ℕ) → 2 ^ suc n ≡ 2 * 2 ^ n
-pow_twice n = grind arith
 
 bit_twice : (v : Bool) (n : ℕ) → (if v then 2 ^ suc n else 0) ≡ 2 * (if v then 2 ^ n else 0)
 bit_twice true n = pow_twice n
@@ -90,12 +83,6 @@ test_not : (x : ℕ) → x < 2 → nat_eq (1 - x) 1 ≡ not (nat_eq x 1)
 test_not zero l = refl
 test_not (suc zero) l = refl
 test_not (suc (suc x)) l = absurd (omega (arith, l))
-
-known_lt : (m n : ℕ) → nat_lt m n ≡ true → m < n
-known_lt m n e = grind (arith, nat_tests)
-
-lt_known : (m n : ℕ) → m < n → nat_lt m n ≡ true
-lt_known m n e = grind (arith, nat_tests)
 
 pub IsSet-and : (options a b : ℕ) → nat_lt a (2 ^ 2 ^ options) ≡ true → IsSet (masks options) (bit_and a b) (λ c. (masks options).test a c && (masks options).test b c)
 IsSet-and options a b s = record {
@@ -274,22 +261,6 @@ switched options a i c few k f = own (value_of c i) ∙ (lawful_masks options fe
 abbrev all_off : ℕ → List Bool → List Bool
 all_off zero c = c
 all_off (suc n) c = with_option (all_off n c) n false
-
-value_of-same : (c : List Bool) (i : ℕ) (b : Bool) → value_of (with_option c i b) i ≡ b
-value_of-same [] zero b = refl
-value_of-same [] (suc i) b = value_of-same [] i b
-value_of-same (v ∷ c) zero b = refl
-value_of-same (v ∷ c) (suc i) b = value_of-same c i b
-
-value_of-other : (c : List Bool) (i j : ℕ) (b : Bool) → i ≢ j → value_of (with_option c i b) j ≡ value_of c j
-value_of-other [] zero zero b n = absurd (n refl)
-value_of-other [] zero (suc j) b n = refl
-value_of-other [] (suc i) zero b n = refl
-value_of-other [] (suc i) (suc j) b n = value_of-other [] i j b (λ e. n (ap suc e))
-value_of-other (v ∷ c) zero zero b n = absurd (n refl)
-value_of-other (v ∷ c) zero (suc j) b n = refl
-value_of-other (v ∷ c) (suc i) zero b n = refl
-value_of-other (v ∷ c) (suc i) (suc j) b n = value_of-other c i j b (λ e. n (ap suc e))
 
 off_below : (n : ℕ) (c : List Bool) (i : ℕ) → i < n → value_of (all_off n c) i ≡ false
 off_below zero c i l = absurd (omega (arith, l))

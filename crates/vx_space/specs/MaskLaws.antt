@@ -13,11 +13,11 @@ pub value_of-tail : (c : List Bool) (i : ℕ) → value_of (tail_of c) i ≡ val
 value_of-tail [] i = refl
 value_of-tail (v ∷ c) i = refl
 
-bit_small : (b : Bool) → (if b then 1 else 0) < 2
+pub bit_small : (b : Bool) → (if b then 1 else 0) < 2
 bit_small true = omega arith
 bit_small false = omega arith
 
-pow_twice : (n : ℕ) → 2 ^ suc n ≡ 2 * 2 ^ n
+pub pow_twice : (n : ℕ) → 2 ^ suc n ≡ 2 * 2 ^ n
 pow_twice n = grind arith
 
 pub number_of-lt : (n : ℕ) (c : List Bool) → number_of n c < 2 ^ n
@@ -56,10 +56,10 @@ same_bits (suc zero) (suc zero) l m e = refl
 same_bits (suc (suc p)) q l m e = absurd (omega (arith, l))
 same_bits p (suc (suc q)) l m e = absurd (omega (arith, m))
 
-known_lt : (m n : ℕ) → nat_lt m n ≡ true → m < n
+pub known_lt : (m n : ℕ) → nat_lt m n ≡ true → m < n
 known_lt m n e = grind (arith, nat_tests)
 
-lt_known : (m n : ℕ) → m < n → nat_lt m n ≡ true
+pub lt_known : (m n : ℕ) → m < n → nat_lt m n ≡ true
 lt_known m n e = grind (arith, nat_tests)
 
 pub lawful_masks : (options : ℕ) → options ≤ 6 → IsLawful (masks options)

@@ -59,7 +59,7 @@ by_kind site taken sets answers heap c s (Raise class message) e = refl
 by_kind site taken sets answers heap c s (Push slot) e = ap (λ a. push (here site s) (value_of sets heap c (pushed_by a)) (drop taken s.top.operands)) e
 by_kind site taken sets answers heap c s (Jump position) e = refl
 
-some_same : {T : Type 0} (a b : T) → Some a ≡ Some b → a ≡ b
+pub some_same : {T : Type 0} (a b : T) → Some a ≡ Some b → a ≡ b
 some_same a b e = cc
 
 -- the value of a leaf is the kind of the answers in its condition

@@ -7,3 +7,5 @@ pub mod SettleLaws
 pub mod AnswerLaws
 pub mod PartLaws
 pub mod KindLaws
+pub mod Operands
+pub mod GroupParts

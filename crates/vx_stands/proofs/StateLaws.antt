@@ -21,12 +21,13 @@ use Rattle.vx_heap.proofs.HeapLaws.{globals_at-extends, is_held-extends, value_o
 use Rattle.vx_java.specs.Machine.{at_position}
 use Rattle.vx_link.specs.declared.program.Program.{Program}
 use Rattle.vx_stands.specs.Stands.{Continues, StandsIn, frame_held, is_shaped, plain_frame, state_at, state_of}
+use Rattle.vx_heap.proofs.Written.{allowed_known}
 
-map_same : {A B : Type 0} (f g : A → B) → ((a : A) → f a ≡ g a) → (xs : List A) → map f xs ≡ map g xs
+pub map_same : {A B : Type 0} (f g : A → B) → ((a : A) → f a ≡ g a) → (xs : List A) → map f xs ≡ map g xs
 map_same f g h [] = refl
 map_same f g h (x ∷ xs) = λ i. h x i ∷ map_same f g h xs i
 
-all_same : {A : Type 0} (f g : A → Bool) → ((a : A) → f a ≡ g a) → (xs : List A) → list_all f xs ≡ list_all g xs
+pub all_same : {A : Type 0} (f g : A → Bool) → ((a : A) → f a ≡ g a) → (xs : List A) → list_all f xs ≡ list_all g xs
 all_same f g h [] = refl
 all_same f g h (x ∷ xs) = λ i. h x i && all_same f g h xs i
 
@@ -52,10 +53,6 @@ pub frame_held-extends : {S I : Type 0} {old new : Sets I} → Extends old new �
 frame_held-extends {old = old} {new = new} e heap v c f =
     let held = all_same (is_held new heap c) (is_held old heap c) (is_held-extends e heap v c) in
     λ i. held f.locals i && held f.operands i
-
-pub allowed_known : {S I : Type 0} (sets : Sets I) (heap : HeapView S I) → IsHeap sets heap → sets.is_known heap.allowed ≡ true
-unfolding IsHeap
-allowed_known sets heap v = v.allowed_known
 
 -- ---- another frame on top, over the same callers
 

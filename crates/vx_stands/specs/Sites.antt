@@ -46,3 +46,8 @@ pub record Cover {K S I : Type 0} (sets : Sets I) (path : I) (leaves : List (Lea
 -- where leaves say that the operands fit, the run goes past the instruction
 abbrev pub settled_by : {S I : Type 0} → Site → Sets I → List (Leaf Bool S I) → List Bool → State → PlainOutcome
 settled_by site sets fits c s = when (unwrap_or (value_at sets fits c) false) (go (here site s) s.top.operands) (illegal (here site s))
+
+-- some configuration is in the set
+pub record IsSomewhere {I : Type 0} (sets : Sets I) (path : I) : Type 0 where
+  pub config : List Bool
+  pub inside : sets.test path config ≡ true

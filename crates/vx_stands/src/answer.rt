@@ -1,6 +1,5 @@
 //! What an instruction makes of its operands at one configuration.
 
-
 use vx_value::{ClassId, Exact, Slot};
 
 /// What an instruction makes of its operands at one configuration.

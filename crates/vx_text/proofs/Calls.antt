@@ -5,7 +5,7 @@ use Rattle.std.specs.Prelude.{not, ◌&&◌}
 use Rattle.vx_cond.specs.declared.cond.Leaf.{Leaf}
 use Rattle.vx_cond.specs.Leaves.{AreLeaves}
 use Rattle.vx_cond.specs.Row.{IsRow}
-use Rattle.vx_frame.specs.Frame.{Shape, frame_at, shape_of}
+use Rattle.vx_frame.specs.Frame.{Shape, frame_at}
 use Rattle.vx_frame.proofs.FrameLaws.{frame_at-extends}
 use Rattle.vx_group.specs.Group.{GroupView, IsGroup, IsPartOf, path_of}
 use Rattle.vx_group.proofs.GroupLaws.{IsGroup-extends, IsGroup-path_known, IsGroup-top}
@@ -40,27 +40,16 @@ use Rattle.vx_text.specs.declared.print.Print.{Print}
 use Rattle.vx_text.specs.declared.print.Print.TheVariants.{Line}
 use Rattle.vx_families.proofs.MoreTexts.{HasMoreTexts-refl, HasMoreTexts-trans, frame_held-texts}
 use Rattle.vx_text.proofs.Texts.{KeepsPlain-more}
+use Rattle.vx_stands.proofs.GroupParts.{part_shape, part_frame, part_group}
 
 -- ---- what a part of a group keeps
-
-part_shape : {S I : Type 0} (s0 s1 : Sets I) (set : List Bool → Bool) (group part : GroupView S I) → IsPartOf s0 s1 set group part → shape_of part.top ≡ shape_of group.top
-unfolding IsPartOf
-part_shape s0 s1 set group part q = q.shape
 
 pub part_operands : {S I : Type 0} (s0 s1 : Sets I) (set : List Bool → Bool) (group part : GroupView S I) → IsPartOf s0 s1 set group part → length part.top.stack.conds ≡ length group.top.stack.conds
 part_operands s0 s1 set group part q = ap (λ (s : Shape). s.part.depth) (part_shape s0 s1 set group part q)
 
-pub part_frame : {S I : Type 0} (s0 s1 : Sets I) (set : List Bool → Bool) (group part : GroupView S I) → IsPartOf s0 s1 set group part → (c : List Bool) → s1.test (path_of part) c ≡ true → frame_at s1 part.top c ≡ frame_at s0 group.top c
-unfolding IsPartOf
-part_frame s0 s1 set group part q c t = ap (λ top. top.frame) (q.at c t)
-
 part_inside : {S I : Type 0} (s0 s1 : Sets I) (set : List Bool → Bool) (group part : GroupView S I) → IsPartOf s0 s1 set group part → (c : List Bool) → s1.test (path_of part) c ≡ set c
 unfolding IsPartOf
 part_inside s0 s1 set group part q c = q.path.test c
-
-part_group : {S I : Type 0} (s0 s1 : Sets I) (set : List Bool → Bool) (group part : GroupView S I) → IsPartOf s0 s1 set group part → IsGroup s1 part
-unfolding IsPartOf
-part_group s0 s1 set group part q = q.is_group
 
 pub IsCalling-part : {S I : Type 0} (site : Site) {s0 s1 : Sets I} (set : List Bool → Bool) (heap : HeapView S I) (group part : GroupView S I) → Extends s0 s1 → IsCalling site s0 heap group → ((c : List Bool) → set c ≡ true → s0.test (path_of group) c ≡ true) → IsPartOf s0 s1 set group part → IsCalling site s1 heap part
 IsCalling-part site {s0 = s0} {s1 = s1} set heap group part e k inside q =

@@ -1,5 +1,5 @@
 -- What a group with one receiver prints.
-use Rattle.std.proofs.Common.{◌≡◌, ℕ, ◌<◌, zero, suc, Bool, true, false, List, [], ◌∷◌, refl, sym, ◌∙◌, ap, arith, map, drop, length}
+use Rattle.std.proofs.Common.{◌≡◌, ℕ, ◌<◌, suc, Bool, true, false, List, ◌∷◌, sym, ◌∙◌, ap, arith, map, drop, length}
 use Rattle.std.specs.Ordering.{bool_cmp}
 use Rattle.std.specs.Prelude.{Option, Some, None, is_some, slice_get, unwrap_or}
 use Rattle.vx_cond.specs.Cond.{Conditional, IsCond, IsCondLifting2, IsInside, cond_at}
@@ -12,8 +12,7 @@ use Rattle.vx_frame.specs.Frame.{frame_at}
 use Rattle.vx_frame.proofs.FrameLaws.{IsFrame-stack}
 use Rattle.vx_group.specs.Group.{GroupView, path_of}
 use Rattle.vx_group.proofs.GroupLaws.{IsGroup-path_known, IsGroup-top}
-use Rattle.vx_heap.specs.declared.object.HeapObject.{HeapObject}
-use Rattle.vx_heap.specs.Heap.{HeapView, are_held, is_held, is_object_held, name_at, object_in, value_of}
+use Rattle.vx_heap.specs.Heap.{HeapView, are_held, is_held, name_at, object_in, value_of}
 use Rattle.vx_java.specs.Machine.{State, cell_at, no_object, past, Top as TopValue}
 use Rattle.vx_java.specs.Machine.{Outcome as PlainOutcome, Write}
 use Rattle.vx_java.specs.Texts.{stream_of_cell}
@@ -27,7 +26,7 @@ use Rattle.vx_stands.specs.Stands.{state_at}
 use Rattle.vx_stands.specs.declared.site.Site.{Site}
 use Rattle.vx_stands.proofs.EndingLaws.{GivesAt-before}
 use Rattle.vx_stands.proofs.SettleLaws.{stack_scope}
-use Rattle.vx_stands.proofs.StateLaws.{both_first, both_second}
+use Rattle.vx_stands.proofs.StateLaws.{both_second}
 use Rattle.vx_value.specs.declared.slot.Slot.{Slot}
 use Rattle.vx_value.specs.declared.slot.Slot.TheVariants.{Top, Int, Long, Null, Ref, Text}
 use Rattle.vx_value.specs.Slot.{slot_cmp}
@@ -36,8 +35,8 @@ use Rattle.vx_text.specs.Printing.{HasReceiver, IsCalling, is_out_at, line_of, o
 use Rattle.vx_text.specs.Prints.{print_cmp}
 use Rattle.vx_text.specs.declared.print.Print.{Print}
 use Rattle.vx_text.specs.declared.print.Print.TheVariants.{Illegal}
-use Rattle.vx_text.proofs.Operands.{operand_there, two_operands}
 use Rattle.vx_text.proofs.Texts.{KeepsPlain-more}
+use Rattle.vx_stands.proofs.Operands.{operand_there, two_operands, held_there, item_held}
 
 -- ---- what is printed at a configuration
 
@@ -69,16 +68,6 @@ line_law sets heap c site s out (Ref i) reference rest e f = sym (ap (printed_li
 line_law sets heap c site s out (Text n) reference rest e f = sym (ap (printed_line site s) e)
 
 -- ---- the receiver
-
-held_there : {S I : Type 0} (sets : Sets I) (c : List Bool) (os : List (HeapObject S I)) (i : ℕ) (d : HeapObject S I) → is_object_held sets c (slice_get os i) ≡ true → (i < length os) × (sets.test (item_or os i d).presence c ≡ true)
-held_there sets c [] i d h = cc
-held_there sets c (o ∷ os) zero d h = (omega arith, h)
-held_there sets c (o ∷ os) (suc i) d h = let more = held_there sets c os i d h in (omega (arith, more.0), more.1)
-
-item_held : {S I : Type 0} (sets : Sets I) (heap : HeapView S I) (c : List Bool) (slots : List Slot) (i : ℕ) → are_held sets heap c slots ≡ true → is_held sets heap c (item_or slots i Top) ≡ true
-item_held sets heap c [] i h = refl
-item_held sets heap c (x ∷ xs) zero h = both_first (is_held sets heap c x) _ h
-item_held sets heap c (x ∷ xs) (suc i) h = item_held sets heap c xs i (both_second (is_held sets heap c x) _ h)
 
 -- it is there at each configuration of the group
 pub receiver_there : {S I : Type 0} (site : Site) (sets : Sets I) (heap : HeapView S I) (group : GroupView S I) (reference : ℕ) → IsCalling site sets heap group → HasReceiver sets group (Some reference) → (c : List Bool) → sets.test (path_of group) c ≡ true → (reference < length heap.objects) × (sets.test (object_in heap reference).presence c ≡ true)

@@ -19,6 +19,7 @@ use Rattle.vx_opcode.specs.Decode.{instruction_at}
 use Rattle.vx_stands.specs.Sites.{here}
 use Rattle.vx_stands.specs.declared.site.Site.{Site}
 use Rattle.vx_families.specs.Built.{is_println_method}
+use Rattle.vx_stands.proofs.Operands.{with_operands}
 
 -- the outcome by the operands, the top first
 abbrev pub line_on : Here → (class : ℕ) → (static : Bool) → List Value → Outcome
@@ -31,9 +32,6 @@ line_on h class _ _ = illegal h
 -- the method with the number and the descriptor of println of an int
 abbrev of_println : LinkedMethod → LinkedMethod
 of_println m = record m { descriptor = codes "(I)V"; native = println_int }
-
-abbrev with_operands : Here → List Value → Here
-with_operands h operands = record h { state = record (h.state) { top = record (h.state.top) { operands = operands } } }
 
 -- static or not
 by_static : (h : Here) (m : LinkedMethod) (class : ℕ) (arguments below operands : List Value) → apply h m [] arguments below ≡ line_on h class true operands → apply_to h m arguments below ≡ line_on h class false operands → (b : Bool) → when b (apply h m [] arguments below) (apply_to h m arguments below) ≡ line_on h class b operands

@@ -1,10 +1,9 @@
 -- A group by its receivers, and what println of an int comes to at each.
-use Rattle.std.proofs.Common.{◌≡◌, ◌≢◌, ℕ, ◌<◌, Bool, true, false, List, [], ◌∷◌, ◌++◌, refl, sym, ◌∙◌, ap, subst, arith, map, drop, get_or, length}
+use Rattle.std.proofs.Common.{◌≡◌, ℕ, ◌<◌, Bool, true, false, List, [], ◌∷◌, ◌++◌, refl, sym, ◌∙◌, ap, arith, map, drop, get_or, length}
 use Rattle.std.specs.Fmt.{signed_decimal}
 use Rattle.std.specs.Option.{option_cmp}
 use Rattle.std.specs.Ordering.{nat_cmp}
-use Rattle.std.specs.declared.cmp.Ordering.{Ordering}
-use Rattle.std.specs.Prelude.{Option, Some, None, is_some, slice_get, zero, suc, ◌+◌}
+use Rattle.std.specs.Prelude.{Option, Some, None, is_some, slice_get, suc, ◌+◌}
 use Rattle.vx_class.specs.Members.{STATIC}
 use Rattle.vx_cond.specs.Cond.{Conditional, IsCondLifting, cond_at}
 use Rattle.vx_cond.specs.declared.cond.Leaf.{Leaf}
@@ -31,8 +30,7 @@ use Rattle.vx_link.specs.Parts.{has, method_at}
 use Rattle.vx_list.specs.Places.{item_or}
 use Rattle.vx_opcode.specs.Decode.{instruction_at}
 use Rattle.vx_outcome.specs.declared.outcome.Outcome.{Outcome}
-use Rattle.vx_space.specs.Sets.{Sets, Extends, IsLawful}
-use Rattle.vx_space.proofs.Differences.{some_difference}
+use Rattle.vx_space.specs.Sets.{Sets, Extends}
 use Rattle.vx_space.proofs.Spaces.{Extends-refl}
 use Rattle.vx_stands.specs.Answering.{operands_at}
 use Rattle.vx_stands.specs.Sites.{GivesAt, here}
@@ -48,12 +46,13 @@ use Rattle.vx_families.specs.Attempts.{IsGiven}
 use Rattle.vx_families.proofs.Given.{given_past}
 use Rattle.vx_families.specs.Built.{is_println_method}
 use Rattle.vx_families.specs.Texts.{HasMoreTexts}
-use Rattle.vx_text.specs.Printing.{AreReceivers, HasReceiver, IsCalling, IsSomewhere, object_of, operand_at, printed_line}
-use Rattle.vx_text.proofs.Calls.{part_frame}
+use Rattle.vx_text.specs.Printing.{AreReceivers, HasReceiver, IsCalling, object_of, operand_at, printed_line}
 use Rattle.vx_text.proofs.LineLaws.{object_slot, receiver_there}
 use Rattle.vx_text.proofs.Lines.{line_on, native-is}
-use Rattle.vx_text.proofs.Operands.{length-operands, operand_there, two_operands}
 use Rattle.vx_text.proofs.Texts.{KeepsPlain-more}
+use Rattle.vx_stands.proofs.KindLaws.{some_same}
+use Rattle.vx_stands.proofs.Operands.{length-operands, operand_there, two_operands}
+use Rattle.vx_stands.proofs.GroupParts.{part_frame}
 
 -- ---- what is given
 
@@ -211,9 +210,6 @@ AreReceivers-mapped {s0 = s0} {s1 = s1} R group place receiver receivers law e v
           ∙ ap (λ (f : PlainFrame). Some (object_of (item_or f.operands 1 Top))) (sym frames);
     }
 
-some_same : {T : Type 0} (a b : T) → Some a ≡ Some b → a ≡ b
-some_same a b e = cc
-
 -- the part of one leaf has its receiver
 pub HasReceiver-part : {S I : Type 0} {s0 s1 : Sets I} (group part : GroupView S I) (receivers : List (Leaf (Option ℕ) S I)) (i : ℕ) (x : Leaf (Option ℕ) S I) → AreReceivers s0 group receivers → i < length receivers → x ≡ get_or receivers i x → ((c : List Bool) → s0.test x.condition c ≡ true → s0.test (path_of group) c ≡ true) → IsPartOf s0 s1 (s0.test x.condition) group part → HasReceiver s1 part x.value
 HasReceiver-part {s0 = s0} {s1 = s1} group part receivers i x are l at inside q = record {
@@ -223,24 +219,6 @@ HasReceiver-part {s0 = s0} {s1 = s1} group part receivers i x are l at inside q 
       ap (λ (f : PlainFrame). object_of (item_or f.operands 1 Top)) (part_frame s0 s1 (s0.test x.condition) group part q c t)
       ∙ some_same (object_of (operand_at s0 group 1 c)) x.value (sym (are.at c (inside c there)) ∙ value);
 }
-
--- some configuration is in a leaf's condition
-first_leaf : {K S I : Type 0} (cmp : K → K → Ordering) (sets : Sets I) (xs : List (Leaf K S I)) (i : ℕ) (x : Leaf K S I) → AreLeaves cmp sets xs → i < length xs → x ≡ get_or xs i x → (sets.is_known x.condition ≡ true) × (x.condition ≢ sets.never)
-first_leaf cmp sets [] i x h l e = absurd (omega (arith, l))
-first_leaf {K = K} {S = S} {I = I} cmp sets (y ∷ ys) zero x h l e =
-    let P : Leaf K S I → Type 0 = λ leaf. (sets.is_known leaf.condition ≡ true) × (leaf.condition ≢ sets.never) in
-    subst P (sym e) (h.0.known, h.0.nonempty)
-first_leaf cmp sets (y ∷ ys) (suc i) x h l e = first_leaf cmp sets ys i x h.1 (omega (arith, l)) e
-
-unlike_false : (a b : Bool) → a ≢ b → b ≡ false → a ≡ true
-unlike_false true b n e = refl
-unlike_false false b n e = absurd (n (sym e))
-
-pub IsSomewhere-leaf : {K S I : Type 0} (cmp : K → K → Ordering) {s0 : Sets I} (s1 : Sets I) → IsLawful s0 → (group part : GroupView S I) (xs : List (Leaf K S I)) (i : ℕ) (x : Leaf K S I) → AreLeaves cmp s0 xs → i < length xs → x ≡ get_or xs i x → IsPartOf s0 s1 (s0.test x.condition) group part → IsSomewhere s1 (path_of part)
-IsSomewhere-leaf cmp {s0 = s0} s1 lawful group part xs i x are l e q =
-    let leaf = first_leaf cmp s0 xs i x are l e in
-    let found = some_difference lawful x.condition s0.never leaf.0 lawful.never_known leaf.1 in
-    record { config = found.0; inside = part_path s0 s1 (s0.test x.condition) group part q found.0 ∙ unlike_false (s0.test x.condition found.0) (s0.test s0.never found.0) found.1 (lawful.never_test found.0) }
 
 -- the receiver by what it is
 pub HasReceiver-is : {S I : Type 0} (sets : Sets I) (group : GroupView S I) (receiver other : Option ℕ) → receiver ≡ other → HasReceiver sets group receiver → HasReceiver sets group other

@@ -93,11 +93,6 @@ pub record IsCalling {S I : Type 0} (site : Site) (sets : Sets I) (heap : HeapVi
 pub record HasReceiver {S I : Type 0} (sets : Sets I) (group : GroupView S I) (receiver : Option ℕ) : Type 0 where
   pub at : (c : List Bool) → sets.test (path_of group) c ≡ true → object_of (operand_at sets group 1 c) ≡ receiver
 
--- some configuration is in the set
-pub record IsSomewhere {I : Type 0} (sets : Sets I) (path : I) : Type 0 where
-  pub config : List Bool
-  pub inside : sets.test path config ≡ true
-
 -- leaves are the receivers of a group
 pub record AreReceivers {S I : Type 0} (sets : Sets I) (group : GroupView S I) (receivers : List (Leaf (Option ℕ) S I)) : Type 0 where
   pub are_leaves : AreLeaves (option_cmp nat_cmp) sets receivers

@@ -13,11 +13,11 @@ ghost use Rattle.vx_java.specs.Natives.{native as native_of};
 ghost use Rattle.vx_java.specs.declared.operation.Operation.{Operation};
 ghost use Rattle.vx_link.specs.Parts.{has, method_at};
 ghost use Rattle.vx_stands.specs.Answering.{operands_at};
-ghost use Rattle.vx_stands.specs.Sites.{Cover, GivesAt, HasPast};
+ghost use Rattle.vx_stands.specs.Sites.{Cover, GivesAt, HasPast, IsSomewhere};
 ghost use Rattle.vx_families.specs.Attempts.{AttemptsBy, IsGiven};
 ghost use Rattle.vx_families.specs.Built.{is_println_method};
 ghost use Rattle.vx_families.specs.Texts.{HasMoreTexts};
-ghost use Rattle.vx_text.specs.Printing.{AreReceivers, HasReceiver, IsCalling, IsSomewhere, printed, printed_by, printed_line, written};
+ghost use Rattle.vx_text.specs.Printing.{AreReceivers, HasReceiver, IsCalling, printed, printed_by, printed_line, written};
 ghost use Rattle.vx_text.specs.Prints.{print_cmp};
 
 use crate::print::{Print, object_of, print_of, stream_of};

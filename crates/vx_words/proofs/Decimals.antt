@@ -2,7 +2,7 @@
 use Rattle.std.proofs.Common.{◌≡◌, ℕ, ◌+◌, ◌-◌, ◌*◌, ◌<◌, suc, List, [], ◌∷◌, min, drop, length, sym, ap, ◌∙◌, arith, add-one, drop-cons, get_or}
 use Rattle.vx_words.specs.Decimal.{number_from}
 
-capped_digit : (cap n d : ℕ) → min cap (10 * min cap n + d) ≡ min cap (10 * n + d)
+pub capped_digit : (cap n d : ℕ) → min cap (10 * min cap n + d) ≡ min cap (10 * n + d)
 capped_digit cap n d = omega arith
 
 pub capped : (cap n : ℕ) (bs : List ℕ) → min cap (number_from (min cap n) bs) ≡ min cap (number_from n bs)

@@ -1,8 +1,8 @@
 use Rattle.std.proofs.Common.{◌∙◌, ap}
 use Rattle.vx_fields.proofs.Changes.{IsChanged-allowed, IsHeapFor-changed}
 use Rattle.vx_fields.proofs.Readying.{IsMarking-end, IsMarking-start, IsMarking-step, mark_inside, mark_known}
-use Rattle.vx_stands.proofs.StateLaws.{allowed_known}
 use Rattle.vx_fields.proofs.initialising.mark_all.Goals as goal
+use Rattle.vx_heap.proofs.Written.{allowed_known}
 
 pub loop-mark-init : goal.loop-mark-init
 loop-mark-init g c = IsMarking-start _ c.args.heap.now c.args.marks.now c.requires.heap

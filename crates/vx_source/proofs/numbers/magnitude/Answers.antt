@@ -1,6 +1,6 @@
 use Rattle.std.proofs.Common.{arith, ◌<◌, length}
-use Rattle.vx_source.proofs.Decimals.{next_digit}
 use Rattle.vx_source.proofs.numbers.magnitude.Goals as goal
+use Rattle.vx_words.proofs.Decimals.{next_digit}
 
 pub loop-digit-preserved : goal.loop-digit-preserved
 loop-digit-preserved c =

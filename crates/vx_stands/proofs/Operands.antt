@@ -1,4 +1,4 @@
--- The argument and the receiver among the operands of a group.
+-- Operands of a group, by their places from the top.
 use Rattle.std.proofs.Common.{◌≡◌, ℕ, ◌+◌, ◌<◌, zero, suc, Bool, List, [], ◌∷◌, ◌++◌, refl, sym, ◌∙◌, ap, arith, drop, length, reverse}
 use Rattle.std.proofs.lemmas.List.{length-map, length-reverse, reverse-append}
 use Rattle.std.specs.Prelude.{Some, slice_get}
@@ -11,6 +11,12 @@ use Rattle.vx_cond.specs.Row.{Conditionals}
 use Rattle.vx_cond.specs.Slots.{slot_at, slots_at}
 use Rattle.vx_cond.proofs.RowSteps.{slots_at-get}
 use Rattle.vx_stands.specs.Answering.{operands_at}
+use Rattle.std.specs.Prelude.{true}
+use Rattle.vx_heap.specs.declared.object.HeapObject.{HeapObject}
+use Rattle.vx_heap.specs.Heap.{HeapView, are_held, is_held, is_object_held}
+use Rattle.vx_java.specs.Machine.{Value}
+use Rattle.vx_java.specs.Row.{Here}
+use Rattle.vx_stands.proofs.StateLaws.{both_first, both_second}
 
 item_before : {A : Type 0} (xs ys : List A) (k : ℕ) (d : A) → k < length xs → item_or (xs ++ ys) k d ≡ item_or xs k d
 item_before [] ys k d l = absurd (omega (arith, l))
@@ -23,8 +29,7 @@ item_behind [] x d (suc k) e = absurd (omega (arith, e))
 item_behind (y ∷ ys) x d zero e = absurd (omega (arith, e))
 item_behind (y ∷ ys) x d (suc k) e = item_behind ys x d k (omega (arith, e))
 
--- a list read from its end
-reversed_item : {A : Type 0} (xs : List A) (i k : ℕ) (x d : A) → Some x ≡ slice_get xs i → k + suc i ≡ length xs → item_or (reverse xs) k d ≡ x
+pub reversed_item : {A : Type 0} (xs : List A) (i k : ℕ) (x d : A) → Some x ≡ slice_get xs i → k + suc i ≡ length xs → item_or (reverse xs) k d ≡ x
 reversed_item [] i k x d e l = absurd (omega (arith, l))
 reversed_item (y ∷ ys) zero k x d e l =
     let same : x ≡ y = cc in
@@ -49,3 +54,20 @@ two_first (x ∷ y ∷ xs) d l = refl
 -- the argument, the receiver and the operands under them
 pub two_operands : {S I : Type 0} (sets : Sets I) (row : Conditionals Slot S I) (c : List Bool) → 1 < length row.conds → operands_at sets row c ≡ item_or (operands_at sets row c) 0 Top ∷ item_or (operands_at sets row c) 1 Top ∷ drop 2 (operands_at sets row c)
 two_operands sets row c l = two_first (operands_at sets row c) Top (omega (arith, l, length-operands sets row c))
+
+-- ---- what is held
+
+pub held_there : {S I : Type 0} (sets : Sets I) (c : List Bool) (os : List (HeapObject S I)) (i : ℕ) (d : HeapObject S I) → is_object_held sets c (slice_get os i) ≡ true → (i < length os) × (sets.test (item_or os i d).presence c ≡ true)
+held_there sets c [] i d h = cc
+held_there sets c (o ∷ os) zero d h = (omega arith, h)
+held_there sets c (o ∷ os) (suc i) d h = let more = held_there sets c os i d h in (omega (arith, more.0), more.1)
+
+pub item_held : {S I : Type 0} (sets : Sets I) (heap : HeapView S I) (c : List Bool) (slots : List Slot) (i : ℕ) → are_held sets heap c slots ≡ true → is_held sets heap c (item_or slots i Top) ≡ true
+item_held sets heap c [] i h = refl
+item_held sets heap c (x ∷ xs) zero h = both_first (is_held sets heap c x) _ h
+item_held sets heap c (x ∷ xs) (suc i) h = item_held sets heap c xs i (both_second (is_held sets heap c x) _ h)
+
+-- ---- other operands
+
+abbrev pub with_operands : Here → List Value → Here
+with_operands h operands = record h { state = record (h.state) { top = record (h.state.top) { operands = operands } } }
