@@ -31,6 +31,22 @@ fn mark(table: &Table, marks: &mut HashSet<usize>, id: usize) -> Result<(), Allo
     Ok(())
 }
 
+/// Marks a root and all that is below it. Never and always, which most roots are, are marked before all roots.
+fn mark_root(table: &Table, marks: &mut HashSet<usize>, root: usize) -> Result<(), AllocError>
+    requires stored { is_stored table.now.nodes.slots root ≡ true }
+    requires closed { IsClosed table.now.nodes.slots (contains nat_eq marks.old) }
+    requires never { contains nat_eq marks.old 0 ≡ true }
+    requires always { contains nat_eq marks.old 1 ≡ true }
+    ensures closed { OnOk result (IsClosed table.now.nodes.slots (contains nat_eq marks.new)) }
+    ensures adds { OnOk result (AddsBelow table.now.nodes.slots root (contains nat_eq marks.old) (contains nat_eq marks.new)) }
+    ensures marked { OnOk result (contains nat_eq marks.new root ≡ true) }
+{
+    if root > 1 {
+        mark(table, marks, root)?;
+    }
+    Ok(())
+}
+
 /// The marks of never, always, the roots and all that is below them.
 pub(crate) fn mark_all(
     alloc: Global,
@@ -44,7 +60,7 @@ pub(crate) fn mark_all(
     mark(table, &mut marks, 0)?;
     mark(table, &mut marks, 1)?;
     for root in roots {
-        mark(table, &mut marks, *root)?;
+        mark_root(table, &mut marks, *root)?;
     }
     Ok(marks)
 }
