@@ -1,5 +1,5 @@
 -- Operands of a group, by their places from the top.
-use Rattle.std.proofs.Common.{◌≡◌, ℕ, ◌+◌, ◌<◌, zero, suc, Bool, List, [], ◌∷◌, ◌++◌, refl, sym, ◌∙◌, ap, arith, drop, length, reverse}
+use Rattle.std.proofs.Common.{◌≡◌, ℕ, ◌+◌, ◌<◌, zero, suc, Bool, true, List, [], ◌∷◌, ◌++◌, refl, sym, ◌∙◌, ap, arith, drop, length, reverse}
 use Rattle.std.proofs.lemmas.List.{length-map, length-reverse, reverse-append}
 use Rattle.std.specs.Prelude.{Some, slice_get}
 use Rattle.vx_list.specs.Places.{item_or}
@@ -11,11 +11,9 @@ use Rattle.vx_cond.specs.Row.{Conditionals}
 use Rattle.vx_cond.specs.Slots.{slot_at, slots_at}
 use Rattle.vx_cond.proofs.RowSteps.{slots_at-get}
 use Rattle.vx_stands.specs.Answering.{operands_at}
-use Rattle.std.specs.Prelude.{true}
 use Rattle.vx_heap.specs.declared.object.HeapObject.{HeapObject}
 use Rattle.vx_heap.specs.Heap.{HeapView, are_held, is_held, is_object_held}
-use Rattle.vx_java.specs.Machine.{Value}
-use Rattle.vx_java.specs.Row.{Here}
+use Rattle.vx_java.specs.Machine.{Here, Value}
 use Rattle.vx_stands.proofs.StateLaws.{both_first, both_second}
 
 item_before : {A : Type 0} (xs ys : List A) (k : ℕ) (d : A) → k < length xs → item_or (xs ++ ys) k d ≡ item_or xs k d

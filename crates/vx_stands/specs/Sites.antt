@@ -1,5 +1,5 @@
 -- An instruction where it stands, and what a group comes to there.
-use Rattle.std.specs.Prelude.{◌≡◌, ◌<◌, ◌+◌, ◌^◌, Bool, false, List, Option, is_some, unwrap_or}
+use Rattle.std.specs.Prelude.{◌≡◌, ◌<◌, ◌+◌, ◌^◌, Bool, true, false, List, Option, is_some, unwrap_or}
 use Rattle.vx_space.specs.Sets.{Sets}
 use Rattle.vx_cond.specs.declared.cond.Leaf.{Leaf}
 use Rattle.vx_cond.specs.Leaves.{value_at}
