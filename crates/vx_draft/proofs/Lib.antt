@@ -1,1 +1,1 @@
-mod Loops
+pub mod Loops

@@ -1,5 +1,5 @@
 mod Complete
-mod Fits
+pub mod Fits
 pub mod Lawful
 mod Lines
 pub mod Names

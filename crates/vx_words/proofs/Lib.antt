@@ -1,2 +1,2 @@
-mod Decimals
-mod Parts
+pub mod Decimals
+pub mod Parts
