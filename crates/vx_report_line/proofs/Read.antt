@@ -77,8 +77,8 @@ hex_value_is b n h = by_test (nat_le 48 b && nat_le b 57)
     (λ t.
     let p = both_true (nat_le 48 b) (nat_le b 57) t in
     let e : b - 48 ≡ n = some_same (rw t at h) in
-    let low : 48 ≤ b = le_of 48 b p.0 in
-    let high : b ≤ 57 = le_of b 57 p.1 in
+    let low : 48 ≤ b = le_from 48 b p.0 in
+    let high : b ≤ 57 = le_from b 57 p.1 in
     let small : nat_le n 9 ≡ true = le_of n 9 (omega (arith, e, low, high)) in
     let value : b ≡ 48 + n = omega (arith, e, low) in
     (rw small value, omega (arith, e, high)))
@@ -86,12 +86,6 @@ hex_value_is b n h = by_test (nat_le 48 b && nat_le b 57)
   where
     none : None ≡ Some n → ⊥
     none z = cc
-
-    le_of : (i j : ℕ) → nat_le i j ≡ true → i ≤ j
-    le_of i j t = grind (arith, nat_tests)
-
-    le_of : (i j : ℕ) → i ≤ j → nat_le i j ≡ true
-    le_of i j l = grind (arith, nat_tests)
 
     not_le : (i j : ℕ) → j < i → nat_le i j ≡ false
     not_le i j l = grind (arith, nat_tests)
@@ -101,8 +95,8 @@ hex_value_is b n h = by_test (nat_le 48 b && nat_le b 57)
         (λ t.
         let p = both_true (nat_le 97 b) (nat_le b 102) t in
         let e : b - 87 ≡ n = some_same (rw t at g) in
-        let low : 97 ≤ b = le_of 97 b p.0 in
-        let high : b ≤ 102 = le_of b 102 p.1 in
+        let low : 97 ≤ b = le_from 97 b p.0 in
+        let high : b ≤ 102 = le_from b 102 p.1 in
         let large : nat_le n 9 ≡ false = not_le n 9 (omega (arith, e, low)) in
         let value : b ≡ 87 + n = omega (arith, e, low) in
         (rw large value, omega (arith, e, high)))
