@@ -6,6 +6,3 @@ mod ranks;
 
 pub use below::is_own_ancestor;
 pub use ranks::is_ordered;
-
-#[cfg(test)]
-mod tests;

@@ -39,12 +39,15 @@ with_draft b pool needed i = record b {
   is_near = b.is_near && is_index_near pool i.opcode needed;
 }
 
+-- the pool with the constant that an instruction needs
+abbrev pub pool_of_instruction : List Constant → Instruction → List Constant
+pool_of_instruction pool i = with_needed pool (constant_of i.opcode i.operand)
+
 -- an instruction behind the others, and its constant in the pool
 unfoldable pub with_instruction : ClassDraft → Body → Instruction → ClassDraft
 with_instruction d b i =
-    let needed = constant_of i.opcode i.operand in
-    let pool = with_needed d.pool needed in
-    record d { pool = pool; body = Some (with_draft b pool needed i) }
+    let pool = pool_of_instruction d.pool i in
+    record d { pool = pool; body = Some (with_draft b pool (constant_of i.opcode i.operand) i) }
 
 unfoldable pub instruction_said : ClassDraft → Body → Instruction → Read ClassDraft
 instruction_said d b i = do
@@ -80,8 +83,11 @@ covered labels c = record {
   class = c.class;
 }
 
+abbrev pub with_covered : Body → CatchLine → Body
+with_covered b c = record b { rows = b.rows ++ covered b.labels c ∷ [] }
+
 unfoldable pub with_row : ClassDraft → Body → CatchLine → ClassDraft
-with_row d b c = record d { body = Some (record b { rows = b.rows ++ covered b.labels c ∷ [] }) }
+with_row d b c = record d { body = Some (with_covered b c) }
 
 unfoldable pub catch_said : ClassDraft → Body → CatchLine → Read ClassDraft
 catch_said d b c =

@@ -128,14 +128,17 @@ field_of pool given line = record {
   constant = in_file_or_zero pool given;
 }
 
+-- the pool with all that a field needs
+abbrev pub pool_of_field : List Constant → FieldLine → List Constant
+pool_of_field pool line = with_value (with_signature pool line.name line.descriptor) (constant_of_value line.value)
+
 unfoldable pub with_field : ClassDraft → FieldLine → ClassDraft
 with_field d line =
-    let given = constant_of_value line.value in
-    let pool = with_value (with_signature d.pool line.name line.descriptor) given in
+    let pool = pool_of_field d.pool line in
     record d {
       stage = stage.Fields;
       pool = pool;
-      fields = d.fields ++ field_of pool given line ∷ [];
+      fields = d.fields ++ field_of pool (constant_of_value line.value) line ∷ [];
       field_signatures = d.field_signatures ++ record { name = line.name; descriptor = line.descriptor } ∷ [];
     }
 
@@ -199,9 +202,13 @@ body_of pool line room behind = record {
   is_near = true;
 }
 
+-- the pool with all that a method with code needs
+abbrev pub pool_of_body : List Constant → MethodLine → List Constant
+pool_of_body pool line = with_text (with_signature pool line.name line.descriptor) (codes "Code")
+
 unfoldable pub with_body : ClassDraft → MethodLine → Room → List SourceLine → ClassDraft
 with_body d line room behind =
-    let pool = with_text (with_signature d.pool line.name line.descriptor) (codes "Code") in
+    let pool = pool_of_body d.pool line in
     record d {
       stage = stage.Methods;
       pool = pool;

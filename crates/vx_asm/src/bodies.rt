@@ -3,7 +3,8 @@
 ghost use Rattle.std.specs.Prelude.{◌≡◌, ◌+◌, ◌<◌, ◌&&◌, take, min, option_copied, is_some, OnOk, IfOk};
 ghost use Rattle.vx_source.specs.Reading.{Gives};
 ghost use Rattle.vx_draft.specs.Bodies.{find_label};
-ghost use Rattle.vx_asm.specs.Bodies.{with_needed, is_index_near, with_draft, with_instruction, instruction_said, label_said, are_known, is_caught, is_lawful_row, covered, with_row, catch_said};
+ghost use Rattle.vx_draft.specs.Instructions.{constant_of};
+ghost use Rattle.vx_asm.specs.Bodies.{with_needed, is_index_near, with_draft, pool_of_instruction, with_instruction, instruction_said, label_said, are_known, is_caught, is_lawful_row, covered, with_covered, with_row, catch_said};
 
 use crate::class_draft::{Body, ClassDraft, Covered};
 use std::alloc::{AllocError, Global};
@@ -58,6 +59,21 @@ fn with_draft(
     })
 }
 
+/// A body with an instruction more, whose constant the pool gets.
+fn put_instruction(
+    alloc: Global,
+    pool: &mut Vec<Constant>,
+    body: Body,
+    instruction: &Instruction,
+) -> Result<Body, AllocError>
+    ensures pool { OnOk result (pool.new.items ≡ pool_of_instruction pool.old.items instruction.now) }
+    ensures body { IfOk result (λ b. b ≡ with_draft body pool.new.items (constant_of instruction.now.opcode instruction.now.operand) instruction.now) }
+{
+    let needed = constant_of(alloc, instruction.opcode, &instruction.operand)?;
+    put_needed(alloc, pool, needed.as_ref())?;
+    with_draft(alloc, body, pool, needed.as_ref(), instruction)
+}
+
 #[tactic(auto, unfolding(crate::specs::Bodies::with_instruction))]
 fn with_instruction(
     alloc: Global,
@@ -68,9 +84,7 @@ fn with_instruction(
     ensures { IfOk result (λ d. d ≡ with_instruction draft body instruction.now) }
 {
     let mut pool = draft.pool.into_vec();
-    let needed = constant_of(alloc, instruction.opcode, &instruction.operand)?;
-    put_needed(alloc, &mut pool, needed.as_ref())?;
-    let body = with_draft(alloc, body, &pool, needed.as_ref(), instruction)?;
+    let body = put_instruction(alloc, &mut pool, body, instruction)?;
     Ok(ClassDraft {
         pool: Items::of(pool),
         body: Some(body),
@@ -177,6 +191,14 @@ fn covered(alloc: Global, labels: &Labels, line: &CatchLine) -> Result<Covered, 
     })
 }
 
+fn with_covered(alloc: Global, body: Body, line: &CatchLine) -> Result<Body, AllocError>
+    ensures { IfOk result (λ b. b ≡ with_covered body line.now) }
+{
+    let row = covered(alloc, &body.labels, line)?;
+    let rows = pushed(body.rows, row)?;
+    Ok(Body { rows, ..body })
+}
+
 #[tactic(auto, unfolding(crate::specs::Bodies::with_row))]
 fn with_row(
     alloc: Global,
@@ -186,10 +208,9 @@ fn with_row(
 ) -> Result<ClassDraft, AllocError>
     ensures { IfOk result (λ d. d ≡ with_row draft body line.now) }
 {
-    let row = covered(alloc, &body.labels, line)?;
-    let rows = pushed(body.rows, row)?;
+    let body = with_covered(alloc, body, line)?;
     Ok(ClassDraft {
-        body: Some(Body { rows, ..body }),
+        body: Some(body),
         ..draft
     })
 }

@@ -144,6 +144,20 @@ fn is_small_code(places: &[u32], body: &Body) -> bool
         && body.rows.len() < 65_536
 }
 
+/// The method of a body, of which the pool gets the classes that its rows catch.
+fn put_method(
+    alloc: Global,
+    pool: &mut Vec<Constant>,
+    body: &Body,
+    places: &[u32],
+) -> Result<Method, AllocError>
+    ensures pool { OnOk result (pool.new.items ≡ with_rows pool.old.items body.now.rows) }
+    ensures method { IfOk result (λ m. m ≡ method_of pool.new.items places.now body.now) }
+{
+    put_rows(alloc, pool, body.rows.as_slice())?;
+    method_of(alloc, pool, places, body)
+}
+
 #[tactic(auto, unfolding(crate::specs::Bodies::with_end))]
 fn with_end(
     alloc: Global,
@@ -154,8 +168,7 @@ fn with_end(
     ensures { IfOk result (λ d. d ≡ with_end draft body.now places.now) }
 {
     let mut pool = draft.pool.into_vec();
-    put_rows(alloc, &mut pool, body.rows.as_slice())?;
-    let method = method_of(alloc, &pool, places, body)?;
+    let method = put_method(alloc, &mut pool, body, places)?;
     Ok(ClassDraft {
         pool: Items::of(pool),
         methods: pushed(draft.methods, method)?,

@@ -2,7 +2,7 @@
 
 ghost use Rattle.std.specs.Prelude.{◌≡◌, ◌<◌, option_copied, OnOk, IfOk};
 ghost use Rattle.vx_source.specs.Reading.{Gives};
-ghost use Rattle.vx_asm.specs.Parts.{with_signature, is_text_value, constant_of_value, with_value, field_of, with_field, is_lawful_field_line, field_said};
+ghost use Rattle.vx_asm.specs.Parts.{with_signature, is_text_value, constant_of_value, with_value, field_of, pool_of_field, with_field, is_lawful_field_line, field_said};
 
 use crate::class_draft::{ClassDraft, Stage};
 use crate::parts::{is_taken, may_have_field, signature_of};
@@ -80,15 +80,23 @@ fn field_of(
     })
 }
 
+/// The field of a line, of which the pool gets all that it needs.
+fn put_field(alloc: Global, pool: &mut Vec<Constant>, line: &FieldLine) -> Result<Field, AllocError>
+    ensures pool { OnOk result (pool.new.items ≡ pool_of_field pool.old.items line.now) }
+    ensures field { IfOk result (λ f. f ≡ field_of pool.new.items (constant_of_value line.now.value) line.now) }
+{
+    let given = constant_of_value(alloc, &line.value)?;
+    put_signature(alloc, pool, line.name.bytes(), line.descriptor.bytes())?;
+    put_value(alloc, pool, given.as_ref())?;
+    field_of(alloc, pool, given.as_ref(), line)
+}
+
 #[tactic(auto, unfolding(crate::specs::Parts::with_field))]
 fn with_field(alloc: Global, draft: ClassDraft, line: &FieldLine) -> Result<ClassDraft, AllocError>
     ensures { IfOk result (λ d. d ≡ with_field draft line.now) }
 {
     let mut pool = draft.pool.into_vec();
-    let given = constant_of_value(alloc, &line.value)?;
-    put_signature(alloc, &mut pool, line.name.bytes(), line.descriptor.bytes())?;
-    put_value(alloc, &mut pool, given.as_ref())?;
-    let field = field_of(alloc, &pool, given.as_ref(), line)?;
+    let field = put_field(alloc, &mut pool, line)?;
     let signature = signature_of(alloc, line.name.bytes(), line.descriptor.bytes())?;
     Ok(ClassDraft {
         stage: Stage::Fields,

@@ -13,6 +13,3 @@ mod source;
 pub use class_draft::{Body, ClassDraft, Covered, Signature, Stage};
 pub use fault::AsmFault;
 pub use source::assemble;
-
-#[cfg(test)]
-mod tests;

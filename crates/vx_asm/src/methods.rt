@@ -1,8 +1,8 @@
 //! Methods up to their bodies (JVMS 4.6).
 
-ghost use Rattle.std.specs.Prelude.{◌≡◌, ◌<◌, true, IfOk};
+ghost use Rattle.std.specs.Prelude.{◌≡◌, ◌<◌, true, OnOk, IfOk};
 ghost use Rattle.vx_source.specs.Reading.{Gives};
-ghost use Rattle.vx_asm.specs.Parts.{locals_of, is_lawful_method_line, bare_method, with_bare_method, body_of, with_body, with_room, method_said};
+ghost use Rattle.vx_asm.specs.Parts.{locals_of, is_lawful_method_line, with_signature, bare_method, with_bare_method, body_of, pool_of_body, with_body, with_room, method_said};
 
 use crate::class_draft::{Body, ClassDraft, Stage};
 use crate::fields::put_signature;
@@ -55,6 +55,19 @@ fn bare_method(alloc: Global, pool: &[Constant], line: &MethodLine) -> Result<Me
     })
 }
 
+/// A method without code, of which the pool gets all that it needs.
+fn put_bare_method(
+    alloc: Global,
+    pool: &mut Vec<Constant>,
+    line: &MethodLine,
+) -> Result<Method, AllocError>
+    ensures pool { OnOk result (pool.new.items ≡ with_signature pool.old.items line.now.name line.now.descriptor) }
+    ensures method { IfOk result (λ m. m ≡ bare_method pool.new.items line.now) }
+{
+    put_signature(alloc, pool, line.name.bytes(), line.descriptor.bytes())?;
+    bare_method(alloc, pool, line)
+}
+
 #[tactic(auto, unfolding(crate::specs::Parts::with_bare_method))]
 fn with_bare_method(
     alloc: Global,
@@ -64,8 +77,7 @@ fn with_bare_method(
     ensures { IfOk result (λ d. d ≡ with_bare_method draft line.now) }
 {
     let mut pool = draft.pool.into_vec();
-    put_signature(alloc, &mut pool, line.name.bytes(), line.descriptor.bytes())?;
-    let method = bare_method(alloc, &pool, line)?;
+    let method = put_bare_method(alloc, &mut pool, line)?;
     let signature = signature_of(alloc, line.name.bytes(), line.descriptor.bytes())?;
     Ok(ClassDraft {
         stage: Stage::Methods,
@@ -99,6 +111,22 @@ fn body_of(
     })
 }
 
+/// A body that begins, of which the pool gets all that its method needs.
+fn put_body(
+    alloc: Global,
+    pool: &mut Vec<Constant>,
+    line: &MethodLine,
+    room: Room,
+    behind: &[SourceLine],
+) -> Result<Body, AllocError>
+    ensures pool { OnOk result (pool.new.items ≡ pool_of_body pool.old.items line.now) }
+    ensures body { IfOk result (λ b. b ≡ body_of pool.new.items line.now room behind.now) }
+{
+    put_signature(alloc, pool, line.name.bytes(), line.descriptor.bytes())?;
+    put_text(alloc, pool, b"Code")?;
+    body_of(alloc, pool, line, room, behind)
+}
+
 #[tactic(auto, unfolding(crate::specs::Parts::with_body))]
 fn with_body(
     alloc: Global,
@@ -110,9 +138,7 @@ fn with_body(
     ensures { IfOk result (λ d. d ≡ with_body draft line.now room behind.now) }
 {
     let mut pool = draft.pool.into_vec();
-    put_signature(alloc, &mut pool, line.name.bytes(), line.descriptor.bytes())?;
-    put_text(alloc, &mut pool, b"Code")?;
-    let body = body_of(alloc, &pool, line, room, behind)?;
+    let body = put_body(alloc, &mut pool, line, room, behind)?;
     let signature = signature_of(alloc, line.name.bytes(), line.descriptor.bytes())?;
     Ok(ClassDraft {
         stage: Stage::Methods,

@@ -1,13 +1,15 @@
 //! The version, the class and its interfaces, and the order in which parts may follow one another.
 
-ghost use Rattle.std.specs.Prelude.{◌≡◌, ◌<◌, ◌==◌, ◌&&◌, IfOk};
+ghost use Rattle.std.specs.Prelude.{◌≡◌, ◌<◌, ◌==◌, ◌&&◌, OnOk, IfOk};
 ghost use Rattle.std.specs.Str.{bytes_eq};
 ghost use Rattle.vx_source.specs.Reading.{Gives};
-ghost use Rattle.vx_asm.specs.Parts.{may_have_version, may_have_class, may_have_interface, may_have_field, has_class, version_said, with_class_line, class_said, with_interface, implements_said, is_taken};
+ghost use Rattle.vx_draft.specs.Constants.{in_file};
+ghost use Rattle.vx_draft.specs.declared.constants.Constant.TheVariants.{Class};
+ghost use Rattle.vx_asm.specs.Parts.{may_have_version, may_have_class, may_have_interface, may_have_field, has_class, version_said, with_names, with_class_line, class_said, with_interface, implements_said, is_taken};
 
 use crate::class_draft::{ClassDraft, Signature, Stage};
 use std::alloc::{AllocError, Global};
-use vx_draft::{class_index, is_lawful_class, is_plain_class, pushed, put_class};
+use vx_draft::{Constant, class_index, is_lawful_class, is_plain_class, pushed, put_class};
 use vx_list::Items;
 use vx_source::{ClassLine, LineFault, refused};
 use vx_value::Name;
@@ -60,6 +62,22 @@ pub fn version_line(draft: ClassDraft, major: u16) -> Result<ClassDraft, LineFau
     })
 }
 
+/// The indices of a class and of its superclass, which the pool gets.
+fn put_names(
+    alloc: Global,
+    pool: &mut Vec<Constant>,
+    line: &ClassLine,
+) -> Result<(u16, u16), AllocError>
+    ensures pool { OnOk result (pool.new.items ≡ with_names pool.old.items line.now) }
+    ensures indices { IfOk result (λ p. p ≡ (in_file pool.new.items (Class line.now.name), in_file pool.new.items (Class line.now.super_class))) }
+{
+    put_class(alloc, pool, line.name.bytes())?;
+    put_class(alloc, pool, line.super_class.bytes())?;
+    let this_class = class_index(alloc, pool, line.name.bytes())?;
+    let super_class = class_index(alloc, pool, line.super_class.bytes())?;
+    Ok((this_class, super_class))
+}
+
 #[tactic(auto, unfolding(crate::specs::Parts::with_class_line))]
 fn with_class_line(
     alloc: Global,
@@ -69,10 +87,7 @@ fn with_class_line(
     ensures { IfOk result (λ d. d ≡ with_class_line draft line.now) }
 {
     let mut pool = draft.pool.into_vec();
-    put_class(alloc, &mut pool, line.name.bytes())?;
-    put_class(alloc, &mut pool, line.super_class.bytes())?;
-    let this_class = class_index(alloc, &pool, line.name.bytes())?;
-    let super_class = class_index(alloc, &pool, line.super_class.bytes())?;
+    let (this_class, super_class) = put_names(alloc, &mut pool, line)?;
     Ok(ClassDraft {
         stage: Stage::Class,
         flags: line.flags,

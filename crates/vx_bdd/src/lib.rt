@@ -6,7 +6,5 @@ mod marks;
 mod node;
 pub mod space;
 mod table;
-#[cfg(test)]
-mod tests;
 
 pub use space::BddSpace;

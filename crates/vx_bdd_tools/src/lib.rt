@@ -5,8 +5,6 @@ pub mod member;
 pub mod node;
 pub mod numbering;
 pub mod options;
-#[cfg(test)]
-mod tests;
 
 pub use member::one_of;
 pub use node::{Node, NodeList};

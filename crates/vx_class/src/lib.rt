@@ -12,6 +12,3 @@ pub use class_file::{Catch, ClassFile, Code, Field, Method};
 pub use flags::{ABSTRACT, INTERFACE, NATIVE, STATIC, has};
 pub use reading::read_class;
 pub use vx_reading::ClassFault;
-
-#[cfg(test)]
-mod tests;

@@ -38,6 +38,3 @@ pub fn core(alloc: Global) -> Result<CoreList, AllocError>
         natives: Items::of(natives),
     })
 }
-
-#[cfg(test)]
-mod tests;

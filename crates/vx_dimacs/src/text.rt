@@ -182,6 +182,3 @@ pub fn read_dimacs(alloc: Global, bytes: &[u8]) -> Result<Model, ModelFault>
         Err(refusal) => Err(fault_at(refusal, number)),
     }
 }
-
-#[cfg(test)]
-mod tests;

@@ -21,6 +21,3 @@ pub use rules::{
     is_lawful_class, is_lawful_code, is_lawful_field, is_lawful_initialiser, is_lawful_method,
     is_plain_class, may_have_value,
 };
-
-#[cfg(test)]
-mod tests;

@@ -5,7 +5,11 @@
 #[cfg(test)]
 mod cases;
 #[cfg(test)]
+mod findings;
+#[cfg(test)]
 mod last_key;
+#[cfg(test)]
+mod least_key;
 #[cfg(test)]
 mod programs;
 #[cfg(test)]

@@ -24,6 +24,12 @@ abbrev pub is_found : FieldReference → Bool
 is_found (Found named field type) = true
 is_found _ = false
 
+-- all runs end
+abbrev pub is_ending : FieldReference → Bool
+is_ending (Found named field type) = false
+is_ending Disagrees = false
+is_ending _ = true
+
 -- a field that is found is static or not, as it is wanted, and is no float or double
 abbrev pub is_sound : Program → (static : Bool) → FieldReference → Bool
 is_sound p static (Found named field type) = same_bool static (is_static_field p field.0) && is_some (sort_of type)

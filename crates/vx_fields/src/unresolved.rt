@@ -1,13 +1,13 @@
 //! Instructions of fields whose reference names no field that they can take (JVMS 5.4.3.2, 6.5).
 
-ghost use Rattle.std.specs.Prelude.{◌≡◌, IfOk, false};
+ghost use Rattle.std.specs.Prelude.{◌≡◌, IfOk, false, true};
 ghost use Rattle.vx_java.specs.Fields.{Found, field_text};
 ghost use Rattle.vx_java.specs.Ids.{HasClassNumbers};
 ghost use Rattle.vx_java.specs.Machine.{Outcome as PlainOutcome};
 ghost use Rattle.vx_java.specs.Named.{in_bytes};
 ghost use Rattle.vx_space.specs.Sets.{Sets};
 ghost use Rattle.vx_stands.specs.Sites.{Gives, here};
-ghost use Rattle.vx_fields.specs.References.{by_reference, is_found};
+ghost use Rattle.vx_fields.specs.References.{by_reference, is_ending, is_found};
 
 use crate::references::FieldReference;
 use std::alloc::{AllocError, Global};
@@ -38,6 +38,42 @@ fn field_text(alloc: Global, named: &MemberReference<'_>) -> Result<Name, AllocE
     Ok(Name::from_vec(text))
 }
 
+/// All runs of a group end, as the reference says whose field isn't found.
+fn ended<S: Space>(
+    alloc: Global,
+    site: &Site,
+    group: &Group<S>,
+    reference: FieldReference,
+    named: &MemberReference<'_>,
+) -> Result<Outcomes<S>, SpaceFault>
+    requires { is_ending reference ≡ true }
+    ensures { IfOk result (λ r. (sets : Sets S.Id) (rest : Found → PlainOutcome) → Gives site.now.program.now (λ s. by_reference (here site.now s) (in_bytes named.now) reference rest) sets sets group.now r.items.items) }
+{
+    let program = site.program;
+    match reference {
+        FieldReference::Found { .. } | FieldReference::Disagrees => unreachable!(),
+        FieldReference::NoType => {
+            let ended = illegal(alloc, program, group)?;
+            Ok(ended)
+        }
+        FieldReference::Floating => {
+            let what = Name::of(alloc, b"-")?;
+            let floating = unsupported(alloc, program, group, FLOAT_WORD, what)?;
+            Ok(floating)
+        }
+        FieldReference::NoClass => {
+            let what = Name::of(alloc, named.class)?;
+            let no_class = unsupported(alloc, program, group, CLASS_WORD, what)?;
+            Ok(no_class)
+        }
+        FieldReference::NoField => {
+            let what = field_text(alloc, named)?;
+            let no_field = unsupported(alloc, program, group, FIELD_WORD, what)?;
+            Ok(no_field)
+        }
+    }
+}
+
 /// All runs of a group end or raise, as the reference says whose field isn't found.
 pub(crate) fn unresolved<S: Space>(
     alloc: Global,
@@ -50,36 +86,15 @@ pub(crate) fn unresolved<S: Space>(
     requires unresolved { is_found reference ≡ false }
     ensures { IfOk result (λ r. (sets : Sets S.Id) (rest : Found → PlainOutcome) → Gives site.now.program.now (λ s. by_reference (here site.now s) (in_bytes named.now) reference rest) sets sets group r.items.items) }
 {
-    let program = site.program;
-    match reference {
-        FieldReference::Found { .. } => unreachable!(),
-        FieldReference::NoType => {
-            let ended = illegal(alloc, program, &group)?;
-            Ok(ended)
-        }
-        FieldReference::Floating => {
-            let what = Name::of(alloc, b"-")?;
-            let floating = unsupported(alloc, program, &group, FLOAT_WORD, what)?;
-            Ok(floating)
-        }
-        FieldReference::NoClass => {
-            let what = Name::of(alloc, named.class)?;
-            let no_class = unsupported(alloc, program, &group, CLASS_WORD, what)?;
-            Ok(no_class)
-        }
-        FieldReference::NoField => {
-            let what = field_text(alloc, named)?;
-            let no_field = unsupported(alloc, program, &group, FIELD_WORD, what)?;
-            Ok(no_field)
-        }
-        FieldReference::Disagrees => {
-            let raised = raise(
-                alloc,
-                program,
-                group,
-                b"java/lang/IncompatibleClassChangeError",
-            )?;
-            Ok(raised)
-        }
+    if let FieldReference::Disagrees = reference {
+        let raised = raise(
+            alloc,
+            site.program,
+            group,
+            b"java/lang/IncompatibleClassChangeError",
+        )?;
+        return Ok(raised);
     }
+    let ended = ended(alloc, site, &group, reference, named)?;
+    Ok(ended)
 }

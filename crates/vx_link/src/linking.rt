@@ -81,6 +81,3 @@ pub fn link(
         Err(fault) => Err(fault),
     }
 }
-
-#[cfg(test)]
-mod tests;

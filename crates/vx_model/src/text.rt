@@ -73,6 +73,3 @@ pub fn read_model(alloc: Global, bytes: &[u8]) -> Result<Model, ModelFault>
         rules: Items::of(draft.rules),
     })
 }
-
-#[cfg(test)]
-mod tests;

@@ -72,6 +72,3 @@ impl NameTable {
         self.names.get_index_of(name)
     }
 }
-
-#[cfg(test)]
-mod tests;

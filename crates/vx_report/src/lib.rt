@@ -12,6 +12,3 @@ pub mod writing;
 pub use projection::project_text;
 pub use report::{AttemptLine, EndLine, Piece, Report};
 pub use writing::write_report;
-
-#[cfg(test)]
-mod tests;

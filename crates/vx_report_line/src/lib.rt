@@ -12,6 +12,3 @@ pub use lines::first_line;
 pub use numbering::number_from;
 pub use parsing::line_in;
 pub use table::NodeTable;
-
-#[cfg(test)]
-mod tests;

@@ -10,6 +10,3 @@ pub mod stage;
 pub use again::read_written;
 pub use body::Body;
 pub use reading::{ReportFault, read_report};
-
-#[cfg(test)]
-mod tests;

@@ -19,6 +19,3 @@ pub use statement::{
     Statement, Table, Value,
 };
 pub use texts::Piece;
-
-#[cfg(test)]
-mod tests;

@@ -4,8 +4,6 @@
 pub mod config;
 pub mod mask;
 pub mod space;
-#[cfg(test)]
-mod tests;
 
 pub use config::Config;
 pub use mask::MaskSpace;

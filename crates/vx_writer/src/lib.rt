@@ -9,6 +9,3 @@ mod pool;
 
 pub use class::write_class;
 pub use numbers::{put, put_count, put_length, put_u1, put_u2, put_u4};
-
-#[cfg(test)]
-mod tests;
