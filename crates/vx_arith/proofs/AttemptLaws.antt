@@ -9,10 +9,10 @@ use Rattle.vx_java.specs.Machine.{Go, State, at_position, unsupported_in}
 use Rattle.vx_java.specs.declared.operation.Operation.{Operation}
 use Rattle.vx_java.specs.declared.operation.Operation.TheVariants.{Goto, Refuse}
 use Rattle.vx_outcome.specs.declared.outcome.Outcome.{Outcome}
-use Rattle.vx_stands.specs.Sites.{Gives, GivesAt}
-use Rattle.vx_stands.specs.Stands.{state_at}
-use Rattle.vx_stands.specs.declared.site.Site.{Site}
-use Rattle.vx_stands.proofs.EndingLaws.{GivesAt-before}
+use Rattle.vx_group_states.specs.Sites.{Gives, GivesAt}
+use Rattle.vx_group_states.specs.Stands.{state_at}
+use Rattle.vx_group_states.specs.declared.site.Site.{Site}
+use Rattle.vx_group_states.proofs.EndingLaws.{GivesAt-before}
 use Rattle.vx_value.specs.Arithmetic.{natural}
 use Rattle.vx_value.specs.Texts.{Extends as TextsExtend}
 use Rattle.vx_arith.specs.Family.{is_goto, is_of_numbers, takes_none, takes_one, takes_two}

@@ -12,12 +12,12 @@ use Rattle.vx_cond.specs.Slots.{or_top, slot_at}
 use Rattle.vx_cond.proofs.RowSteps.{IsRow-get}
 use Rattle.vx_cond.proofs.SideLaws.{cond_at-covers}
 use Rattle.vx_java.specs.declared.operation.Operation.{Operation}
-use Rattle.vx_stands.specs.Answering.{answer_at, operands_at}
-use Rattle.vx_stands.specs.Answers.{answer_cmp}
-use Rattle.vx_stands.specs.declared.answer.Answer.{Answer}
-use Rattle.vx_stands.specs.declared.answer.Answer.TheVariants.{Illegal}
-use Rattle.vx_stands.proofs.AnswerLaws.{operands_at-push}
-use Rattle.vx_stands.proofs.SettleLaws.{lifting_at}
+use Rattle.vx_group_states.specs.Answering.{answer_at, operands_at}
+use Rattle.vx_group_states.specs.Answers.{answer_cmp}
+use Rattle.vx_group_states.specs.declared.answer.Answer.{Answer}
+use Rattle.vx_group_states.specs.declared.answer.Answer.TheVariants.{Illegal}
+use Rattle.vx_group_states.proofs.AnswerLaws.{operands_at-push}
+use Rattle.vx_group_states.proofs.SettleLaws.{lifting_at}
 use Rattle.vx_arith.specs.Numbers.{of_one, of_top, of_top_two, of_two}
 use Rattle.vx_arith.specs.declared.spot.Spot.{Spot}
 

@@ -10,9 +10,9 @@ use Rattle.vx_java.specs.declared.operation.Operation.{Operation}
 use Rattle.vx_java.specs.declared.operation.Operation.TheVariants.{IfInt, IfInts, IfNull, IntArithmetic, LongArithmetic, LongNegate, LongShift}
 use Rattle.vx_link.specs.declared.program.Program.{Program}
 use Rattle.std.proofs.lemmas.Bool.{lt-ltb}
-use Rattle.vx_stands.specs.Answering.{is_answer_held}
-use Rattle.vx_stands.specs.declared.answer.Answer.{Answer}
-use Rattle.vx_stands.specs.declared.answer.Answer.TheVariants.{Illegal}
+use Rattle.vx_group_states.specs.Answering.{is_answer_held}
+use Rattle.vx_group_states.specs.declared.answer.Answer.{Answer}
+use Rattle.vx_group_states.specs.declared.answer.Answer.TheVariants.{Illegal}
 use Rattle.vx_arith.specs.Numbers.{branch_by, int_or, long_or, of_int, of_ints, of_long, of_longs, of_mixed, of_one, of_reference, of_top, of_top_two, of_two}
 use Rattle.vx_arith.specs.Raising.{IsByZero, IsForZero}
 use Rattle.vx_arith.specs.declared.spot.Spot.{Spot}

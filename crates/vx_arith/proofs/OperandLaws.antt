@@ -15,15 +15,15 @@ use Rattle.vx_heap.proofs.HeapLaws.{value_of-extends}
 use Rattle.vx_java.specs.Machine.{Here, Value, illegal_in, push}
 use Rattle.vx_java.specs.declared.operation.Operation.{Operation}
 use Rattle.vx_outcome.specs.declared.outcome.Outcome.{Outcome}
-use Rattle.vx_stands.specs.Answering.{AreHeld, IsReady, answer_at, answered, answered_by, is_answer_held, operands_at}
-use Rattle.vx_stands.specs.Answers.{answer_cmp}
-use Rattle.vx_stands.specs.Sites.{Gives, GivesAt, here}
-use Rattle.vx_stands.specs.Stands.{state_at}
-use Rattle.vx_stands.specs.declared.answer.Answer.{Answer}
-use Rattle.vx_stands.specs.declared.answer.Answer.TheVariants.{Illegal, Jump, Push, Raise}
-use Rattle.vx_stands.specs.declared.site.Site.{Site}
-use Rattle.vx_stands.proofs.EndingLaws.{GivesAt-before}
-use Rattle.vx_stands.proofs.SettleLaws.{stack_scope}
+use Rattle.vx_group_states.specs.Answering.{AreHeld, IsReady, answer_at, answered, answered_by, is_answer_held, operands_at}
+use Rattle.vx_group_states.specs.Answers.{answer_cmp}
+use Rattle.vx_group_states.specs.Sites.{Gives, GivesAt, here}
+use Rattle.vx_group_states.specs.Stands.{state_at}
+use Rattle.vx_group_states.specs.declared.answer.Answer.{Answer}
+use Rattle.vx_group_states.specs.declared.answer.Answer.TheVariants.{Illegal, Jump, Push, Raise}
+use Rattle.vx_group_states.specs.declared.site.Site.{Site}
+use Rattle.vx_group_states.proofs.EndingLaws.{GivesAt-before}
+use Rattle.vx_group_states.proofs.SettleLaws.{stack_scope}
 use Rattle.vx_families.specs.Attempts.{row_by}
 use Rattle.vx_arith.specs.Family.{divides, takes_one, takes_two}
 use Rattle.vx_arith.specs.Numbers.{of_top, of_top_two}

@@ -15,8 +15,8 @@ use Rattle.vx_java.specs.Row.{row_of}
 use Rattle.vx_java.specs.declared.operation.Operation.{Operation}
 use Rattle.vx_java.specs.declared.operation.Operation.TheVariants.{IfInt, IfInts, IfNull, IntArithmetic, IntNarrow, IntNegate, IntShift, IntToLong, LongArithmetic, LongCompare, LongNegate, LongShift, LongToInt, SwitchLookup, SwitchTable}
 use Rattle.vx_opcode.specs.Numbers.{s4}
-use Rattle.vx_stands.specs.Answering.{answered}
-use Rattle.vx_stands.specs.declared.answer.Answer.{Answer}
+use Rattle.vx_group_states.specs.Answering.{answered}
+use Rattle.vx_group_states.specs.declared.answer.Answer.{Answer}
 use Rattle.vx_arith.specs.Family.{divides, takes_one, takes_two}
 use Rattle.vx_arith.specs.Numbers.{branch_by, int_or, jump_by, long_or, of_one, of_top, of_top_two, of_two, pair_jump, table_jump}
 use Rattle.vx_arith.specs.Raising.{IsByZero}

@@ -5,8 +5,8 @@ use Rattle.vx_java.specs.Jumps.{passes}
 use Rattle.vx_java.specs.declared.operation.Operation.{Operation}
 use Rattle.vx_java.specs.declared.operation.Operation.TheVariants.{Goto, IfInt, IfInts, IfNull, IntArithmetic, IntNarrow, IntNegate, IntShift, IntToLong, LongArithmetic, LongCompare, LongNegate, LongShift, LongToInt, SwitchLookup, SwitchTable}
 use Rattle.vx_opcode.specs.Numbers.{s4}
-use Rattle.vx_stands.specs.declared.answer.Answer.{Answer}
-use Rattle.vx_stands.specs.declared.answer.Answer.TheVariants.{Illegal, Jump, Push}
+use Rattle.vx_group_states.specs.declared.answer.Answer.{Answer}
+use Rattle.vx_group_states.specs.declared.answer.Answer.TheVariants.{Illegal, Jump, Push}
 use Rattle.vx_value.specs.Arithmetic.{compare_long_of, int_op_of, long_op_of, long_to_int, narrow_of, natural, negation, same_int, shift_int_of, shift_long_of}
 use Rattle.vx_value.specs.declared.slot.Slot.{Slot}
 use Rattle.vx_value.specs.declared.slot.Slot.TheVariants.{Int, Long, Null, Ref}

@@ -3,8 +3,8 @@ use Rattle.std.specs.Prelude.{◌≡◌, Bool, true, false, Some, codes, ℕ}
 use Rattle.vx_heap.specs.Heap.{HeapView}
 use Rattle.vx_link.specs.ClassNames.{core_class}
 use Rattle.vx_link.specs.declared.program.Program.{Program}
-use Rattle.vx_stands.specs.declared.answer.Answer.{Answer}
-use Rattle.vx_stands.specs.declared.answer.Answer.TheVariants.{Illegal, Raise}
+use Rattle.vx_group_states.specs.declared.answer.Answer.{Answer}
+use Rattle.vx_group_states.specs.declared.answer.Answer.TheVariants.{Illegal, Raise}
 use Rattle.vx_value.specs.Texts.{IsNumber}
 use Rattle.vx_value.specs.declared.ids.ClassId.{ClassId}
 

@@ -7,7 +7,7 @@ ghost use Rattle.vx_families.specs.Attempts.{IsAttemptBy, IsGiven, row_by};
 ghost use Rattle.vx_group.specs.Group.{IsGroup};
 ghost use Rattle.vx_java.specs.Ids.{HasClassNumbers};
 ghost use Rattle.vx_space.specs.Sets.{Extends};
-ghost use Rattle.vx_stands.specs.Sites.{Gives};
+ghost use Rattle.vx_group_states.specs.Sites.{Gives};
 ghost use Rattle.vx_value.specs.Texts.{Extends as TextsExtend};
 
 use crate::family::{divides, takes_one, takes_two};
@@ -17,12 +17,12 @@ use crate::spot::spot_at;
 use std::alloc::{AllocError, Global};
 use vx_families::{core_class, unsupported};
 use vx_group::Group;
+use vx_group_states::{Answer, Site};
 use vx_heap::Heap;
 use vx_java::Operation;
 use vx_link::Program;
 use vx_outcome::Outcomes;
 use vx_space::{Space, SpaceFault};
-use vx_stands::{Answer, Site};
 use vx_value::Name;
 
 /// The class of what a zero divisor raises.

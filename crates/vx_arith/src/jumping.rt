@@ -6,8 +6,8 @@ ghost use Rattle.vx_opcode.specs.Numbers.{s4};
 ghost use Rattle.vx_value.specs.Arithmetic.{same_int};
 
 use crate::spot::Spot;
+use vx_group_states::Answer;
 use vx_java::Operation;
-use vx_stands::Answer;
 
 /// The position that is so far from the opcode, or 0 before the code.
 pub fn target_of(spot: &Spot, offset: i32) -> u32

@@ -6,12 +6,12 @@ ghost use Rattle.vx_java.specs.Jumps.{passes};
 
 use crate::jumping::{branch_by, jump_by, pair_jump, table_jump};
 use crate::spot::Spot;
+use vx_group_states::Answer;
 use vx_java::{Operation, Test};
 use vx_numbers::{
     compare_long, int_op, long_op, long_to_int, narrow, negate_int, negate_long, shift_int,
     shift_long,
 };
-use vx_stands::Answer;
 use vx_value::Slot;
 
 /// Whether two ints pass a test.

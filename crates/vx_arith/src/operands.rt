@@ -10,9 +10,9 @@ ghost use Rattle.vx_families.specs.Attempts.{row_by};
 ghost use Rattle.vx_group.specs.Group.{IsGroup};
 ghost use Rattle.vx_heap.specs.Heap.{HeapView};
 ghost use Rattle.vx_space.specs.Sets.{Extends};
-ghost use Rattle.vx_stands.specs.Answering.{answer_at, operands_at};
-ghost use Rattle.vx_stands.specs.Answers.{answer_cmp};
-ghost use Rattle.vx_stands.specs.Sites.{Gives, GivesAt};
+ghost use Rattle.vx_group_states.specs.Answering.{answer_at, operands_at};
+ghost use Rattle.vx_group_states.specs.Answers.{answer_cmp};
+ghost use Rattle.vx_group_states.specs.Sites.{Gives, GivesAt};
 ghost use Rattle.vx_value.specs.Slot.{slot_cmp};
 
 use crate::numbers::{of_one, of_two};
@@ -20,10 +20,10 @@ use crate::spot::{Spot, spot_at};
 use std::alloc::Global;
 use vx_cond::{Cond, Row};
 use vx_group::Group;
+use vx_group_states::{Answer, Site, carry_out, illegal};
 use vx_java::Operation;
 use vx_outcome::Outcomes;
 use vx_space::{Space, SpaceFault};
-use vx_stands::{Answer, Site, carry_out, illegal};
 use vx_value::Slot;
 
 /// What an instruction makes of the operand on top, at each configuration.

@@ -2,7 +2,7 @@
 
 ghost use Rattle.std.specs.Prelude.{◌≡◌, ◌+◌, ◌<◌};
 
-use vx_stands::Site;
+use vx_group_states::Site;
 
 /// Where an instruction stands: the code of the method, the place of the opcode there, and the length of the instruction.
 #[derive(Drop)]

@@ -5,7 +5,7 @@ use Rattle.std.proofs.lemmas.List.{length-map, take_all}
 use Rattle.vx_source.specs.Lines.{source_of}
 use Rattle.vx_source.specs.declared.lines.Source.{Source}
 use Rattle.vx_words.specs.Lines.{with_first, parts, lines, is_line_feed, without_return}
-use Rattle.vx_draft.specs.Rules.{is_short, is_lawful_field, is_lawful_method}
+use Rattle.vx_class_parts.specs.Rules.{is_short, is_lawful_field, is_lawful_method}
 
 -- the second of four tests
 second_of_four : (a b c d : Bool) → (a && b && c && d) ≡ true → b ≡ true

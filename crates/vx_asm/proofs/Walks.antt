@@ -5,9 +5,9 @@ use Rattle.vx_source.specs.Reading.{Read, Fails, check}
 use Rattle.vx_source.specs.declared.fault.LineFault.{LineFault}
 use Rattle.vx_source.specs.declared.fault.LineFault.TheVariants as line_fault
 use Rattle.vx_source.specs.declared.lines.SourceLine.{SourceLine}
-use Rattle.vx_draft.specs.Drafts.{next_place}
-use Rattle.vx_draft.specs.declared.constants.Constant.{Constant}
-use Rattle.vx_draft.specs.declared.drafts.Draft.{Draft}
+use Rattle.vx_class_parts.specs.Drafts.{next_place}
+use Rattle.vx_class_parts.specs.declared.constants.Constant.{Constant}
+use Rattle.vx_class_parts.specs.declared.drafts.Draft.{Draft}
 use Rattle.vx_asm.specs.declared.fault.AsmFault.{AsmFault}
 use Rattle.vx_asm.specs.declared.fault.AsmFault.TheVariants as fault
 use Rattle.vx_asm.specs.declared.class_draft.ClassDraft.{ClassDraft}
@@ -16,7 +16,7 @@ use Rattle.vx_source.specs.declared.statement.CatchLine.{CatchLine}
 use Rattle.vx_asm.specs.declared.class_draft.Body.{Body}
 use Rattle.vx_asm.specs.Bodies.{places_from, with_caught, with_rows, are_known, is_lawful_row, with_row, catch_said}
 use Rattle.vx_asm.specs.Source.{Fault, onward, with_line, is_late, located, fault_at, walk, Refuses}
-use Rattle.vx_draft.proofs.Loops.{front_is}
+use Rattle.vx_class_parts.proofs.Loops.{front_is}
 
 -- ---- places
 

@@ -16,12 +16,12 @@ use Rattle.vx_source.specs.declared.statement.MethodLine.{MethodLine}
 use Rattle.vx_source.specs.declared.statement.Room.{Room}
 use Rattle.vx_source.specs.declared.statement.Value.{Value}
 use Rattle.vx_source.specs.declared.statement.Value.TheVariants as value
-use Rattle.vx_draft.specs.Bodies.{labels_of}
-use Rattle.vx_draft.specs.Constants.{with_text, with_class, with_constant, in_file, in_file_or_zero}
-use Rattle.vx_draft.specs.Instructions.{is_of_version}
-use Rattle.vx_draft.specs.Rules.{is_lawful_class, is_plain_class, is_lawful_field, is_lawful_method, may_have_value, is_lawful_code}
-use Rattle.vx_draft.specs.declared.constants.Constant.{Constant}
-use Rattle.vx_draft.specs.declared.constants.Constant.TheVariants as constant
+use Rattle.vx_class_parts.specs.Bodies.{labels_of}
+use Rattle.vx_class_parts.specs.Constants.{with_text, with_class, with_constant, in_file, in_file_or_zero}
+use Rattle.vx_class_parts.specs.Instructions.{is_of_version}
+use Rattle.vx_class_parts.specs.Rules.{is_lawful_class, is_plain_class, is_lawful_field, is_lawful_method, may_have_value, is_lawful_code}
+use Rattle.vx_class_parts.specs.declared.constants.Constant.{Constant}
+use Rattle.vx_class_parts.specs.declared.constants.Constant.TheVariants as constant
 use Rattle.vx_asm.specs.declared.class_draft.Stage.{Stage}
 use Rattle.vx_asm.specs.declared.class_draft.Stage.TheVariants as stage
 use Rattle.vx_asm.specs.declared.class_draft.Signature.{Signature}

@@ -9,7 +9,7 @@ use Rattle.vx_source.specs.declared.lines.Said.{Said}
 use Rattle.vx_source.specs.declared.lines.Said.TheVariants as said
 use Rattle.vx_source.specs.declared.lines.SourceLine.{SourceLine}
 use Rattle.vx_source.specs.declared.statement.Statement.{Statement}
-use Rattle.vx_draft.specs.Constants.{places, pool_of}
+use Rattle.vx_class_parts.specs.Constants.{places, pool_of}
 use Rattle.vx_asm.specs.declared.fault.AsmFault.{AsmFault}
 use Rattle.vx_asm.specs.declared.fault.AsmFault.TheVariants as fault
 use Rattle.vx_asm.specs.declared.class_draft.Stage.TheVariants as stage

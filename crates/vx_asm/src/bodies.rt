@@ -2,13 +2,13 @@
 
 ghost use Rattle.std.specs.Prelude.{◌≡◌, ◌+◌, ◌<◌, ◌&&◌, take, min, option_copied, is_some, OnOk, IfOk};
 ghost use Rattle.vx_source.specs.Reading.{Gives};
-ghost use Rattle.vx_draft.specs.Bodies.{find_label};
-ghost use Rattle.vx_draft.specs.Instructions.{constant_of};
+ghost use Rattle.vx_class_parts.specs.Bodies.{find_label};
+ghost use Rattle.vx_class_parts.specs.Instructions.{constant_of};
 ghost use Rattle.vx_asm.specs.Bodies.{with_needed, is_index_near, with_draft, pool_of_instruction, with_instruction, instruction_said, label_said, are_known, is_caught, is_lawful_row, covered, with_covered, with_row, catch_said};
 
 use crate::class_draft::{Body, ClassDraft, Covered};
 use std::alloc::{AllocError, Global};
-use vx_draft::{
+use vx_class_parts::{
     Constant, Label, Labels, check_instruction, constant_of, draft_of, find_label, in_file_or_zero,
     index_of, is_known, is_lawful_class, leads, number_of, pushed, put_constant,
 };

@@ -1,7 +1,7 @@
 //! A class while the lines of its source are read.
 
 use vx_class::{Field, Method};
-use vx_draft::{Constant, Draft, Labels};
+use vx_class_parts::{Constant, Draft, Labels};
 use vx_list::Items;
 use vx_value::Name;
 

@@ -7,7 +7,7 @@ ghost use Rattle.vx_asm.specs.Bodies.{places_of, with_caught, with_rows, caught_
 use crate::class_draft::{Body, ClassDraft, Covered};
 use std::alloc::{AllocError, Global};
 use vx_class::{Catch, Code, Method};
-use vx_draft::{
+use vx_class_parts::{
     Constant, Draft, all_reach, class_index, code_bytes, next_place, place_of, pushed, put_class,
 };
 use vx_list::Items;

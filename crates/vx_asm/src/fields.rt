@@ -8,7 +8,7 @@ use crate::class_draft::{ClassDraft, Stage};
 use crate::parts::{is_taken, may_have_field, signature_of};
 use std::alloc::{AllocError, Global};
 use vx_class::Field;
-use vx_draft::{
+use vx_class_parts::{
     Constant, in_file_or_zero, is_lawful_field, may_have_value, pushed, put_constant, put_text,
     text_index,
 };

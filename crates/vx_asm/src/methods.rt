@@ -9,7 +9,7 @@ use crate::fields::put_signature;
 use crate::parts::{has_class, is_taken, signature_of};
 use std::alloc::{AllocError, Global};
 use vx_class::Method;
-use vx_draft::{
+use vx_class_parts::{
     Constant, is_lawful_code, is_lawful_initialiser, is_lawful_method, labels_of, pushed, put_text,
     text_index,
 };

@@ -3,13 +3,13 @@
 ghost use Rattle.std.specs.Prelude.{◌≡◌, ◌<◌, ◌==◌, ◌&&◌, OnOk, IfOk};
 ghost use Rattle.std.specs.Str.{bytes_eq};
 ghost use Rattle.vx_source.specs.Reading.{Gives};
-ghost use Rattle.vx_draft.specs.Constants.{in_file};
-ghost use Rattle.vx_draft.specs.declared.constants.Constant.TheVariants.{Class};
+ghost use Rattle.vx_class_parts.specs.Constants.{in_file};
+ghost use Rattle.vx_class_parts.specs.declared.constants.Constant.TheVariants.{Class};
 ghost use Rattle.vx_asm.specs.Parts.{may_have_version, may_have_class, may_have_interface, may_have_field, has_class, version_said, with_names, with_class_line, class_said, with_interface, implements_said, is_taken};
 
 use crate::class_draft::{ClassDraft, Signature, Stage};
 use std::alloc::{AllocError, Global};
-use vx_draft::{Constant, class_index, is_lawful_class, is_plain_class, pushed, put_class};
+use vx_class_parts::{Constant, class_index, is_lawful_class, is_plain_class, pushed, put_class};
 use vx_list::Items;
 use vx_source::{ClassLine, LineFault, refused};
 use vx_value::Name;

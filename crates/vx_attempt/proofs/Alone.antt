@@ -8,7 +8,7 @@ use Rattle.vx_group.specs.Group.{GroupView, path_of}
 use Rattle.vx_group.proofs.GroupLaws.{IsGroupIn-callers, IsGroupIn-group, IsGroupIn-one}
 use Rattle.vx_heap.specs.Heap.{HeapView}
 use Rattle.vx_link.specs.declared.program.Program.{Program}
-use Rattle.vx_stands.specs.Stands.{StandsIn, state_at}
+use Rattle.vx_group_states.specs.Stands.{StandsIn, state_at}
 use Rattle.vx_value.specs.declared.key.KeyPart.{KeyPart}
 
 pub alone_caller : {S I : Type 0} (sets : Sets I) (tree : List (Option (Caller S I))) (path : I) (below : List KeyPart) (caller : Option ℕ) → below ≡ [] → AreCallers sets tree path (length below) caller → caller ≡ None

@@ -16,11 +16,11 @@ use Rattle.vx_opcode.specs.Decode.{instruction_at}
 use Rattle.vx_outcome.specs.Outcome.{condition_of}
 use Rattle.vx_outcome.specs.declared.outcome.Outcome.{Outcome}
 use Rattle.vx_outcome.specs.declared.outcome.Outcome.TheVariants as shared
-use Rattle.vx_stands.specs.Sites.{here}
-use Rattle.vx_stands.specs.Stands.{AreOutcomes, CameTo, StandsIn, state_at}
-use Rattle.vx_stands.specs.declared.site.Site.{Site}
-use Rattle.vx_stands.proofs.OutcomeStates.{condition_known}
-use Rattle.vx_stands.proofs.StateLaws.{top_held, top_shaped}
+use Rattle.vx_group_states.specs.Sites.{here}
+use Rattle.vx_group_states.specs.Stands.{AreOutcomes, CameTo, StandsIn, state_at}
+use Rattle.vx_group_states.specs.declared.site.Site.{Site}
+use Rattle.vx_group_states.proofs.OutcomeStates.{condition_known}
+use Rattle.vx_group_states.proofs.StateLaws.{top_held, top_shaped}
 use Rattle.vx_attempt.specs.Carrying.{AreConditionsKnown, HasCall, HaveCalls}
 use Rattle.vx_attempt.proofs.Carrying.{CameTo-rest, first_at}
 use Rattle.vx_attempt.proofs.NativeRows.{StaysIn, row_stays}

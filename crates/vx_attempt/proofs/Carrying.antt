@@ -28,10 +28,10 @@ use Rattle.vx_link.specs.declared.program.Program.{Program}
 use Rattle.vx_outcome.specs.Outcome.{condition_of}
 use Rattle.vx_outcome.specs.declared.outcome.Outcome.{Outcome}
 use Rattle.vx_outcome.specs.declared.outcome.Outcome.TheVariants as shared
-use Rattle.vx_stands.specs.Stands.{AreOutcomes, CameTo, Continues, IsMessage, IsOutcome, IsThrown, comes_to, message_of, object_named, outcome_at, state_at}
-use Rattle.vx_stands.specs.declared.site.Site.{Site}
-use Rattle.vx_stands.proofs.OutcomeStates.{CameTo-append, CameTo-extends, CameTo-none, CameTo-one, CameTo-same, CameTo-through}
-use Rattle.vx_stands.proofs.StateLaws.{both_first}
+use Rattle.vx_group_states.specs.Stands.{AreOutcomes, CameTo, Continues, IsMessage, IsOutcome, IsThrown, comes_to, message_of, object_named, outcome_at, state_at}
+use Rattle.vx_group_states.specs.declared.site.Site.{Site}
+use Rattle.vx_group_states.proofs.OutcomeStates.{CameTo-append, CameTo-extends, CameTo-none, CameTo-one, CameTo-same, CameTo-through}
+use Rattle.vx_group_states.proofs.StateLaws.{both_first}
 use Rattle.vx_attempt.specs.Carrying.{AreCarriedOut, AreConditionsKnown, HasCall, HasUnbuilt, HaveCalls}
 
 module _ {S I : Type 0} (p : Program) (start sets : Sets I) (before after : HeapView S I) (m : HasMoreTexts before after) (v : IsHeap sets before) (tree : List (Option (Caller S I))) (group : GroupView S I) where

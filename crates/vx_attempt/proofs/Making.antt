@@ -32,11 +32,11 @@ use Rattle.vx_opcode.specs.Decode.{instruction_at}
 use Rattle.vx_opcode.specs.declared.instruction.DecodeFault.{DecodeFault}
 use Rattle.vx_opcode.specs.declared.instruction.Instruction.{Instruction}
 use Rattle.vx_outcome.specs.declared.outcome.Outcome.{Outcome}
-use Rattle.vx_stands.specs.Sites.{Gives}
-use Rattle.vx_stands.specs.Stands.{Grows, state_at}
-use Rattle.vx_stands.specs.declared.site.Site.{Site}
-use Rattle.vx_stands.proofs.OutcomeStates.{CameTo-same}
-use Rattle.vx_stands.proofs.StateLaws.{both_first, both_second, top_held, top_shaped}
+use Rattle.vx_group_states.specs.Sites.{Gives}
+use Rattle.vx_group_states.specs.Stands.{Grows, state_at}
+use Rattle.vx_group_states.specs.declared.site.Site.{Site}
+use Rattle.vx_group_states.proofs.OutcomeStates.{CameTo-same}
+use Rattle.vx_group_states.proofs.StateLaws.{both_first, both_second, top_held, top_shaped}
 use Rattle.vx_value.specs.declared.ids.ClassId.{ClassId}
 use Rattle.vx_attempt.specs.Attempted.{IsAttempted, IsUnbuiltThere, MayAttempt, carried_out_row}
 use Rattle.vx_attempt.specs.Carrying.{AreCarriedOut, HasUnbuilt}

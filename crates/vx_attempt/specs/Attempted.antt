@@ -12,7 +12,7 @@ use Rattle.vx_java.specs.Row.{row}
 use Rattle.vx_java.specs.Step.{outcome_carried_out}
 use Rattle.vx_link.specs.declared.program.Program.{Program}
 use Rattle.vx_outcome.specs.declared.outcome.Outcome.{Outcome}
-use Rattle.vx_stands.specs.Stands.{Attempts, StandsIn, state_at}
+use Rattle.vx_group_states.specs.Stands.{Attempts, StandsIn, state_at}
 
 -- what an attempt comes to, with a native method carried out
 abbrev pub carried_out_row : Program → State → PlainOutcome

@@ -4,7 +4,7 @@ use Rattle.vx_arith.specs.Family.{is_of_numbers}
 use Rattle.vx_attempt.specs.declared.family.Family.{Family}
 use Rattle.vx_attempt.specs.declared.family.Family.TheVariants.{Calls, Forms, Locals, Numbers, Returns, Statics}
 use Rattle.vx_fields.specs.Statics.{is_of_statics}
-use Rattle.vx_forms.specs.Forms.{is_form}
+use Rattle.vx_stack.specs.Forms.{is_form}
 use Rattle.vx_invoke.specs.Named.{is_built_call}
 use Rattle.vx_java.specs.declared.operation.Operation.{Operation}
 use Rattle.vx_locals.specs.Family.{is_of_locals}

@@ -16,6 +16,7 @@ use std::alloc::Global;
 use vx_class::Code;
 use vx_families::AttemptFault;
 use vx_group::Group;
+use vx_group_states::{Site, illegal};
 use vx_heap::Heap;
 use vx_java::Operation;
 use vx_java::decoding::operation;
@@ -24,7 +25,6 @@ use vx_link::Program;
 use vx_opcode::decode;
 use vx_outcome::Outcomes;
 use vx_space::Space;
-use vx_stands::{Site, illegal};
 use vx_value::MethodId;
 
 /// The code of a method.
@@ -64,7 +64,7 @@ fn by_family<S: Space>(
             Ok(made)
         }
         Family::Forms => {
-            let made = vx_forms::attempt(alloc, site, space, heap, operation, group)?;
+            let made = vx_stack::attempt(alloc, site, space, heap, operation, group)?;
             Ok(made)
         }
         Family::Returns => {

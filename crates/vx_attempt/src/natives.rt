@@ -14,11 +14,11 @@ ghost use Rattle.vx_families.specs.Texts.{HasMoreTexts};
 use std::alloc::{AllocError, Global};
 use vx_families::AttemptFault;
 use vx_group::Group;
+use vx_group_states::Site;
 use vx_heap::Heap;
 use vx_link::Program;
 use vx_outcome::{Outcome, Outcomes};
 use vx_space::Space;
-use vx_stands::Site;
 use vx_text::native;
 use vx_value::{ClassId, MethodId};
 

@@ -5,9 +5,9 @@ use Rattle.std.proofs.lemmas.List.{append-nil}
 use Rattle.std.proofs.lemmas.Bool.{le-leb, ne_eqb}
 use Rattle.std.specs.List.{flat_map, list_any, AllByRecursion}
 use Rattle.std.specs.Str.{bytes_eq}
-use Rattle.vx_reading.specs.Place.{Place, place, start}
-use Rattle.vx_reading.specs.Reading.{Read, ◌>>=◌, check, number, steps, behind}
-use Rattle.vx_reading.specs.Again.{Reads, number_reads, reads_then, reads_last, check_passes}
+use Rattle.vx_cursor.specs.Place.{Place, place, start}
+use Rattle.vx_cursor.specs.Reading.{Read, ◌>>=◌, check, number, steps, behind}
+use Rattle.vx_cursor.specs.Again.{Reads, number_reads, reads_then, reads_last, check_passes}
 use Rattle.vx_pool.specs.declared.pool.Entry.{Entry}
 use Rattle.vx_pool.specs.declared.pool.Entry.TheVariants as entry
 use Rattle.vx_pool.specs.declared.pool.Pool.{Pool}

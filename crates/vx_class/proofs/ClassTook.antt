@@ -5,9 +5,9 @@ use Rattle.std.proofs.lemmas.List.{append-nil, nil_from_length}
 use Rattle.std.proofs.lemmas.Bool.{eqb-true, leb-true}
 use Rattle.std.specs.List.{flat_map, AllByRecursion}
 use Rattle.std.specs.Str.{bytes_eq}
-use Rattle.vx_reading.specs.Place.{Place, IsBytes, start}
-use Rattle.vx_reading.specs.Reading.{Read, ◌>>=◌, check, number, steps, behind}
-use Rattle.vx_reading.specs.Took.{bind_ok, check_ok, ok_is, Took, Took-then, width2, width4, number_took}
+use Rattle.vx_cursor.specs.Place.{Place, IsBytes, start}
+use Rattle.vx_cursor.specs.Reading.{Read, ◌>>=◌, check, number, steps, behind}
+use Rattle.vx_cursor.specs.Took.{bind_ok, check_ok, ok_is, Took, Took-then, width2, width4, number_took}
 use Rattle.vx_pool.specs.declared.pool.Entry.{Entry}
 use Rattle.vx_pool.specs.declared.pool.Pool.{Pool}
 use Rattle.vx_pool.specs.Pool.{size, pool_at}

@@ -6,9 +6,9 @@ use Rattle.std.proofs.lemmas.Option.{slice_get_past}
 use Rattle.std.proofs.lemmas.Bool.{cases_lt, eqb-true, eq-eqb, le-leb, leb-true, lt-ltb, ltb-true}
 use Rattle.std.proofs.lemmas.List.Concat.{flat_map-cons}
 use Rattle.std.specs.List.{flat_map, list_any, AllByRecursion}
-use Rattle.vx_reading.specs.Place.{Place, place}
-use Rattle.vx_reading.specs.Reading.{Read, ◌>>=◌, check, number, bytes, steps, item_step, items}
-use Rattle.vx_reading.specs.Again.{Reads, number_reads, bytes_reads, room_again, reads_then, reads_last, check_passes}
+use Rattle.vx_cursor.specs.Place.{Place, place}
+use Rattle.vx_cursor.specs.Reading.{Read, ◌>>=◌, check, number, bytes, steps, item_step, items}
+use Rattle.vx_cursor.specs.Again.{Reads, number_reads, bytes_reads, room_again, reads_then, reads_last, check_passes}
 use Rattle.vx_pool.specs.declared.pool.Entry.{Entry}
 use Rattle.vx_pool.specs.declared.pool.Entry.TheVariants as entry
 use Rattle.vx_pool.specs.declared.pool.Pool.{Pool}

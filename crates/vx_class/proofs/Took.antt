@@ -6,10 +6,10 @@ use Rattle.std.proofs.lemmas.Bool.{eqb-true, leb-true, ltb-true}
 use Rattle.std.specs.Prelude.{nat_eq, nat_lt, is_some, IsTrue}
 use Rattle.std.specs.List.{flat_map, AllByRecursion}
 use Rattle.vx_pool.specs.declared.pool.Pool.{Pool}
-use Rattle.vx_reading.specs.Place.{Place}
-use Rattle.vx_reading.specs.Reading.{Fault, Read, ◌>>=◌, check, number, room, steps, item_step, items}
-use Rattle.vx_reading.specs.Place.{IsBytes}
-use Rattle.vx_reading.specs.Took.{bind_ok, check_ok, ok_is, Took, Took-then, width2, width4, number_took, bytes_took}
+use Rattle.vx_cursor.specs.Place.{Place}
+use Rattle.vx_cursor.specs.Reading.{Fault, Read, ◌>>=◌, check, number, room, steps, item_step, items}
+use Rattle.vx_cursor.specs.Place.{IsBytes}
+use Rattle.vx_cursor.specs.Took.{bind_ok, check_ok, ok_is, Took, Took-then, width2, width4, number_took, bytes_took}
 use Rattle.vx_class.specs.declared.class_file.Catch.{Catch}
 use Rattle.vx_class.specs.declared.class_file.Code.{Code}
 use Rattle.vx_class.specs.declared.code.Parts.{Parts}

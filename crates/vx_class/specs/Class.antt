@@ -1,8 +1,8 @@
 -- A class file, read from the front to the back.
 use Rattle.std.specs.Prelude.{ℕ, ◌+◌, List, length, Result, Ok, is_some, not, nat_le, ◌==◌, ◌&&◌}
 use Rattle.vx_pool.specs.declared.pool.Pool.{Pool}
-use Rattle.vx_reading.specs.Place.{Place, start}
-use Rattle.vx_reading.specs.Reading.{Fault, Read, ◌>>=◌, check, number, items}
+use Rattle.vx_cursor.specs.Place.{Place, start}
+use Rattle.vx_cursor.specs.Reading.{Fault, Read, ◌>>=◌, check, number, items}
 use Rattle.vx_pool.specs.Pool.{pool_at}
 use Rattle.vx_class.specs.declared.class_file.ClassFile.{ClassFile}
 use Rattle.vx_class.specs.declared.reading.Head.{Head}

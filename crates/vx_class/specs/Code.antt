@@ -1,8 +1,8 @@
 -- The code of a method.
 use Rattle.std.specs.Prelude.{ℕ, ◌+◌, List, [], ◌∷◌, length, Bool, Option, Some, None, Result, Ok, is_some, nat_lt, nat_le, ◌==◌, ◌&&◌, ◌||◌}
 use Rattle.vx_pool.specs.declared.pool.Pool.{Pool}
-use Rattle.vx_reading.specs.Place.{Place}
-use Rattle.vx_reading.specs.Reading.{Fault, Read, ◌>>=◌, check, refuse, number, room, bytes, steps, items}
+use Rattle.vx_cursor.specs.Place.{Place}
+use Rattle.vx_cursor.specs.Reading.{Fault, Read, ◌>>=◌, check, refuse, number, room, bytes, steps, items}
 use Rattle.vx_class.specs.declared.class_file.Code.{Code}
 use Rattle.vx_class.specs.declared.class_file.Catch.{Catch}
 use Rattle.vx_class.specs.declared.code.Parts.{Parts}

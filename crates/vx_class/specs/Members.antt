@@ -5,8 +5,8 @@ use Rattle.std.specs.Str.{bytes_eq}
 use Rattle.vx_pool.specs.declared.pool.Entry.{Entry}
 use Rattle.vx_pool.specs.declared.pool.Entry.TheVariants as entry
 use Rattle.vx_pool.specs.declared.pool.Pool.{Pool}
-use Rattle.vx_reading.specs.Place.{Place}
-use Rattle.vx_reading.specs.Reading.{Read, ◌>>=◌, check, number, steps, behind}
+use Rattle.vx_cursor.specs.Place.{Place}
+use Rattle.vx_cursor.specs.Reading.{Read, ◌>>=◌, check, number, steps, behind}
 use Rattle.vx_desc.specs.declared.java_type.Base.{Base}
 use Rattle.vx_desc.specs.declared.java_type.Base.TheVariants as base
 use Rattle.vx_desc.specs.declared.java_type.JavaType.{JavaType}

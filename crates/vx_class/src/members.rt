@@ -2,7 +2,7 @@
 
 ghost use Rattle.std.specs.Prelude.{◌≡◌, ◌+◌, ◌^◌, ◌<◌, length, None, false, [], IfOk};
 ghost use Rattle.std.specs.List.{list_any};
-ghost use Rattle.vx_reading.specs.Reading.{Gives, GivesBy, steps, behind};
+ghost use Rattle.vx_cursor.specs.Reading.{Gives, GivesBy, steps, behind};
 ghost use Rattle.vx_desc.specs.Names.{is_field_name};
 ghost use Rattle.vx_desc.specs.Descriptors.{is_field_descriptor};
 ghost use Rattle.vx_code.specs.Lookups.{entry_of};
@@ -13,10 +13,10 @@ use crate::code::{content, utf8};
 use crate::flags::{STATIC, has};
 use std::alloc::Global;
 use vx_code::{entry_of, is_usable, text};
+use vx_cursor::refusal;
 use vx_desc::{Base, field_type, is_field_descriptor, is_field_name};
 use vx_list::Items;
 use vx_pool::{ClassFault, Cursor, Entry, Pool};
-use vx_reading::refusal;
 
 /// Whether an entry is a number of a type.
 fn is_number_for(base: Base, pool: &Pool, index: u16) -> bool

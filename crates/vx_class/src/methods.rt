@@ -2,7 +2,7 @@
 
 ghost use Rattle.std.specs.Prelude.{◌≡◌, ◌+◌, ◌^◌, ◌<◌, length, is_some, unwrap_or, None, [], IfOk};
 ghost use Rattle.std.specs.List.{list_any};
-ghost use Rattle.vx_reading.specs.Reading.{Gives, GivesBy, steps, behind};
+ghost use Rattle.vx_cursor.specs.Reading.{Gives, GivesBy, steps, behind};
 ghost use Rattle.vx_desc.specs.Names.{is_method_name};
 ghost use Rattle.vx_desc.specs.Descriptors.{is_method_descriptor, method_slots};
 ghost use Rattle.vx_class.specs.Members.{lawful_at, is_same, method_attribute_at, code_among, is_static, takes_code, slots_of, is_lawful_initialiser, method_at, methods_at};
@@ -12,12 +12,12 @@ use crate::code::{content, read_code, utf8};
 use crate::flags::{ABSTRACT, NATIVE, STATIC, has};
 use crate::members::is_same;
 use std::alloc::{AllocError, Global};
+use vx_cursor::refusal;
 use vx_desc::{
     is_clinit, is_init, is_method_descriptor, is_method_name, method_slots, returns_nothing,
 };
 use vx_list::Items;
 use vx_pool::{ClassFault, Cursor, Pool};
-use vx_reading::refusal;
 
 #[tactic(auto, unfolding(crate::specs::Members::lawful_at))]
 fn method_name<'p>(pool: &'p Pool, cursor: &mut Cursor) -> Result<(u16, &'p [u8]), ClassFault>

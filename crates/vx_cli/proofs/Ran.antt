@@ -11,7 +11,7 @@ use Rattle.vx_java.specs.Step.{Config}
 use Rattle.vx_link.specs.Linked.{linked_program}
 use Rattle.vx_link.specs.declared.fault.LinkFault.{LinkFault}
 use Rattle.vx_link.specs.declared.program.Program.{Program}
-use Rattle.vx_linked.specs.Law.{LinkedAreBounded}
+use Rattle.vx_program_bounds.specs.Law.{LinkedAreBounded}
 use Rattle.vx_model.specs.Models.{is_allowed}
 use Rattle.vx_model.specs.declared.model.Model.{Model}
 use Rattle.vx_reporting.specs.Reported.{IsReported}

@@ -5,7 +5,7 @@ use Rattle.std.specs.List.{AllByRecursion}
 use Rattle.vx_io.specs.Call.{Reading}
 use Rattle.vx_io.specs.Held.{Held, FilesState, contents}
 use Rattle.vx_io.specs.Sink.{SinkState}
-use Rattle.vx_reading.specs.Reading.{Fault}
+use Rattle.vx_cursor.specs.Reading.{Fault}
 use Rattle.vx_class.specs.declared.class_file.ClassFile.{ClassFile}
 use Rattle.vx_class.specs.Class.{class_of}
 use Rattle.vx_model.specs.declared.model.Model.{Model}

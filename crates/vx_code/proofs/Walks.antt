@@ -1,9 +1,9 @@
 -- Walking over code, as a loop does.
 use Rattle.std.proofs.Common.{◌≡◌, ℕ, zero, suc, ◌+◌, ◌≤◌, ◌<◌, List, [], ◌∷◌, ◌++◌, Result, Ok, Err, refl, sym, ◌∙◌, arith}
 use Rattle.std.proofs.lemmas.Bool.{lt-ltb, le-ltb}
-use Rattle.vx_reading.specs.declared.fault.ClassFault.{ClassFault}
-use Rattle.vx_reading.specs.declared.fault.ClassFault.TheVariants as fault
-use Rattle.vx_reading.specs.Reading.{Fault, Fails}
+use Rattle.vx_cursor.specs.declared.fault.ClassFault.{ClassFault}
+use Rattle.vx_cursor.specs.declared.fault.ClassFault.TheVariants as fault
+use Rattle.vx_cursor.specs.Reading.{Fault, Fails}
 use Rattle.vx_opcode.specs.declared.instruction.Instruction.{Instruction}
 use Rattle.vx_code.specs.Instructions.{walk}
 

@@ -1,7 +1,7 @@
 -- Checks in a row.
 use Rattle.std.specs.Prelude.{ℕ, ◌+◌, List, [], ◌∷◌, Bool, Result, Ok}
 use Rattle.std.specs.List.{list_all}
-use Rattle.vx_reading.specs.Reading.{Fault, ◌>>=◌, check}
+use Rattle.vx_cursor.specs.Reading.{Fault, ◌>>=◌, check}
 
 -- the first check of a list that fails, each with its reason, at a place
 abbrev pub first_failing : ℕ → List (Bool × ℕ) → Result (Unit {0}) Fault

@@ -3,7 +3,7 @@ use Rattle.std.specs.Prelude.{ℕ, List, [], ◌∷◌, ◌++◌, Bool, true, Op
 use Rattle.vx_pool.specs.declared.pool.Entry.{Entry}
 use Rattle.vx_pool.specs.declared.pool.Entry.TheVariants as entry
 use Rattle.vx_pool.specs.declared.pool.Pool.{Pool}
-use Rattle.vx_reading.specs.Reading.{Fault}
+use Rattle.vx_cursor.specs.Reading.{Fault}
 use Rattle.vx_pool.specs.Pool.{size}
 use Rattle.vx_desc.specs.Names.{is_field_name, is_method_name}
 use Rattle.vx_desc.specs.Descriptors.{is_field_descriptor, is_method_descriptor}

@@ -4,8 +4,8 @@ use Rattle.std.proofs.lemmas.List.{append-nil}
 use Rattle.std.proofs.lemmas.Bool.{ltb-false, lt-ltb, le-ltb}
 use Rattle.std.specs.Prelude.{nat_lt}
 use Rattle.std.specs.List.{AllByRecursion}
-use Rattle.vx_reading.specs.Reading.{Fault, ◌>>=◌}
-use Rattle.vx_reading.specs.Took.{bind_ok, check_ok}
+use Rattle.vx_cursor.specs.Reading.{Fault, ◌>>=◌}
+use Rattle.vx_cursor.specs.Took.{bind_ok, check_ok}
 use Rattle.vx_pool.specs.declared.pool.Pool.{Pool}
 use Rattle.vx_opcode.specs.declared.instruction.Instruction.{Instruction}
 use Rattle.vx_opcode.specs.Decode.{instruction_at}

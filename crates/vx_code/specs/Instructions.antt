@@ -4,7 +4,7 @@ use Rattle.std.specs.List.{list_any}
 use Rattle.vx_pool.specs.declared.pool.Entry.{Entry}
 use Rattle.vx_pool.specs.declared.pool.Entry.TheVariants as entry
 use Rattle.vx_pool.specs.declared.pool.Pool.{Pool}
-use Rattle.vx_reading.specs.Reading.{Fault, ◌>>=◌, refuse}
+use Rattle.vx_cursor.specs.Reading.{Fault, ◌>>=◌, refuse}
 use Rattle.vx_desc.specs.Names.{is_init}
 use Rattle.vx_desc.specs.Descriptors.{method_slots}
 use Rattle.vx_opcode.specs.declared.instruction.Instruction.{Instruction}

@@ -2,9 +2,9 @@
 use Rattle.std.proofs.Common.{◌≡◌, ℕ, suc, ◌+◌, ◌≤◌, ◌<◌, List, ◌∷◌, length, get_or, drop, sum_by, Result, Ok, Err, refl, sym, ap, ◌∙◌, add-one, drop-cons, arith}
 use Rattle.std.proofs.lemmas.List.{drop_all}
 use Rattle.std.proofs.lemmas.List.Sums.{sum_by-cons}
-use Rattle.vx_reading.specs.declared.fault.ClassFault.{ClassFault}
-use Rattle.vx_reading.specs.declared.fault.ClassFault.TheVariants as fault
-use Rattle.vx_reading.specs.Reading.{Fault, Fails}
+use Rattle.vx_cursor.specs.declared.fault.ClassFault.{ClassFault}
+use Rattle.vx_cursor.specs.declared.fault.ClassFault.TheVariants as fault
+use Rattle.vx_cursor.specs.Reading.{Fault, Fails}
 use Rattle.vx_code.specs.Checks.{each}
 
 pub item_first : {A : Type 0} (xs : List A) (i : ℕ) (x : A) → i < length xs → x ≡ get_or xs i x → drop i xs ≡ x ∷ drop (i + 1) xs

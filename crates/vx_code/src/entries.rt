@@ -1,7 +1,7 @@
 //! The checks of the pool's entries (JVMS 4.4): what each names, in the order in which a class file is checked.
 
 ghost use Rattle.std.specs.Prelude.{◌≡◌, ◌+◌, ◌^◌, ◌<◌, ◌&&◌, sum_by, true, None};
-ghost use Rattle.vx_reading.specs.Reading.{Answers};
+ghost use Rattle.vx_cursor.specs.Reading.{Answers};
 ghost use Rattle.vx_pool.specs.Pool.{size};
 ghost use Rattle.vx_pool.specs.declared.pool.Entry.TheVariants.{Class, Text, Field, Method, MethodHandle, MethodType, NameAndType};
 ghost use Rattle.vx_desc.specs.Names.{is_field_name, is_method_name};
@@ -14,9 +14,9 @@ use crate::lookups::{
     is_class, is_class_text, is_name_and_type, is_usable, member_descriptor, member_name, text,
 };
 use std::alloc::Global;
+use vx_cursor::refusal;
 use vx_desc::{is_field_descriptor, is_field_name, is_method_descriptor, is_method_name};
 use vx_pool::{ClassFault, Entry, Pool};
-use vx_reading::refusal;
 
 fn class_entry(pool: &Pool, index: u16, at: u64) -> Result<(), ClassFault>
     ensures { Answers result (first_failing at (checks_of pool.now (Class index))) }

@@ -1,7 +1,7 @@
 //! The checks of a method's instructions (JVMS 4.9.1): whole ones, and what their operands name.
 
 ghost use Rattle.std.specs.Prelude.{◌≡◌, ◌+◌, ◌*◌, ◌^◌, ◌<◌, ◌≤◌, ◌&&◌, ◌||◌, ◌==◌, All, Err, length, IfOk, Some, false, Option, None};
-ghost use Rattle.vx_reading.specs.Reading.{Answers};
+ghost use Rattle.vx_cursor.specs.Reading.{Answers};
 ghost use Rattle.vx_opcode.specs.Decode.{TableFits};
 ghost use Rattle.vx_opcode.specs.declared.instruction.Operand.TheVariants.{Pool as PoolOperand, Interface, Dimensions};
 ghost use Rattle.vx_code.specs.Lookups.{entry_of, class_text, member_name, member_descriptor};
@@ -10,11 +10,11 @@ ghost use Rattle.vx_code.specs.Instructions.{local_of, is_long_local, local_fits
 
 use crate::lookups::{class_text, entry_of, is_array, is_usable, member_descriptor, member_name};
 use std::alloc::Global;
+use vx_cursor::refusal;
 use vx_desc::{is_init, method_slots};
 use vx_list::Items;
 use vx_opcode::{Instruction, Operand, decode};
 use vx_pool::{ClassFault, Entry, Pool};
-use vx_reading::refusal;
 
 /// The local that an instruction reads or writes.
 fn local_of(opcode: u8, operand: Operand) -> Option<u16>

@@ -1,15 +1,15 @@
 //! The checks of jumps and switches (JVMS 4.9.1): they lead to instructions, and switches are in order.
 
 ghost use Rattle.std.specs.Prelude.{◌≡◌, ◌+◌, ◌-◌, ◌*◌, ◌^◌, ◌<◌, ◌≤◌, length, int_lt, All};
-ghost use Rattle.vx_reading.specs.Reading.{Answers};
+ghost use Rattle.vx_cursor.specs.Reading.{Answers};
 ghost use Rattle.vx_opcode.specs.Numbers.{s4};
 ghost use Rattle.vx_opcode.specs.Decode.{TableFits};
 ghost use Rattle.vx_code.specs.Checks.{first_failing};
 ghost use Rattle.vx_code.specs.Instructions.{is_start, is_target, all_below, jump_checks, jumps_at, jumps_checked};
 
 use crate::instructions::whole_at;
+use vx_cursor::{ClassFault, refusal};
 use vx_opcode::{Operand, keys, s4};
-use vx_reading::{ClassFault, refusal};
 
 /// Whether an instruction stands at a place, where `starts` are their places.
 pub fn is_start(starts: &[u32], at: u32) -> bool

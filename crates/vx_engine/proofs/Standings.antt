@@ -20,7 +20,7 @@ use Rattle.vx_link.specs.declared.program.Program.{Program}
 use Rattle.vx_rounds.specs.State.{AreRunning, IsNowhere, IsRunning, Runs, StateView, came_to, come_to, group_of, output_at, progress_at, result_at, standing_at, standing_in}
 use Rattle.vx_sched.specs.Groups.{AreApart, AreGroups, IsFresh}
 use Rattle.vx_space.specs.Sets.{Sets}
-use Rattle.vx_stands.specs.Stands.{callers_at, plain_frame, state_at}
+use Rattle.vx_group_states.specs.Stands.{callers_at, plain_frame, state_at}
 use Rattle.vx_value.specs.declared.key.KeyPart.{KeyPart}
 
 -- ---- the group that holds a configuration

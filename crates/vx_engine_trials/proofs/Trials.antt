@@ -6,7 +6,7 @@ use Rattle.vx_class.specs.declared.class_file.ClassFile.{ClassFile}
 use Rattle.vx_families.specs.Bounds.{IsBounded}
 use Rattle.vx_link.specs.Linked.{linked_program}
 use Rattle.vx_link.specs.declared.program.Program.{Program}
-use Rattle.vx_linked.specs.Law.{LinkedAreBounded}
+use Rattle.vx_program_bounds.specs.Law.{LinkedAreBounded}
 use Rattle.vx_model.specs.declared.model.OptionField.{OptionField}
 
 few : (n : ℕ) → n ≡ 1 → n ≤ 1024

@@ -13,9 +13,9 @@ use vx_asm::assemble;
 use vx_class::{ClassFile, read_class};
 use vx_core::core;
 use vx_link::{Program, link};
-use vx_linked::linked_are_bounded;
 use vx_list::Items;
 use vx_model::{Model, read_model};
+use vx_program_bounds::linked_are_bounded;
 use vx_value::Name;
 
 /// A linked program, and the model of its options.

@@ -13,11 +13,11 @@ use Rattle.vx_java.specs.Machine.{State}
 use Rattle.vx_java.specs.Machine.{Outcome as PlainOutcome}
 use Rattle.vx_java.specs.declared.operation.Operation.{Operation}
 use Rattle.vx_outcome.specs.declared.outcome.Outcome.{Outcome}
-use Rattle.vx_stands.specs.Sites.{Gives, GivesAt}
-use Rattle.vx_stands.specs.Stands.{StandsIn, state_at}
-use Rattle.vx_stands.specs.declared.site.Site.{Site}
-use Rattle.vx_stands.proofs.OutcomeStates.{CameTo-through}
-use Rattle.vx_stands.proofs.StateLaws.{Continues-same, StandsIn-extends, state_at-extends}
+use Rattle.vx_group_states.specs.Sites.{Gives, GivesAt}
+use Rattle.vx_group_states.specs.Stands.{StandsIn, state_at}
+use Rattle.vx_group_states.specs.declared.site.Site.{Site}
+use Rattle.vx_group_states.proofs.OutcomeStates.{CameTo-through}
+use Rattle.vx_group_states.proofs.StateLaws.{Continues-same, StandsIn-extends, state_at-extends}
 use Rattle.vx_families.specs.Attempts.{AttemptsBy, IsAttemptBy, IsGiven}
 use Rattle.vx_families.specs.Texts.{HasMoreTexts}
 use Rattle.vx_families.proofs.MoreTexts.{Grows-texts, HasMoreTexts-refl, IsHeap-texts, IsHeapFor-texts, StandsIn-texts, globals_at-texts, state_at-texts}

@@ -9,10 +9,10 @@ use Rattle.vx_java.specs.Machine.{Outcome as PlainOutcome, Ended, Raise}
 use Rattle.vx_link.specs.declared.program.Program.{Program}
 use Rattle.vx_outcome.specs.declared.outcome.Outcome.{Outcome}
 use Rattle.vx_outcome.specs.declared.outcome.Outcome.TheVariants as shared
-use Rattle.vx_stands.specs.Sites.{Gives, GivesAt}
-use Rattle.vx_stands.specs.Stands.{CameTo, state_at}
-use Rattle.vx_stands.proofs.OutcomeStates.{CameTo-one}
-use Rattle.vx_stands.proofs.PartLaws.{raised-gives}
+use Rattle.vx_group_states.specs.Sites.{Gives, GivesAt}
+use Rattle.vx_group_states.specs.Stands.{CameTo, state_at}
+use Rattle.vx_group_states.proofs.OutcomeStates.{CameTo-one}
+use Rattle.vx_group_states.proofs.PartLaws.{raised-gives}
 use Rattle.vx_value.specs.declared.end.End.TheVariants.{Unsupported}
 use Rattle.vx_value.specs.declared.ids.ClassId.{ClassId}
 

@@ -17,14 +17,14 @@ use Rattle.vx_heap.specs.Heap.{HeapView, are_held, is_held}
 use Rattle.vx_heap.proofs.HeapLaws.{IsHeap-extends}
 use Rattle.vx_java.specs.Initialisation.{max_locals}
 use Rattle.vx_java.specs.declared.operation.Operation.{Operation}
-use Rattle.vx_stands.specs.Answering.{IsReady, operands_at}
-use Rattle.vx_stands.specs.Answers.{answer_cmp}
-use Rattle.vx_stands.specs.Sites.{HasPast}
-use Rattle.vx_stands.specs.Stands.{frame_held}
-use Rattle.vx_stands.specs.declared.answer.Answer.{Answer}
-use Rattle.vx_stands.specs.declared.site.Site.{Site}
-use Rattle.vx_stands.proofs.AnswerLaws.{operands_at-push}
-use Rattle.vx_stands.proofs.StateLaws.{both_first, both_second, frame_held-extends}
+use Rattle.vx_group_states.specs.Answering.{IsReady, operands_at}
+use Rattle.vx_group_states.specs.Answers.{answer_cmp}
+use Rattle.vx_group_states.specs.Sites.{HasPast}
+use Rattle.vx_group_states.specs.Stands.{frame_held}
+use Rattle.vx_group_states.specs.declared.answer.Answer.{Answer}
+use Rattle.vx_group_states.specs.declared.site.Site.{Site}
+use Rattle.vx_group_states.proofs.AnswerLaws.{operands_at-push}
+use Rattle.vx_group_states.proofs.StateLaws.{both_first, both_second, frame_held-extends}
 use Rattle.vx_families.specs.Attempts.{IsGiven}
 use Rattle.vx_families.specs.Texts.{HasMoreTexts}
 use Rattle.vx_families.proofs.MoreTexts.{IsHeap-texts, IsHeapFor-texts, frame_held-texts}
@@ -93,7 +93,7 @@ module _ {S I : Type 0} (site : Site) (operation : Operation) (sets : Sets I) (h
   pub given_below_held : (below : Conditionals Slot S I) (cond : Conditional Slot S I) → group.top.stack ≡ record below { conds = below.conds ++ cond ∷ [] } → (c : List Bool) → sets.test (path_of group) c ≡ true → are_held sets heap c (operands_at sets below c) ≡ true
   given_below_held below cond e c t = both_second (is_held sets heap c (slot_at sets cond c)) (are_held sets heap c (operands_at sets below c)) (ap (are_held sets heap c) (sym (ap (λ row. operands_at sets row c) e ∙ operands_at-push sets below cond c)) ∙ given_operands_held c t)
 
--- ---- for the calls of vx_stands
+-- ---- for the calls of vx_group_states
 
 -- answers for operands that are taken off; the length of a group's operands is bounded by its type
 pub given_ready : {S I : Type 0} (site : Site) (operation : Operation) (sets : Sets I) (heap : HeapView S I) (group : GroupView S I) (taken : ℕ) (answers : Conditional Answer S I) → IsGiven site operation sets heap group → 0 < taken → taken ≤ length group.top.stack.conds → length group.top.stack.conds < 2 ^ 32 → IsCond answer_cmp sets answers → answers.scope ≡ path_of group → IsReady site sets group taken answers

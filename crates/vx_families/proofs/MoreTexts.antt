@@ -17,8 +17,8 @@ use Rattle.vx_heap.specs.Heap.{HeapView, IsHeap, IsHeapFor, IsTextPut, are_held,
 use Rattle.vx_heap.proofs.MoreTexts.{KeepsPlain-texts}
 use Rattle.vx_java.specs.Machine.{Text as TextValue}
 use Rattle.vx_link.specs.declared.program.Program.{Program}
-use Rattle.vx_stands.specs.Stands.{Grows, IsMessage, StandsIn, frame_held, message_of, plain_frame, state_at, state_of}
-use Rattle.vx_stands.proofs.StateLaws.{both, both_first, both_second}
+use Rattle.vx_group_states.specs.Stands.{Grows, IsMessage, StandsIn, frame_held, message_of, plain_frame, state_at, state_of}
+use Rattle.vx_group_states.proofs.StateLaws.{both, both_first, both_second}
 use Rattle.vx_families.specs.Texts.{HasMoreTexts}
 
 -- what `put_text` does

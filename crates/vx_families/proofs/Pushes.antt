@@ -12,13 +12,13 @@ use Rattle.vx_heap.specs.Heap.{HeapView, value_of}
 use Rattle.vx_java.specs.Machine.{Here, Value, go, illegal, illegal_in, push, stack_size, when, width}
 use Rattle.vx_java.specs.Machine.{Top as TopValue, Int as IntValue, Long as LongValue, Null as NullValue, Ref as RefValue, Text as TextValue}
 use Rattle.vx_outcome.specs.declared.outcome.Outcome.{Outcome}
-use Rattle.vx_stands.specs.Answering.{answer_at, answered, answered_by}
-use Rattle.vx_stands.specs.Sites.{Gives, GivesAt, here}
-use Rattle.vx_stands.specs.Stands.{state_at}
-use Rattle.vx_stands.specs.declared.answer.Answer.{Answer}
-use Rattle.vx_stands.specs.declared.answer.Answer.TheVariants.{Illegal, Jump, Push, Raise}
-use Rattle.vx_stands.specs.declared.site.Site.{Site}
-use Rattle.vx_stands.proofs.EndingLaws.{GivesAt-before}
+use Rattle.vx_group_states.specs.Answering.{answer_at, answered, answered_by}
+use Rattle.vx_group_states.specs.Sites.{Gives, GivesAt, here}
+use Rattle.vx_group_states.specs.Stands.{state_at}
+use Rattle.vx_group_states.specs.declared.answer.Answer.{Answer}
+use Rattle.vx_group_states.specs.declared.answer.Answer.TheVariants.{Illegal, Jump, Push, Raise}
+use Rattle.vx_group_states.specs.declared.site.Site.{Site}
+use Rattle.vx_group_states.proofs.EndingLaws.{GivesAt-before}
 use Rattle.vx_families.specs.Pushing.{is_push}
 
 -- a value takes a word at least

@@ -15,9 +15,9 @@ use Rattle.vx_link.specs.Parts.{method_at}
 use Rattle.vx_opcode.specs.Decode.{instruction_at}
 use Rattle.vx_opcode.specs.declared.instruction.Instruction.{Instruction}
 use Rattle.vx_outcome.specs.declared.outcome.Outcome.{Outcome}
-use Rattle.vx_stands.specs.Sites.{here}
-use Rattle.vx_stands.specs.Stands.{Attempts, StandsIn, frame_held, is_shaped, state_at}
-use Rattle.vx_stands.specs.declared.site.Site.{Site}
+use Rattle.vx_group_states.specs.Sites.{here}
+use Rattle.vx_group_states.specs.Stands.{Attempts, StandsIn, frame_held, is_shaped, state_at}
+use Rattle.vx_group_states.specs.declared.site.Site.{Site}
 use Rattle.vx_families.specs.Bounds.{IsBounded}
 use Rattle.vx_families.specs.Built.{is_built}
 

@@ -1,7 +1,7 @@
 -- Answers that push a value or end the run.
 use Rattle.std.specs.Prelude.{Bool, true, false}
-use Rattle.vx_stands.specs.declared.answer.Answer.{Answer}
-use Rattle.vx_stands.specs.declared.answer.Answer.TheVariants.{Illegal, Push}
+use Rattle.vx_group_states.specs.declared.answer.Answer.{Answer}
+use Rattle.vx_group_states.specs.declared.answer.Answer.TheVariants.{Illegal, Push}
 
 abbrev pub is_push : Answer → Bool
 is_push Illegal = true

@@ -5,7 +5,7 @@ ghost use Rattle.vx_space.specs.Sets.{Sets};
 ghost use Rattle.vx_java.specs.Ids.{HasClassNumbers};
 ghost use Rattle.vx_java.specs.Machine.{Raise as RaiseOf, unsupported_in};
 ghost use Rattle.vx_link.specs.ClassNames.{class_of_name};
-ghost use Rattle.vx_stands.specs.Sites.{Gives};
+ghost use Rattle.vx_group_states.specs.Sites.{Gives};
 
 use std::alloc::{AllocError, Global};
 use vx_group::Group;

@@ -5,17 +5,17 @@ ghost use Rattle.vx_space.specs.Sets.{Extends};
 ghost use Rattle.vx_cond.specs.Cond.{IsCond};
 ghost use Rattle.vx_group.specs.Group.{IsGroup, path_of};
 ghost use Rattle.vx_heap.specs.Heap.{HeapView};
-ghost use Rattle.vx_stands.specs.Answering.{AreHeld, answer_at, answered_by};
-ghost use Rattle.vx_stands.specs.Answers.{answer_cmp};
-ghost use Rattle.vx_stands.specs.Sites.{GivesAt, HasPast};
+ghost use Rattle.vx_group_states.specs.Answering.{AreHeld, answer_at, answered_by};
+ghost use Rattle.vx_group_states.specs.Answers.{answer_cmp};
+ghost use Rattle.vx_group_states.specs.Sites.{GivesAt, HasPast};
 ghost use Rattle.vx_families.specs.Pushing.{is_push};
 
 use std::alloc::Global;
 use vx_cond::Cond;
 use vx_group::Group;
+use vx_group_states::{Answer, Site, carry_out, illegal};
 use vx_outcome::Outcomes;
 use vx_space::{Space, SpaceFault};
-use vx_stands::{Answer, Site, carry_out, illegal};
 
 /// Does at each configuration of a group what the answer there says, with no operand taken off: each answer pushes a value
 /// or ends the run. An operand takes a word at least, so where there are as many operands as the method's greatest stack has

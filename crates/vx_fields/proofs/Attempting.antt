@@ -14,11 +14,11 @@ use Rattle.vx_java.specs.Machine.{Outcome as PlainOutcome}
 use Rattle.vx_link.specs.declared.program.Program.{Program}
 use Rattle.vx_outcome.specs.declared.outcome.Outcome.{Outcome}
 use Rattle.vx_space.specs.Sets.{Extends, Sets}
-use Rattle.vx_stands.specs.Sites.{GivesAt}
-use Rattle.vx_stands.specs.Stands.{Continues, Grows, StandsIn, callers_at, frame_held, plain_frame, state_at, state_of}
-use Rattle.vx_stands.specs.declared.site.Site.{Site}
-use Rattle.vx_stands.proofs.OutcomeStates.{CameTo-through}
-use Rattle.vx_stands.proofs.StateLaws.{Continues-same, StandsIn-extends, state_at-extends, all_same, map_same}
+use Rattle.vx_group_states.specs.Sites.{GivesAt}
+use Rattle.vx_group_states.specs.Stands.{Continues, Grows, StandsIn, callers_at, frame_held, plain_frame, state_at, state_of}
+use Rattle.vx_group_states.specs.declared.site.Site.{Site}
+use Rattle.vx_group_states.proofs.OutcomeStates.{CameTo-through}
+use Rattle.vx_group_states.proofs.StateLaws.{Continues-same, StandsIn-extends, state_at-extends, all_same, map_same}
 use Rattle.vx_value.specs.Texts.{text_at}
 use Rattle.vx_value.specs.declared.slot.Slot.{Slot}
 use Rattle.vx_value.specs.declared.slot.Slot.TheVariants.{Top, Int, Long, Null, Ref, Text}

@@ -12,7 +12,7 @@ use Rattle.vx_link.specs.Parts.{class_at}
 use Rattle.vx_link.specs.declared.program.Program.{Program}
 use Rattle.vx_space.specs.Sets.{Extends, IsLawful, IsSet, Sets}
 use Rattle.vx_space.proofs.Spaces.{Extends-refl, Extends-trans}
-use Rattle.vx_stands.proofs.StateLaws.{both_first}
+use Rattle.vx_group_states.proofs.StateLaws.{both_first}
 use Rattle.vx_value.specs.declared.ids.ClassId.{ClassId}
 use Rattle.vx_value.specs.declared.slot.InitState.{InitState}
 use Rattle.vx_value.specs.declared.slot.InitState.TheVariants.{Not, Running, Done, Failed}

@@ -16,10 +16,10 @@ use Rattle.vx_link.specs.Parts.{class_at, is_static_field, method_at}
 use Rattle.vx_outcome.specs.declared.outcome.Outcome.{Outcome as SharedOutcome}
 use Rattle.vx_space.specs.Sets.{Sets}
 use Rattle.vx_space.proofs.Spaces.{Extends-refl}
-use Rattle.vx_stands.specs.Sites.{Gives, here}
-use Rattle.vx_stands.specs.Stands.{state_at}
-use Rattle.vx_stands.specs.declared.site.Site.{Site}
-use Rattle.vx_stands.proofs.OutcomeStates.{CameTo-same}
+use Rattle.vx_group_states.specs.Sites.{Gives, here}
+use Rattle.vx_group_states.specs.Stands.{state_at}
+use Rattle.vx_group_states.specs.declared.site.Site.{Site}
+use Rattle.vx_group_states.proofs.OutcomeStates.{CameTo-same}
 use Rattle.vx_value.specs.declared.ids.ClassId.{ClassId}
 use Rattle.vx_value.specs.declared.ids.FieldId.{FieldId}
 use Rattle.vx_families.specs.Attempts.{AttemptsBy, IsAttemptBy, IsGiven}

@@ -22,11 +22,11 @@ use Rattle.vx_list.specs.Places.{item_or}
 use Rattle.vx_outcome.specs.declared.outcome.Outcome.{Outcome}
 use Rattle.vx_space.specs.Sets.{Extends, IsSet, Sets}
 use Rattle.vx_space.proofs.Spaces.{Extends-refl, Extends-trans}
-use Rattle.vx_stands.specs.Sites.{Gives, GivesAt, here}
-use Rattle.vx_stands.specs.Stands.{StandsIn, state_at}
-use Rattle.vx_stands.specs.Widths.{slots_size}
-use Rattle.vx_stands.specs.declared.site.Site.{Site}
-use Rattle.vx_stands.proofs.Fitting.{slots_size-least, stack_size_of}
+use Rattle.vx_group_states.specs.Sites.{Gives, GivesAt, here}
+use Rattle.vx_group_states.specs.Stands.{StandsIn, state_at}
+use Rattle.vx_group_states.specs.Widths.{slots_size}
+use Rattle.vx_group_states.specs.declared.site.Site.{Site}
+use Rattle.vx_group_states.proofs.Fitting.{slots_size-least, stack_size_of}
 use Rattle.vx_value.specs.declared.ids.ClassId.{ClassId}
 use Rattle.vx_families.specs.Attempts.{AttemptsBy}
 use Rattle.vx_fields.specs.Changing.{with_globals}

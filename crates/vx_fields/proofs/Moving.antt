@@ -19,15 +19,15 @@ use Rattle.vx_list.specs.Places.{item_or}
 use Rattle.vx_outcome.specs.declared.outcome.Outcome.{Outcome}
 use Rattle.vx_outcome.specs.declared.outcome.Outcome.TheVariants as shared
 use Rattle.vx_space.specs.Sets.{Extends, Sets}
-use Rattle.vx_stands.specs.Answering.{operands_at}
-use Rattle.vx_stands.specs.Sites.{Gives, GivesAt, here}
-use Rattle.vx_stands.specs.Stands.{CameTo, state_at}
-use Rattle.vx_stands.specs.declared.site.Site.{Site}
-use Rattle.vx_stands.proofs.AnswerLaws.{operands_at-push}
-use Rattle.vx_stands.proofs.OutcomeStates.{CameTo-append, CameTo-extends, CameTo-one, CameTo-same}
-use Rattle.vx_stands.proofs.PartLaws.{jumped-gives}
-use Rattle.vx_stands.proofs.SettleLaws.{stack_scope}
-use Rattle.vx_stands.proofs.StateLaws.{Continues-moved, both, operands_held, state_at-moved, both_first, both_second}
+use Rattle.vx_group_states.specs.Answering.{operands_at}
+use Rattle.vx_group_states.specs.Sites.{Gives, GivesAt, here}
+use Rattle.vx_group_states.specs.Stands.{CameTo, state_at}
+use Rattle.vx_group_states.specs.declared.site.Site.{Site}
+use Rattle.vx_group_states.proofs.AnswerLaws.{operands_at-push}
+use Rattle.vx_group_states.proofs.OutcomeStates.{CameTo-append, CameTo-extends, CameTo-one, CameTo-same}
+use Rattle.vx_group_states.proofs.PartLaws.{jumped-gives}
+use Rattle.vx_group_states.proofs.SettleLaws.{stack_scope}
+use Rattle.vx_group_states.proofs.StateLaws.{Continues-moved, both, operands_held, state_at-moved, both_first, both_second}
 use Rattle.vx_value.specs.Slot.{slot_cmp}
 use Rattle.vx_value.specs.declared.slot.Slot.{Slot}
 use Rattle.vx_fields.specs.Initialising.{GivesWithin}

@@ -13,7 +13,7 @@ use Rattle.vx_list.specs.Places.{item_or}
 use Rattle.vx_pool.specs.declared.pool.Entry.{Entry}
 use Rattle.vx_pool.specs.declared.pool.Entry.TheVariants as entry
 use Rattle.vx_pool.specs.declared.pool.Pool.{Pool}
-use Rattle.vx_stands.proofs.StateLaws.{both_first, both_second}
+use Rattle.vx_group_states.proofs.StateLaws.{both_first, both_second}
 
 abbrev IsShort : List ℕ → Type 0
 IsShort bytes = length bytes < 65536

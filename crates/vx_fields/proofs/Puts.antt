@@ -17,10 +17,10 @@ use Rattle.vx_link.specs.declared.program.Program.{Program}
 use Rattle.vx_outcome.specs.declared.outcome.Outcome.{Outcome}
 use Rattle.vx_space.specs.Sets.{Extends, IsSet, Sets}
 use Rattle.vx_space.proofs.Spaces.{Extends-refl, Extends-trans}
-use Rattle.vx_stands.specs.Answering.{operands_at}
-use Rattle.vx_stands.specs.Sites.{Gives, here}
-use Rattle.vx_stands.specs.Stands.{state_at}
-use Rattle.vx_stands.specs.declared.site.Site.{Site}
+use Rattle.vx_group_states.specs.Answering.{operands_at}
+use Rattle.vx_group_states.specs.Sites.{Gives, here}
+use Rattle.vx_group_states.specs.Stands.{state_at}
+use Rattle.vx_group_states.specs.declared.site.Site.{Site}
 use Rattle.vx_value.specs.declared.ids.ClassId.{ClassId}
 use Rattle.vx_value.specs.declared.slot.Slot.{Slot}
 use Rattle.vx_families.specs.Attempts.{AttemptsBy}

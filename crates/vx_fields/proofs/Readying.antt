@@ -13,7 +13,7 @@ use Rattle.vx_fields.specs.declared.initialising.Mark.{Mark}
 use Rattle.vx_fields.specs.declared.initialising.Readiness.{Readiness}
 use Rattle.vx_fields.proofs.Changes.{IsChanged-before, IsChanged-none, IsChanged-trans, with_done-append}
 use Rattle.vx_fields.proofs.Climbing.{inits_later, marked_at-append, marked_at-extends}
-use Rattle.vx_stands.proofs.StateLaws.{both_first}
+use Rattle.vx_group_states.proofs.StateLaws.{both_first}
 
 -- what the loop keeps: the marks so far are put
 pub record IsMarking {S I : Type 0} (start sets : Sets I) (before heap : HeapView S I) (marks : List (Mark S I)) (i : ℕ) : Type 0 where

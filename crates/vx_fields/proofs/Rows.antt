@@ -8,8 +8,8 @@ use Rattle.vx_java.proofs.Chains.{begins_stops, begins_with, quiet_above, quiet_
 use Rattle.vx_link.specs.Hierarchy.{chain_within, superclass_of}
 use Rattle.vx_link.specs.Parts.{class_count}
 use Rattle.vx_link.specs.declared.program.Program.{Program}
-use Rattle.vx_stands.specs.Sites.{here}
-use Rattle.vx_stands.specs.declared.site.Site.{Site}
+use Rattle.vx_group_states.specs.Sites.{here}
+use Rattle.vx_group_states.specs.declared.site.Site.{Site}
 use Rattle.vx_value.specs.declared.slot.InitState.{InitState}
 use Rattle.vx_value.specs.declared.slot.InitState.TheVariants.{Not, Running, Done, Failed}
 use Rattle.vx_fields.specs.Changing.{with_globals}

@@ -8,10 +8,10 @@ use Rattle.vx_heap.proofs.HeapLaws.{is_held-extends}
 use Rattle.vx_link.specs.Parts.{is_static_field}
 use Rattle.vx_space.specs.Sets.{Extends, IsSet, Sets}
 use Rattle.vx_space.proofs.Spaces.{Extends-refl, Extends-trans}
-use Rattle.vx_stands.specs.Answering.{operands_at}
-use Rattle.vx_stands.specs.declared.site.Site.{Site}
-use Rattle.vx_stands.proofs.Gathering.{part_path}
-use Rattle.vx_stands.proofs.StateLaws.{all_same, both_first}
+use Rattle.vx_group_states.specs.Answering.{operands_at}
+use Rattle.vx_group_states.specs.declared.site.Site.{Site}
+use Rattle.vx_group_states.proofs.Gathering.{part_path}
+use Rattle.vx_group_states.proofs.StateLaws.{all_same, both_first}
 use Rattle.vx_fields.specs.Changing.{IsChanged}
 use Rattle.vx_fields.specs.Initialising.{IsReadied, goes_on}
 use Rattle.vx_fields.specs.Statics.{IsRunning}

@@ -11,11 +11,11 @@ use Rattle.vx_outcome.specs.declared.outcome.Outcome.{Outcome}
 use Rattle.vx_outcome.specs.declared.outcome.Outcome.TheVariants as shared
 use Rattle.vx_space.specs.Sets.{Extends, IsLawful, Sets}
 use Rattle.vx_space.proofs.Spaces.{Extends-refl}
-use Rattle.vx_stands.specs.Sites.{Gives, GivesAt}
-use Rattle.vx_stands.specs.Stands.{CameTo, state_at}
-use Rattle.vx_stands.proofs.Gathering.{CameTo-part}
-use Rattle.vx_stands.proofs.OutcomeStates.{CameTo-append, CameTo-extends, CameTo-none, CameTo-one, CameTo-same}
-use Rattle.vx_stands.proofs.StateLaws.{Continues-same, StandsIn-part, both_first, both_second}
+use Rattle.vx_group_states.specs.Sites.{Gives, GivesAt}
+use Rattle.vx_group_states.specs.Stands.{CameTo, state_at}
+use Rattle.vx_group_states.proofs.Gathering.{CameTo-part}
+use Rattle.vx_group_states.proofs.OutcomeStates.{CameTo-append, CameTo-extends, CameTo-none, CameTo-one, CameTo-same}
+use Rattle.vx_group_states.proofs.StateLaws.{Continues-same, StandsIn-part, both_first, both_second}
 use Rattle.vx_value.specs.declared.ids.ClassId.{ClassId}
 use Rattle.vx_fields.specs.Initialising.{GivesWithin}
 

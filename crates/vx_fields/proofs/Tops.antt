@@ -16,10 +16,10 @@ use Rattle.vx_group.proofs.GroupLaws.{IsGroup-path_known, IsGroup-top}
 use Rattle.vx_heap.proofs.Written.{restricted_scope}
 use Rattle.vx_java.specs.declared.operation.Sort.{Sort}
 use Rattle.vx_space.specs.Sets.{Extends, IsLawful, IsSet, Sets}
-use Rattle.vx_stands.specs.Answering.{operands_at}
-use Rattle.vx_stands.specs.Widths.{slots_size}
-use Rattle.vx_stands.proofs.AnswerLaws.{operands_at-push}
-use Rattle.vx_stands.proofs.SettleLaws.{lifting_at, stack_scope}
+use Rattle.vx_group_states.specs.Answering.{operands_at}
+use Rattle.vx_group_states.specs.Widths.{slots_size}
+use Rattle.vx_group_states.proofs.AnswerLaws.{operands_at-push}
+use Rattle.vx_group_states.proofs.SettleLaws.{lifting_at, stack_scope}
 use Rattle.vx_value.specs.Slot.{slot_cmp}
 use Rattle.vx_value.specs.declared.operation.Narrow.{Narrow}
 use Rattle.vx_value.specs.declared.slot.Slot.{Slot}

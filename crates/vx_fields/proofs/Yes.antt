@@ -8,8 +8,8 @@ use Rattle.vx_cond.specs.Leaves.{AreLeaves, IsBelow, IsLifted, value_at}
 use Rattle.vx_cond.specs.declared.cond.Leaf.{Leaf}
 use Rattle.vx_cond.proofs.LeafLoops.{next_leaf}
 use Rattle.vx_space.specs.Sets.{IsLawful, IsSet, Sets}
-use Rattle.vx_stands.proofs.Gathering.{leaf_value}
-use Rattle.vx_stands.proofs.SettleLaws.{lifting_at}
+use Rattle.vx_group_states.proofs.Gathering.{leaf_value}
+use Rattle.vx_group_states.proofs.SettleLaws.{lifting_at}
 use Rattle.vx_fields.specs.Initialising.{is_yes}
 
 -- what the loop keeps: no leaf so far says yes

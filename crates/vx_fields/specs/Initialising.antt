@@ -9,9 +9,9 @@ use Rattle.vx_link.specs.Parts.{class_at}
 use Rattle.vx_link.specs.declared.program.Program.{Program}
 use Rattle.vx_outcome.specs.declared.outcome.Outcome.{Outcome as SharedOutcome}
 use Rattle.vx_space.specs.Sets.{IsSet, Sets}
-use Rattle.vx_stands.specs.Sites.{here}
-use Rattle.vx_stands.specs.Stands.{CameTo, StandsIn, state_at}
-use Rattle.vx_stands.specs.declared.site.Site.{Site}
+use Rattle.vx_group_states.specs.Sites.{here}
+use Rattle.vx_group_states.specs.Stands.{CameTo, StandsIn, state_at}
+use Rattle.vx_group_states.specs.declared.site.Site.{Site}
 use Rattle.vx_value.specs.declared.slot.InitState.{InitState}
 use Rattle.vx_value.specs.declared.slot.InitState.TheVariants.{Done}
 use Rattle.vx_fields.specs.Changing.{IsChanged}

@@ -7,8 +7,8 @@ ghost use Rattle.vx_group.specs.Group.{IsGroup, path_of};
 ghost use Rattle.vx_java.specs.Checks.{sort_of, width_of_type};
 ghost use Rattle.vx_java.specs.FirstObjects.{narrow_of_type};
 ghost use Rattle.vx_space.specs.Sets.{Extends, IsKnown, IsSet};
-ghost use Rattle.vx_stands.specs.Answering.{operands_at};
-ghost use Rattle.vx_stands.specs.Widths.{slots_size};
+ghost use Rattle.vx_group_states.specs.Answering.{operands_at};
+ghost use Rattle.vx_group_states.specs.Widths.{slots_size};
 ghost use Rattle.vx_value.specs.Slot.{slot_cmp};
 ghost use Rattle.vx_fields.specs.Statics.{narrowed_slot, slot_fits, slot_is_of, top_fits, top_of};
 
@@ -18,10 +18,10 @@ use std::alloc::Global;
 use vx_cond::Cond;
 use vx_desc::{Base, JavaType};
 use vx_group::Group;
+use vx_group_states::stack_size;
 use vx_java::Sort;
 use vx_numbers::narrow;
 use vx_space::{Space, SpaceFault};
-use vx_stands::stack_size;
 use vx_value::{Narrow, Slot};
 
 /// How many words a value of a type takes on the operand stack; a float or a double is never one.

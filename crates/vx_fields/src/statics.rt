@@ -13,8 +13,8 @@ ghost use Rattle.vx_link.specs.Names.{member};
 ghost use Rattle.vx_link.specs.Parts.{class_at, field_at, is_static_field};
 ghost use Rattle.vx_list.specs.Places.{item_or};
 ghost use Rattle.vx_space.specs.Sets.{Extends, IsKnown};
-ghost use Rattle.vx_stands.specs.Answering.{operands_at};
-ghost use Rattle.vx_stands.specs.Sites.{Gives, GivesAt, HasPast, here};
+ghost use Rattle.vx_group_states.specs.Answering.{operands_at};
+ghost use Rattle.vx_group_states.specs.Sites.{Gives, GivesAt, HasPast, here};
 ghost use Rattle.vx_families.specs.Attempts.{AttemptsBy, IsAttemptBy, IsGiven};
 ghost use Rattle.vx_families.specs.Bounds.{IsBounded};
 ghost use Rattle.vx_fields.specs.Changing.{IsChanged};
@@ -29,13 +29,13 @@ use crate::unresolved::unresolved;
 use std::alloc::Global;
 use vx_desc::{JavaType, is_clinit};
 use vx_group::Group;
+use vx_group_states::{Site, illegal};
 use vx_heap::Heap;
 use vx_java::parts::{class_of_method, name_of_method};
 use vx_java::{MemberReference, Operation, member};
 use vx_link::Program;
 use vx_outcome::Outcomes;
 use vx_space::{Space, SpaceFault};
-use vx_stands::{Site, illegal};
 use vx_value::{ClassId, FieldId, MethodId};
 
 /// The class that declares a field.

@@ -7,16 +7,16 @@ ghost use Rattle.vx_heap.specs.Heap.{HeapView};
 ghost use Rattle.vx_java.specs.Ids.{HasClassNumbers};
 ghost use Rattle.vx_java.specs.Machine.{Begin as BeginOf, illegal as illegal_of, raise as raise_of, when};
 ghost use Rattle.vx_space.specs.Sets.{Extends, IsKnown};
-ghost use Rattle.vx_stands.specs.Sites.{Gives, GivesAt, here};
+ghost use Rattle.vx_group_states.specs.Sites.{Gives, GivesAt, here};
 ghost use Rattle.vx_fields.specs.Initialising.{GivesWithin, stopped_by};
 
 use crate::initialising::Readiness;
 use std::alloc::{AllocError, Global};
 use vx_families::raise;
 use vx_group::Group;
+use vx_group_states::{Site, illegal};
 use vx_outcome::{Outcome, Outcomes};
 use vx_space::{Space, SpaceFault};
-use vx_stands::{Site, illegal};
 use vx_value::ClassId;
 
 /// Runs whose class has failed. No runs come to no outcome.

@@ -6,17 +6,17 @@ ghost use Rattle.vx_java.specs.Ids.{HasClassNumbers};
 ghost use Rattle.vx_java.specs.Machine.{Outcome as PlainOutcome};
 ghost use Rattle.vx_java.specs.Named.{in_bytes};
 ghost use Rattle.vx_space.specs.Sets.{Sets};
-ghost use Rattle.vx_stands.specs.Sites.{Gives, here};
+ghost use Rattle.vx_group_states.specs.Sites.{Gives, here};
 ghost use Rattle.vx_fields.specs.References.{by_reference, is_ending, is_found};
 
 use crate::references::FieldReference;
 use std::alloc::{AllocError, Global};
 use vx_families::{raise, unsupported};
 use vx_group::Group;
+use vx_group_states::{Site, illegal};
 use vx_java::MemberReference;
 use vx_outcome::Outcomes;
 use vx_space::{Space, SpaceFault};
-use vx_stands::{Site, illegal};
 use vx_value::Name;
 
 /// The words for what ends a run as unsupported: a float or a double, a class, a field.

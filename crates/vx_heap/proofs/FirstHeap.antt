@@ -16,12 +16,12 @@ use Rattle.vx_space.specs.Sets.{Sets}
 use Rattle.vx_cond.specs.Cond.{Conditional, cond_at}
 use Rattle.vx_cond.specs.Row.{AreConds, IsRow, conds_at}
 use Rattle.vx_cond.specs.Slots.{or_top, slot_at, slots_at}
-use Rattle.vx_first.specs.First.{IsFirst, IsFirstObject, IsFirstStatic, IsOptionOf, cells_in, empty_text, is_among, is_cell_among, is_static_among, static_in, value_in}
-use Rattle.vx_first.specs.declared.first.First.{First}
-use Rattle.vx_first.specs.declared.objects.FirstObject.{FirstObject}
-use Rattle.vx_first.specs.declared.statics.FirstStatic.{FirstStatic}
-use Rattle.vx_first.specs.declared.statics.FirstStatic.TheVariants.{OfOption, Same}
-use Rattle.vx_first.proofs.ObjectLaws.{among_more, value_more}
+use Rattle.vx_initial_heap.specs.First.{IsFirst, IsFirstObject, IsFirstStatic, IsOptionOf, cells_in, empty_text, is_among, is_cell_among, is_static_among, static_in, value_in}
+use Rattle.vx_initial_heap.specs.declared.first.First.{First}
+use Rattle.vx_initial_heap.specs.declared.objects.FirstObject.{FirstObject}
+use Rattle.vx_initial_heap.specs.declared.statics.FirstStatic.{FirstStatic}
+use Rattle.vx_initial_heap.specs.declared.statics.FirstStatic.TheVariants.{OfOption, Same}
+use Rattle.vx_initial_heap.proofs.ObjectLaws.{among_more, value_more}
 use Rattle.vx_java.specs.FirstObjects.{First as FirstFor, first_objects, first_words, for_boolean, for_main, for_stream, integers_from, literals, object_of_first}
 use Rattle.vx_java.specs.Objects.{int_of_bool}
 use Rattle.vx_java.specs.Step.{first_inits, first_static}

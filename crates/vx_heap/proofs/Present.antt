@@ -8,7 +8,7 @@ use Rattle.vx_value.specs.Slot.{slot_cmp}
 use Rattle.vx_space.specs.Sets.{Sets}
 use Rattle.vx_cond.specs.Cond.{Conditional}
 use Rattle.vx_cond.specs.Slots.{or_top, slot_at}
-use Rattle.vx_first.specs.First.{is_among, value_in}
+use Rattle.vx_initial_heap.specs.First.{is_among, value_in}
 use Rattle.vx_java.specs.Machine.{Ref as RefValue}
 use Rattle.vx_heap.specs.declared.object.HeapObject.{HeapObject}
 use Rattle.vx_heap.specs.Heap.{AreEverywhere, HeapView, count_if, is_held, is_object_held, name_at, value_of}

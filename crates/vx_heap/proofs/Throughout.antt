@@ -13,8 +13,8 @@ use Rattle.vx_cond.specs.Cond.{Conditional, IsCondOf, cond_at}
 use Rattle.vx_cond.specs.Leaves.{first_of, value_within}
 use Rattle.vx_cond.proofs.CondLaws.{IsCond-extends, IsCond-of, cond_at-extends, cond_at-of}
 use Rattle.vx_cond.proofs.RowLaws.{scope_is}
-use Rattle.vx_first.proofs.Zips.{zip_each, zip_read}
-use Rattle.vx_first.specs.declared.statics.FirstStatic.{FirstStatic}
+use Rattle.vx_initial_heap.proofs.Zips.{zip_each, zip_read}
+use Rattle.vx_initial_heap.specs.declared.statics.FirstStatic.{FirstStatic}
 use Rattle.vx_heap.specs.Lifted.{AreStatics, IsSame, IsStatic, IsThroughout, option_slot, static_slot}
 
 -- ---- one value

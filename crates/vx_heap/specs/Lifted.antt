@@ -9,9 +9,9 @@ use Rattle.vx_space.specs.Config.{value_of}
 use Rattle.vx_space.specs.Sets.{Sets}
 use Rattle.vx_cond.specs.Cond.{Conditional, IsCond, cond_at}
 use Rattle.vx_cond.specs.Row.{Conditionals}
-use Rattle.vx_first.specs.declared.objects.FirstObject.{FirstObject}
-use Rattle.vx_first.specs.declared.statics.FirstStatic.{FirstStatic}
-use Rattle.vx_first.specs.declared.statics.FirstStatic.TheVariants.{OfOption, Same}
+use Rattle.vx_initial_heap.specs.declared.objects.FirstObject.{FirstObject}
+use Rattle.vx_initial_heap.specs.declared.statics.FirstStatic.{FirstStatic}
+use Rattle.vx_initial_heap.specs.declared.statics.FirstStatic.TheVariants.{OfOption, Same}
 use Rattle.vx_heap.specs.declared.object.HeapObject.{HeapObject}
 use Rattle.vx_heap.specs.Heap.{has_option}
 

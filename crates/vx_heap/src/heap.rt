@@ -18,7 +18,7 @@ use crate::object::HeapObject;
 use std::alloc::{AllocError, Global};
 use std::marker::Model;
 use vx_cond::{Cond, Projects};
-use vx_first::First;
+use vx_initial_heap::First;
 use vx_link::Program;
 use vx_list::Items;
 use vx_space::{Space, SpaceFault};

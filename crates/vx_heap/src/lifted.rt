@@ -9,7 +9,7 @@ ghost use Rattle.vx_heap.specs.Lifted.{option_of, option_slot, options_known, Ar
 use crate::object::HeapObject;
 use std::alloc::{AllocError, Global};
 use vx_cond::{Cond, Row};
-use vx_first::{FirstObject, FirstStatic};
+use vx_initial_heap::{FirstObject, FirstStatic};
 use vx_space::{Space, SpaceFault};
 use vx_value::{Exact, Slot};
 

@@ -23,7 +23,7 @@ use Rattle.vx_invoke.specs.Named.{println}
 use Rattle.vx_invoke.specs.declared.call.Call.{Call}
 use Rattle.vx_invoke.specs.declared.call.Call.TheVariants as call
 use Rattle.vx_invoke.specs.declared.call.Receiver.TheVariants as receiver
-use Rattle.vx_stands.proofs.Operands.{with_operands}
+use Rattle.vx_group_states.proofs.Operands.{with_operands}
 
 -- ---- the operands
 

@@ -29,15 +29,15 @@ use Rattle.vx_outcome.specs.declared.outcome.Outcome.{Outcome}
 use Rattle.vx_outcome.specs.declared.outcome.Outcome.TheVariants as shared
 use Rattle.vx_space.specs.Sets.{Sets, Extends}
 use Rattle.vx_space.proofs.Spaces.{Extends-refl}
-use Rattle.vx_stands.specs.Answering.{operands_at}
-use Rattle.vx_stands.specs.Sites.{Gives, GivesAt, here, IsSomewhere}
-use Rattle.vx_stands.specs.Stands.{CameTo, frame_held, state_at}
-use Rattle.vx_stands.specs.declared.site.Site.{Site}
-use Rattle.vx_stands.proofs.EndingLaws.{GivesAt-before}
-use Rattle.vx_stands.proofs.Gathering.{AreLeaves-of, Cover-answers, leaf_value, part_path}
-use Rattle.vx_stands.proofs.OutcomeStates.{CameTo-one}
-use Rattle.vx_stands.proofs.SettleLaws.{stack_scope}
-use Rattle.vx_stands.proofs.StateLaws.{Continues-same, StandsIn-extends, StandsIn-part, both_second, frame_held-extends, state_at-extends, state_at-part}
+use Rattle.vx_group_states.specs.Answering.{operands_at}
+use Rattle.vx_group_states.specs.Sites.{Gives, GivesAt, here, IsSomewhere}
+use Rattle.vx_group_states.specs.Stands.{CameTo, frame_held, state_at}
+use Rattle.vx_group_states.specs.declared.site.Site.{Site}
+use Rattle.vx_group_states.proofs.EndingLaws.{GivesAt-before}
+use Rattle.vx_group_states.proofs.Gathering.{AreLeaves-of, Cover-answers, leaf_value, part_path}
+use Rattle.vx_group_states.proofs.OutcomeStates.{CameTo-one}
+use Rattle.vx_group_states.proofs.SettleLaws.{stack_scope}
+use Rattle.vx_group_states.proofs.StateLaws.{Continues-same, StandsIn-extends, StandsIn-part, both_second, frame_held-extends, state_at-extends, state_at-part}
 use Rattle.vx_value.specs.declared.ids.MethodId.{MethodId}
 use Rattle.vx_value.specs.declared.slot.Slot.{Slot}
 use Rattle.vx_value.specs.declared.slot.Slot.TheVariants.{Top, Ref}
@@ -51,9 +51,9 @@ use Rattle.vx_invoke.specs.declared.call.Call.TheVariants as call
 use Rattle.vx_invoke.specs.declared.call.Receiver.{Receiver}
 use Rattle.vx_invoke.specs.declared.call.Receiver.TheVariants as receiver
 use Rattle.vx_invoke.proofs.Calls.{argument_of, entry_of, few_call, illegal_call, null_call, object_call, receiver_slot}
-use Rattle.vx_stands.proofs.KindLaws.{some_same}
-use Rattle.vx_stands.proofs.Operands.{length-operands, operand_there, two_operands, held_there, item_held}
-use Rattle.vx_stands.proofs.GroupParts.{part_shape, part_frame, part_group}
+use Rattle.vx_group_states.proofs.KindLaws.{some_same}
+use Rattle.vx_group_states.proofs.Operands.{length-operands, operand_there, two_operands, held_there, item_held}
+use Rattle.vx_group_states.proofs.GroupParts.{part_shape, part_frame, part_group}
 
 -- ---- one outcome
 

@@ -25,9 +25,9 @@ use Rattle.vx_opcode.specs.declared.instruction.Instruction.{Instruction}
 use Rattle.vx_outcome.specs.declared.outcome.Outcome.{Outcome as SharedOutcome}
 use Rattle.vx_space.specs.Sets.{Sets, Extends}
 use Rattle.vx_space.proofs.Spaces.{Extends-refl}
-use Rattle.vx_stands.specs.Sites.{GivesAt, here}
-use Rattle.vx_stands.specs.Stands.{state_at}
-use Rattle.vx_stands.specs.declared.site.Site.{Site}
+use Rattle.vx_group_states.specs.Sites.{GivesAt, here}
+use Rattle.vx_group_states.specs.Stands.{state_at}
+use Rattle.vx_group_states.specs.declared.site.Site.{Site}
 use Rattle.vx_invoke.specs.Called.{IsEntry, IsRunning, SomeEnters}
 use Rattle.vx_invoke.specs.Named.{is_built_call, pool_of, println, referenced}
 

@@ -19,9 +19,9 @@ use Rattle.vx_link.specs.Parts.{method_at}
 use Rattle.vx_link.specs.declared.program.Program.{Program}
 use Rattle.vx_list.specs.Places.{item_or}
 use Rattle.vx_space.specs.Sets.{Sets}
-use Rattle.vx_stands.specs.Sites.{Cover, here}
-use Rattle.vx_stands.specs.Stands.{StandsIn, frame_held, state_at}
-use Rattle.vx_stands.specs.declared.site.Site.{Site}
+use Rattle.vx_group_states.specs.Sites.{Cover, here}
+use Rattle.vx_group_states.specs.Stands.{StandsIn, frame_held, state_at}
+use Rattle.vx_group_states.specs.declared.site.Site.{Site}
 use Rattle.vx_value.specs.declared.slot.Slot.{Slot}
 use Rattle.vx_value.specs.declared.slot.Slot.TheVariants as slot
 use Rattle.vx_invoke.specs.declared.call.Call.{Call}

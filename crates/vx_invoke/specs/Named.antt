@@ -13,7 +13,7 @@ use Rattle.vx_link.specs.Names.{Member}
 use Rattle.vx_link.specs.Parts.{class_at, is_interface, method_at}
 use Rattle.vx_link.specs.declared.program.Program.{Program}
 use Rattle.vx_pool.specs.declared.pool.Pool.{Pool}
-use Rattle.vx_stands.specs.declared.site.Site.{Site}
+use Rattle.vx_group_states.specs.declared.site.Site.{Site}
 use Rattle.vx_invoke.specs.declared.reference.Reference.{Reference}
 use Rattle.vx_invoke.specs.declared.reference.Reference.TheVariants.{Found, NoClass, NoMethod, WrongKind}
 

@@ -7,7 +7,7 @@ ghost use Rattle.vx_group.specs.Group.{path_of};
 ghost use Rattle.vx_java.specs.Calls.{call_instance};
 ghost use Rattle.vx_java.specs.Ids.{HasClassNumbers};
 ghost use Rattle.vx_java.specs.declared.operation.Mode.TheVariants.{Virtual};
-ghost use Rattle.vx_stands.specs.Sites.{Gives, GivesAt, here, IsSomewhere};
+ghost use Rattle.vx_group_states.specs.Sites.{Gives, GivesAt, here, IsSomewhere};
 ghost use Rattle.vx_families.specs.Attempts.{IsAttemptBy, IsGiven, MeetsUnbuilt};
 ghost use Rattle.vx_invoke.specs.Called.{AreReceivers, HasReceiver, IsCalling, IsRunning, SomeEnters, called, is_enter};
 ghost use Rattle.vx_invoke.specs.Named.{is_built_call, pool_of, println, referenced};
@@ -18,11 +18,11 @@ use std::alloc::Global;
 use vx_cond::Leaf;
 use vx_families::{AttemptFault, raise, unsupported};
 use vx_group::Group;
+use vx_group_states::{Site, illegal};
 use vx_heap::Heap;
 use vx_java::Operation;
 use vx_outcome::{Outcome, Outcomes};
 use vx_space::{Space, SpaceFault};
-use vx_stands::{Site, illegal};
 use vx_value::{ClassId, MethodId};
 
 /// The number of the word for a native method that the machine doesn't have.

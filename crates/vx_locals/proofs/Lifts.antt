@@ -10,7 +10,7 @@ use Rattle.vx_cond.specs.Leaves.{IsLifted, value_within}
 use Rattle.vx_cond.specs.Slots.{or_top, slot_at}
 use Rattle.vx_cond.proofs.CondLaws.{cond_at-of}
 use Rattle.vx_cond.proofs.SideLaws.{cond_at-covers}
-use Rattle.vx_stands.proofs.SettleLaws.{lifting_at}
+use Rattle.vx_group_states.proofs.SettleLaws.{lifting_at}
 
 lifted : {U : Type 0} (R : Slot → U → Type 0) (f : Slot → U) (a : Option Slot) (b : Option U) → ((a : Slot) (b : U) → R a b → b ≡ f a) → is_some a ≡ true → IsLifted R a b → b ≡ Some (f (or_top a))
 lifted R f None b law t l = cc

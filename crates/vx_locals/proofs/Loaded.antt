@@ -23,10 +23,10 @@ use Rattle.vx_link.specs.ClassNames.{class_named}
 use Rattle.vx_link.specs.Names.{utf8}
 use Rattle.vx_link.specs.Parts.{class_at, method_at}
 use Rattle.vx_outcome.specs.declared.outcome.Outcome.{Outcome}
-use Rattle.vx_stands.specs.Sites.{GivesAt, here}
-use Rattle.vx_stands.specs.Stands.{state_at}
-use Rattle.vx_stands.specs.declared.site.Site.{Site}
-use Rattle.vx_stands.proofs.EndingLaws.{GivesAt-before}
+use Rattle.vx_group_states.specs.Sites.{GivesAt, here}
+use Rattle.vx_group_states.specs.Stands.{state_at}
+use Rattle.vx_group_states.specs.declared.site.Site.{Site}
+use Rattle.vx_group_states.proofs.EndingLaws.{GivesAt-before}
 use Rattle.vx_locals.specs.Constants.{constant_of}
 use Rattle.vx_locals.specs.declared.constant.Constant.TheVariants.{Class, LeftOut, Literal, Number, Unloadable}
 use Rattle.vx_locals.proofs.Literals.{literal_is, literal_named}

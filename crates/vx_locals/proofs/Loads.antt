@@ -26,15 +26,15 @@ use Rattle.vx_java.specs.Machine.{Top as TopValue}
 use Rattle.vx_java.specs.declared.operation.Sort.{Sort}
 use Rattle.vx_java.specs.declared.operation.Sort.TheVariants.{Int as IntSort, Long as LongSort, Reference}
 use Rattle.vx_outcome.specs.declared.outcome.Outcome.{Outcome}
-use Rattle.vx_stands.specs.Answering.{AreHeld, answer_at, answered, answered_by, is_answer_held}
-use Rattle.vx_stands.specs.Answers.{answer_cmp}
-use Rattle.vx_stands.specs.Sites.{Gives, GivesAt, here}
-use Rattle.vx_stands.specs.Stands.{state_at}
-use Rattle.vx_stands.specs.declared.answer.Answer.{Answer}
-use Rattle.vx_stands.specs.declared.answer.Answer.TheVariants.{Illegal, Push}
-use Rattle.vx_stands.specs.declared.site.Site.{Site}
-use Rattle.vx_stands.proofs.EndingLaws.{GivesAt-before}
-use Rattle.vx_stands.proofs.StateLaws.{locals_held}
+use Rattle.vx_group_states.specs.Answering.{AreHeld, answer_at, answered, answered_by, is_answer_held}
+use Rattle.vx_group_states.specs.Answers.{answer_cmp}
+use Rattle.vx_group_states.specs.Sites.{Gives, GivesAt, here}
+use Rattle.vx_group_states.specs.Stands.{state_at}
+use Rattle.vx_group_states.specs.declared.answer.Answer.{Answer}
+use Rattle.vx_group_states.specs.declared.answer.Answer.TheVariants.{Illegal, Push}
+use Rattle.vx_group_states.specs.declared.site.Site.{Site}
+use Rattle.vx_group_states.proofs.EndingLaws.{GivesAt-before}
+use Rattle.vx_group_states.proofs.StateLaws.{locals_held}
 use Rattle.vx_families.specs.Pushing.{is_push}
 use Rattle.vx_locals.specs.Slots.{loaded, slot_is_of}
 use Rattle.vx_locals.proofs.Lifts.{mapped_at, one_at}

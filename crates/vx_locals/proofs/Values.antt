@@ -14,7 +14,7 @@ use Rattle.vx_java.specs.Locals.{unless_long as value_unless_long, without_half 
 use Rattle.vx_java.specs.Machine.{Top as TopValue}
 use Rattle.vx_java.specs.declared.operation.Sort.{Sort}
 use Rattle.vx_java.specs.declared.operation.Sort.TheVariants.{Int as IntSort, Long as LongSort, Reference}
-use Rattle.vx_stands.proofs.StateLaws.{both, both_first, both_second}
+use Rattle.vx_group_states.proofs.StateLaws.{both, both_first, both_second}
 use Rattle.vx_locals.specs.Slots.{increased, slot_is_of, stored, unless_long, without_half}
 
 -- ---- places

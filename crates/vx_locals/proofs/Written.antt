@@ -31,14 +31,14 @@ use Rattle.vx_java.specs.declared.operation.Sort.{Sort}
 use Rattle.vx_java.specs.declared.operation.Sort.TheVariants.{Int as IntSort}
 use Rattle.vx_link.specs.Parts.{method_at}
 use Rattle.vx_outcome.specs.declared.outcome.Outcome.{Outcome}
-use Rattle.vx_stands.specs.Answering.{operands_at}
-use Rattle.vx_stands.specs.Sites.{Gives, GivesAt, here, settled_by}
-use Rattle.vx_stands.specs.Stands.{Continues, StandsIn, frame_held, is_shaped, plain_frame, state_at}
-use Rattle.vx_stands.specs.declared.site.Site.{Site}
-use Rattle.vx_stands.proofs.AnswerLaws.{operands_at-push}
-use Rattle.vx_stands.proofs.OutcomeStates.{CameTo-through}
-use Rattle.vx_stands.proofs.SettleLaws.{stack_scope}
-use Rattle.vx_stands.proofs.StateLaws.{StandsIn-same_callers, both, both_first, both_second, state_at-same_callers, top_held, top_shaped}
+use Rattle.vx_group_states.specs.Answering.{operands_at}
+use Rattle.vx_group_states.specs.Sites.{Gives, GivesAt, here, settled_by}
+use Rattle.vx_group_states.specs.Stands.{Continues, StandsIn, frame_held, is_shaped, plain_frame, state_at}
+use Rattle.vx_group_states.specs.declared.site.Site.{Site}
+use Rattle.vx_group_states.proofs.AnswerLaws.{operands_at-push}
+use Rattle.vx_group_states.proofs.OutcomeStates.{CameTo-through}
+use Rattle.vx_group_states.proofs.SettleLaws.{stack_scope}
+use Rattle.vx_group_states.proofs.StateLaws.{StandsIn-same_callers, both, both_first, both_second, state_at-same_callers, top_held, top_shaped}
 use Rattle.vx_locals.specs.Slots.{AreLocals, increased, slot_is_of, stored, top_at}
 use Rattle.vx_locals.proofs.Values.{increased_held, item_held, item_value, same_sort, set_held, stored_held, stored_values}
 

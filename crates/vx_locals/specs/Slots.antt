@@ -10,9 +10,9 @@ use Rattle.vx_cond.specs.Row.{Conditionals, IsRow}
 use Rattle.vx_cond.specs.Slots.{slots_at}
 use Rattle.vx_java.specs.declared.operation.Sort.{Sort}
 use Rattle.vx_java.specs.declared.operation.Sort.TheVariants.{Int as IntSort, Long as LongSort, Reference}
-use Rattle.vx_stands.specs.Answering.{operands_at}
-use Rattle.vx_stands.specs.declared.answer.Answer.{Answer}
-use Rattle.vx_stands.specs.declared.answer.Answer.TheVariants.{Illegal, Push}
+use Rattle.vx_group_states.specs.Answering.{operands_at}
+use Rattle.vx_group_states.specs.declared.answer.Answer.{Answer}
+use Rattle.vx_group_states.specs.declared.answer.Answer.TheVariants.{Illegal, Push}
 
 -- a slot holds a value of the sort
 abbrev pub slot_is_of : Sort → Slot → Bool

@@ -5,15 +5,15 @@ ghost use Rattle.vx_space.specs.Sets.{Extends};
 ghost use Rattle.vx_group.specs.Group.{IsGroup, path_of};
 ghost use Rattle.vx_heap.specs.Heap.{HeapView, is_held, value_of};
 ghost use Rattle.vx_java.specs.Machine.{push};
-ghost use Rattle.vx_stands.specs.Sites.{GivesAt, HasPast, here};
+ghost use Rattle.vx_group_states.specs.Sites.{GivesAt, HasPast, here};
 
 use std::alloc::Global;
 use vx_cond::Cond;
 use vx_families::push_answers;
 use vx_group::Group;
+use vx_group_states::{Answer, Site};
 use vx_outcome::Outcomes;
 use vx_space::{Space, SpaceFault};
-use vx_stands::{Answer, Site};
 use vx_value::Slot;
 
 /// Pushes a value.

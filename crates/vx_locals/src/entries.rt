@@ -11,7 +11,7 @@ ghost use Rattle.vx_java.specs.Constants.{push_entry as push_entry_of};
 ghost use Rattle.vx_java.specs.Machine.{push, Ref as RefValue};
 ghost use Rattle.vx_java.specs.declared.operation.Operation.TheVariants.{PushEntry};
 ghost use Rattle.vx_families.specs.Attempts.{IsGiven};
-ghost use Rattle.vx_stands.specs.Sites.{GivesAt, here};
+ghost use Rattle.vx_group_states.specs.Sites.{GivesAt, here};
 ghost use Rattle.vx_locals.specs.Constants.{constant_of};
 ghost use Rattle.vx_locals.specs.declared.constant.Constant.TheVariants.{Class as ClassConstant, LeftOut};
 
@@ -20,12 +20,12 @@ use crate::constants::push_constant;
 use std::alloc::Global;
 use vx_families::unsupported;
 use vx_group::Group;
+use vx_group_states::{Site, illegal};
 use vx_heap::Heap;
 use vx_java::class_named;
 use vx_java::parts::class_of_method;
 use vx_outcome::Outcomes;
 use vx_space::{Space, SpaceFault};
-use vx_stands::{Site, illegal};
 use vx_value::{ClassId, Name, Slot};
 
 /// The word of ends that name a class that isn't there.

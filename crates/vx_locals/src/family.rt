@@ -12,11 +12,11 @@ use crate::loading::load;
 use crate::storing::store;
 use std::alloc::Global;
 use vx_group::Group;
+use vx_group_states::{Site, pass};
 use vx_heap::Heap;
 use vx_java::Operation;
 use vx_outcome::Outcomes;
 use vx_space::{Space, SpaceFault};
-use vx_stands::{Site, pass};
 use vx_value::Slot;
 
 /// Whether an operation is of this family.

@@ -11,7 +11,7 @@ ghost use Rattle.vx_group.specs.Group.{IsGroup, path_of};
 ghost use Rattle.vx_java.specs.Locals.{increase as increase_of};
 ghost use Rattle.vx_java.specs.Machine.{Top as TopValue};
 ghost use Rattle.vx_java.specs.declared.operation.Sort.TheVariants.{Int as IntSort};
-ghost use Rattle.vx_stands.specs.Sites.{Gives, HasPast, here};
+ghost use Rattle.vx_group_states.specs.Sites.{Gives, HasPast, here};
 ghost use Rattle.vx_locals.specs.Slots.{increased, slot_is_of};
 
 use crate::passing::pass_where;
@@ -19,10 +19,10 @@ use crate::sorts::is_of;
 use std::alloc::Global;
 use vx_cond::Cond;
 use vx_group::Group;
+use vx_group_states::{Site, illegal};
 use vx_java::Sort;
 use vx_outcome::Outcomes;
 use vx_space::{Space, SpaceFault};
-use vx_stands::{Site, illegal};
 use vx_value::Slot;
 
 fn increased(by: i32, slot: Slot) -> Slot

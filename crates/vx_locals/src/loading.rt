@@ -4,17 +4,17 @@ ghost use Rattle.std.specs.Prelude.{◌≡◌, IfOk};
 ghost use Rattle.vx_space.specs.Sets.{Extends};
 ghost use Rattle.vx_group.specs.Group.{IsGroup};
 ghost use Rattle.vx_java.specs.Locals.{load as load_of};
-ghost use Rattle.vx_stands.specs.Sites.{Gives, HasPast, here};
+ghost use Rattle.vx_group_states.specs.Sites.{Gives, HasPast, here};
 ghost use Rattle.vx_locals.specs.Slots.{loaded};
 
 use crate::sorts::is_of;
 use std::alloc::Global;
 use vx_families::push_answers;
 use vx_group::Group;
+use vx_group_states::{Answer, Site, illegal};
 use vx_java::Sort;
 use vx_outcome::Outcomes;
 use vx_space::{Space, SpaceFault};
-use vx_stands::{Answer, Site, illegal};
 use vx_value::Slot;
 
 /// What a load answers where the local has this slot.

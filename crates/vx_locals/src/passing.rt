@@ -7,14 +7,14 @@ ghost use Rattle.vx_cond.specs.Leaves.{AreLeaves};
 ghost use Rattle.vx_group.specs.Group.{IsGroup, path_of};
 ghost use Rattle.vx_heap.specs.Heap.{HeapView};
 ghost use Rattle.vx_java.specs.Machine.{go, illegal as illegal_of, when};
-ghost use Rattle.vx_stands.specs.Sites.{Cover, Gives, GivesAt, HasPast, here, settled_by};
+ghost use Rattle.vx_group_states.specs.Sites.{Cover, Gives, GivesAt, HasPast, here, settled_by};
 
 use std::alloc::Global;
 use vx_cond::Leaf;
 use vx_group::Group;
+use vx_group_states::{Site, illegal, pass};
 use vx_outcome::Outcomes;
 use vx_space::{Space, SpaceFault};
-use vx_stands::{Site, illegal, pass};
 
 /// A part of a group that goes past the instruction, or that ends.
 fn passed_part<S: Space>(

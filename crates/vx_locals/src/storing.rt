@@ -6,7 +6,7 @@ ghost use Rattle.vx_space.specs.Sets.{Extends};
 ghost use Rattle.vx_cond.specs.Cond.{IsCond, cond_at};
 ghost use Rattle.vx_group.specs.Group.{IsGroup, path_of};
 ghost use Rattle.vx_java.specs.Locals.{store as store_of};
-ghost use Rattle.vx_stands.specs.Sites.{Gives, HasPast, here};
+ghost use Rattle.vx_group_states.specs.Sites.{Gives, HasPast, here};
 ghost use Rattle.vx_locals.specs.Slots.{slot_is_of, top_at};
 
 use crate::passing::pass_where;
@@ -15,10 +15,10 @@ use crate::writing::write_local;
 use std::alloc::Global;
 use vx_cond::Cond;
 use vx_group::Group;
+use vx_group_states::{Site, illegal};
 use vx_java::Sort;
 use vx_outcome::Outcomes;
 use vx_space::{Space, SpaceFault};
-use vx_stands::{Site, illegal};
 use vx_value::Slot;
 
 /// Takes the operand on top off and puts it into a local, and goes past the instruction where it is of the sort.

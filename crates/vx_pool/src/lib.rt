@@ -10,4 +10,4 @@ pub use pool::{Entry, Pool};
 pub use reading::read_pool;
 pub use text::is_text;
 pub use utf8::Utf8;
-pub use vx_reading::{ClassFault, Cursor};
+pub use vx_cursor::{ClassFault, Cursor};

@@ -18,10 +18,10 @@ use Rattle.vx_java.specs.Machine.{Outcome as PlainOutcome}
 use Rattle.vx_link.specs.declared.program.Program.{Program}
 use Rattle.vx_outcome.specs.declared.outcome.Outcome.{Outcome}
 use Rattle.vx_outcome.specs.declared.outcome.Outcome.TheVariants as shared
-use Rattle.vx_stands.specs.Sites.{Cover, Gives, GivesAt}
-use Rattle.vx_stands.specs.Stands.{CameTo, state_at}
-use Rattle.vx_stands.proofs.Gathering.{leaf_value}
-use Rattle.vx_stands.proofs.OutcomeStates.{CameTo-append, CameTo-none, CameTo-one, CameTo-same}
+use Rattle.vx_group_states.specs.Sites.{Cover, Gives, GivesAt}
+use Rattle.vx_group_states.specs.Stands.{CameTo, state_at}
+use Rattle.vx_group_states.proofs.Gathering.{leaf_value}
+use Rattle.vx_group_states.proofs.OutcomeStates.{CameTo-append, CameTo-none, CameTo-one, CameTo-same}
 use Rattle.vx_returns.specs.Ends.{end_by, ended_by, ended_where}
 
 -- all runs of a group end well

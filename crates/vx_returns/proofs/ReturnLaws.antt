@@ -35,13 +35,13 @@ use Rattle.vx_link.specs.Signature.{signature}
 use Rattle.vx_link.specs.declared.program.LinkedMethod.{LinkedMethod}
 use Rattle.vx_link.specs.declared.program.Program.{Program}
 use Rattle.vx_outcome.specs.declared.outcome.Outcome.{Outcome}
-use Rattle.vx_stands.specs.Answering.{operands_at}
-use Rattle.vx_stands.specs.Sites.{Gives, GivesAt, here}
-use Rattle.vx_stands.specs.Stands.{plain_frame, state_at}
-use Rattle.vx_stands.specs.declared.site.Site.{Site}
-use Rattle.vx_stands.proofs.EndingLaws.{GivesAt-before}
-use Rattle.vx_stands.proofs.SettleLaws.{lifting_at, stack_scope}
-use Rattle.vx_stands.proofs.StateLaws.{both_first, both_second}
+use Rattle.vx_group_states.specs.Answering.{operands_at}
+use Rattle.vx_group_states.specs.Sites.{Gives, GivesAt, here}
+use Rattle.vx_group_states.specs.Stands.{plain_frame, state_at}
+use Rattle.vx_group_states.specs.declared.site.Site.{Site}
+use Rattle.vx_group_states.proofs.EndingLaws.{GivesAt-before}
+use Rattle.vx_group_states.proofs.SettleLaws.{lifting_at, stack_scope}
+use Rattle.vx_group_states.proofs.StateLaws.{both_first, both_second}
 use Rattle.vx_families.specs.Attempts.{IsAttemptBy, IsGiven, row_by}
 use Rattle.vx_families.specs.Bounds.{IsBounded, is_short}
 use Rattle.vx_families.proofs.AttemptLaws.{AttemptsBy-as, IsAttemptBy-is}

@@ -6,18 +6,18 @@ ghost use Rattle.vx_space.specs.Sets.{Sets};
 ghost use Rattle.vx_cond.specs.Leaves.{AreLeaves};
 ghost use Rattle.vx_group.specs.Group.{path_of};
 ghost use Rattle.vx_heap.specs.Heap.{HeapView};
-ghost use Rattle.vx_stands.specs.Sites.{Cover, Gives, GivesAt};
+ghost use Rattle.vx_group_states.specs.Sites.{Cover, Gives, GivesAt};
 ghost use Rattle.vx_returns.specs.Ends.{end_by, ended_by, ended_where};
 
 use crate::sorts::is_slot_of;
 use std::alloc::{AllocError, Global};
 use vx_cond::Leaf;
 use vx_group::Group;
+use vx_group_states::illegal;
 use vx_java::{Sort, place};
 use vx_link::Program;
 use vx_outcome::{Outcome, Outcomes};
 use vx_space::{Space, SpaceFault};
-use vx_stands::illegal;
 use vx_value::{End, Slot};
 
 /// How a run ends where the value that is handed back is of the sort, or isn't.

@@ -3,7 +3,7 @@
 ghost use Rattle.std.specs.Prelude.{◌≡◌, [], IfOk, Some, true};
 ghost use Rattle.vx_space.specs.Sets.{Extends};
 ghost use Rattle.vx_group.specs.Group.{IsGroup};
-ghost use Rattle.vx_stands.specs.Sites.{Gives};
+ghost use Rattle.vx_group_states.specs.Sites.{Gives};
 ghost use Rattle.vx_families.specs.Attempts.{IsAttemptBy, IsGiven};
 ghost use Rattle.vx_returns.specs.Ends.{is_return, is_slot_of as is_of_sort, returned_by};
 
@@ -12,13 +12,13 @@ use crate::result_type::result_type;
 use crate::sorts::{agrees, is_slot_of};
 use std::alloc::Global;
 use vx_group::Group;
+use vx_group_states::{Site, illegal};
 use vx_heap::Heap;
 use vx_java::parts::descriptor_of_method;
 use vx_java::{Operation, Sort};
 use vx_link::Program;
 use vx_outcome::Outcomes;
 use vx_space::{Space, SpaceFault};
-use vx_stands::{Site, illegal};
 use vx_value::Slot;
 
 /// The ends of a group that hands back a value of a sort: the operand on top, at each configuration.

@@ -19,7 +19,7 @@ use Rattle.vx_java.specs.Lockstep.{piece_of}
 use Rattle.vx_java.specs.Machine.{Outcome as PlainOutcome}
 use Rattle.vx_java.specs.Step.{Progress, next, text_of}
 use Rattle.vx_link.specs.declared.program.Program.{Program}
-use Rattle.vx_stands.specs.Stands.{state_at}
+use Rattle.vx_group_states.specs.Stands.{state_at}
 use Rattle.vx_rounds.specs.declared.placing.Round.{Round}
 use Rattle.vx_attempt.specs.Attempted.{carried_out_row}
 use Rattle.vx_rounds.specs.Placing.{end_after, piece_after, spent_after, waiting_at, waiting_in, waits_after}

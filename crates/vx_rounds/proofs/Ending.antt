@@ -16,7 +16,7 @@ use Rattle.vx_cond.proofs.CondLaws.{IsCond-of, cond_at-of}
 use Rattle.vx_cond.proofs.LeafLaws.{AreLeaves-extends, value_at-extends}
 use Rattle.vx_findings.specs.Shared.{leaves_of}
 use Rattle.vx_findings.specs.declared.shared.Shared.{Shared}
-use Rattle.vx_stands.proofs.Gathering.{AreLeaves-of}
+use Rattle.vx_group_states.proofs.Gathering.{AreLeaves-of}
 use Rattle.vx_value.specs.Ends.{compare_ends}
 use Rattle.vx_value.specs.declared.end.End.{End}
 use Rattle.vx_rounds.specs.declared.placing.Round.{Round}

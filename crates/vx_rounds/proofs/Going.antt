@@ -21,9 +21,9 @@ use Rattle.vx_java.specs.Machine.{Ends, Goes, Next, State}
 use Rattle.vx_java.specs.Machine.{Write}
 use Rattle.vx_java.specs.Step.{utf8_of}
 use Rattle.vx_link.specs.declared.program.Program.{Program}
-use Rattle.vx_stands.specs.Stands.{StandsIn, state_at}
-use Rattle.vx_stands.proofs.Gathering.{IsPartOf-group, part_path}
-use Rattle.vx_stands.proofs.StateLaws.{Continues-part, StandsIn-extends, StandsIn-part, both_first, both_second, state_at-extends, state_at-part}
+use Rattle.vx_group_states.specs.Stands.{StandsIn, state_at}
+use Rattle.vx_group_states.proofs.Gathering.{IsPartOf-group, part_path}
+use Rattle.vx_group_states.proofs.StateLaws.{Continues-part, StandsIn-extends, StandsIn-part, both_first, both_second, state_at-extends, state_at-part}
 use Rattle.vx_value.specs.Ends.{compare_ends}
 use Rattle.vx_value.specs.declared.end.End.{End}
 use Rattle.vx_value.specs.declared.end.End.TheVariants.{Unfinished}

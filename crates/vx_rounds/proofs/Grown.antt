@@ -19,8 +19,8 @@ use Rattle.vx_java.specs.Machine.{Ref as RefValue, Text as TextValue}
 use Rattle.vx_link.specs.declared.program.Program.{Program}
 use Rattle.vx_sched.specs.Groups as sched
 use Rattle.vx_sched.proofs.GroupsLaws.{AreGroups-later, standing_at-later}
-use Rattle.vx_stands.specs.Stands.{Grows, frame_held, plain_frame, state_of}
-use Rattle.vx_stands.proofs.StateLaws.{both, both_first, both_second}
+use Rattle.vx_group_states.specs.Stands.{Grows, frame_held, plain_frame, state_of}
+use Rattle.vx_group_states.proofs.StateLaws.{both, both_first, both_second}
 use Rattle.vx_value.specs.Ends.{compare_ends}
 use Rattle.vx_value.specs.Texts.{text_at}
 use Rattle.vx_value.specs.declared.slot.Slot.{Slot}

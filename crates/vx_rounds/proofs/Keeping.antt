@@ -27,14 +27,14 @@ use Rattle.vx_findings.specs.declared.shared.Shared.{Shared}
 use Rattle.vx_java.specs.Report.{bytes_of}
 use Rattle.vx_link.specs.declared.program.Program.{Program}
 use Rattle.vx_sched.specs.Groups as sched
-use Rattle.vx_stands.specs.Stands.{frame_held, plain_frame, state_of}
+use Rattle.vx_group_states.specs.Stands.{frame_held, plain_frame, state_of}
 use Rattle.vx_value.specs.Ends.{compare_ends}
 use Rattle.vx_value.specs.Slot.{slot_cmp}
 use Rattle.vx_rounds.specs.Placing.{AreWaiting, IsGood, waiting_at}
 use Rattle.vx_rounds.specs.State.{IsState, StateView, attempts_left, configurations, group_of, left_of, output_at, shared_ids, standing_at, state_ids}
 use Rattle.vx_rounds.proofs.Running.{AreRunning-waiting, AreWaiting-running, left_by, left_of-by, standing_at-by, standing_by}
 use Rattle.vx_rounds.proofs.Waiting.{no_frame, run_by, state_by, waiting_at-standing}
-use Rattle.vx_stands.proofs.StateLaws.{map_same, all_same}
+use Rattle.vx_group_states.proofs.StateLaws.{map_same, all_same}
 
 -- ---- the parts of the ids
 

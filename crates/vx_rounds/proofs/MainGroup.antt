@@ -23,7 +23,7 @@ use Rattle.vx_java.specs.Machine.{Ref, Top}
 use Rattle.vx_link.specs.declared.program.Program.{Program}
 use Rattle.vx_rounds.specs.Starting.{IsMainGroup, main_frame, main_locals}
 use Rattle.vx_space.specs.Sets.{Sets}
-use Rattle.vx_stands.specs.Stands.{StandsIn, frame_held, is_shaped, plain_frame}
+use Rattle.vx_group_states.specs.Stands.{StandsIn, frame_held, is_shaped, plain_frame}
 use Rattle.vx_value.specs.Slot.{slot_cmp}
 use Rattle.vx_value.specs.declared.key.Kind.TheVariants.{Call}
 use Rattle.vx_value.specs.declared.slot.Slot.{Slot}

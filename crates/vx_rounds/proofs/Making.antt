@@ -21,8 +21,8 @@ use Rattle.vx_link.specs.declared.program.Program.{Program}
 use Rattle.vx_outcome.specs.Outcome.{Divide, condition_of}
 use Rattle.vx_outcome.specs.declared.outcome.Outcome.{Outcome}
 use Rattle.vx_outcome.specs.declared.outcome.Outcome.TheVariants as shared
-use Rattle.vx_stands.specs.Stands.{AreOutcomes, Attempts, Continues, IsOutcome, outcome_at, state_at}
-use Rattle.vx_stands.proofs.OutcomeStates.{condition_known}
+use Rattle.vx_group_states.specs.Stands.{AreOutcomes, Attempts, Continues, IsOutcome, outcome_at, state_at}
+use Rattle.vx_group_states.proofs.OutcomeStates.{condition_known}
 use Rattle.vx_value.specs.Ends.{compare_ends}
 use Rattle.vx_rounds.specs.declared.placing.Round.{Round}
 use Rattle.vx_attempt.specs.Attempted.{IsAttempted, IsUnbuiltThere, MayAttempt, carried_out_row}

@@ -17,8 +17,8 @@ use Rattle.vx_findings.specs.Shared.{leaves_of}
 use Rattle.vx_link.specs.declared.program.Program.{Program}
 use Rattle.vx_sched.specs.Groups as sched
 use Rattle.vx_sched.proofs.GroupsLaws.{IsTaken, is_taken, shaped_taken}
-use Rattle.vx_stands.specs.Stands.{StandsIn, frame_held, is_shaped, state_at}
-use Rattle.vx_stands.proofs.StateLaws.{StandsIn-extends, state_at-extends}
+use Rattle.vx_group_states.specs.Stands.{StandsIn, frame_held, is_shaped, state_at}
+use Rattle.vx_group_states.proofs.StateLaws.{StandsIn-extends, state_at-extends}
 use Rattle.vx_value.specs.declared.key.Kind.TheVariants.{Call}
 use Rattle.vx_rounds.specs.declared.placing.Round.{Round}
 use Rattle.vx_attempt.specs.Attempted.{MayAttempt}

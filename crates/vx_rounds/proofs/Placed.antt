@@ -24,8 +24,8 @@ use Rattle.vx_link.specs.Parts.{method_at}
 use Rattle.vx_link.specs.declared.program.Program.{Program}
 use Rattle.vx_sched.specs.Groups as sched
 use Rattle.vx_sched.proofs.GroupsLaws.{key_of-shapes}
-use Rattle.vx_stands.specs.Stands.{StandsIn, is_shaped, state_at}
-use Rattle.vx_stands.proofs.StateLaws.{both, both_first, both_second}
+use Rattle.vx_group_states.specs.Stands.{StandsIn, is_shaped, state_at}
+use Rattle.vx_group_states.proofs.StateLaws.{both, both_first, both_second}
 use Rattle.vx_value.specs.Ends.{compare_ends}
 use Rattle.vx_value.specs.declared.key.KeyPart.{KeyPart}
 use Rattle.vx_rounds.specs.declared.placing.Round.{Round}

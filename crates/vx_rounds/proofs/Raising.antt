@@ -18,7 +18,7 @@ use Rattle.vx_link.specs.Parts.{class_at, method_at}
 use Rattle.vx_link.specs.declared.program.Program.{Program}
 use Rattle.vx_list.specs.Places.{item_or}
 use Rattle.vx_value.specs.declared.end.End.TheVariants.{Uncaught}
-use Rattle.vx_stands.specs.Stands.{StandsIn, plain_frame, state_at}
+use Rattle.vx_group_states.specs.Stands.{StandsIn, plain_frame, state_at}
 use Rattle.vx_value.specs.declared.key.KeyPart.{KeyPart}
 use Rattle.vx_value.specs.declared.key.Kind.{Kind}
 use Rattle.vx_value.specs.declared.key.Kind.TheVariants.{Call, Init, Wait}

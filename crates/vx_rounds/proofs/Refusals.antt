@@ -21,7 +21,7 @@ use Rattle.vx_link.specs.declared.program.LinkedMethod.{LinkedMethod}
 use Rattle.vx_link.specs.declared.program.Program.{Program}
 use Rattle.vx_outcome.specs.declared.outcome.Outcome.{Outcome as SharedOutcome}
 use Rattle.vx_outcome.specs.declared.outcome.Outcome.TheVariants as shared
-use Rattle.vx_stands.specs.Stands.{outcome_at, state_at}
+use Rattle.vx_group_states.specs.Stands.{outcome_at, state_at}
 use Rattle.vx_rounds.specs.Placing.{has_place, is_refused}
 use Rattle.vx_java.specs.Selection.{catches_of}
 

@@ -15,8 +15,8 @@ use Rattle.vx_families.specs.Built.{is_call}
 use Rattle.vx_findings.specs.Shared.{leaves_of}
 use Rattle.vx_link.specs.declared.program.Program.{Program}
 use Rattle.vx_sched.specs.Groups as sched
-use Rattle.vx_stands.specs.Stands.{is_shaped}
-use Rattle.vx_stands.proofs.StateLaws.{both, both_first, both_second}
+use Rattle.vx_group_states.specs.Stands.{is_shaped}
+use Rattle.vx_group_states.proofs.StateLaws.{both, both_first, both_second}
 use Rattle.vx_value.specs.declared.end.End.{End}
 use Rattle.vx_value.specs.declared.end.Stream.{Stream}
 use Rattle.vx_rounds.specs.Placing.{AreWaiting, IsGood, IsGoodGroup, Waiting, is_one, waiting_at, waiting_in}

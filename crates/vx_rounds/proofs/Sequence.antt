@@ -19,8 +19,8 @@ use Rattle.vx_link.specs.declared.program.Program.{Program}
 use Rattle.vx_outcome.specs.Outcome.{Divide, condition_of}
 use Rattle.vx_outcome.specs.declared.outcome.Outcome.{Outcome}
 use Rattle.vx_outcome.specs.declared.outcome.Outcome.TheVariants as shared
-use Rattle.vx_stands.specs.Stands.{message_of, outcome_at}
-use Rattle.vx_stands.proofs.StateLaws.{StandsIn-extends, both_first, both_second, state_at-extends}
+use Rattle.vx_group_states.specs.Stands.{message_of, outcome_at}
+use Rattle.vx_group_states.proofs.StateLaws.{StandsIn-extends, both_first, both_second, state_at-extends}
 use Rattle.vx_rounds.specs.declared.placing.Round.{Round}
 use Rattle.vx_rounds.specs.Placing.{ArePlaceable, HasGoing, HasPlace, HavePlaces, IsGoing, IsOutcomePlaced, IsPlaceable, IsUnderway, IsUnwritten, IsVacant, has_place, led_by, made_at, piece_after, put_if, said_by, said_in}
 use Rattle.vx_rounds.proofs.Putting.{IsPut-same, IsPut-then, IsVacant-put, then_put}

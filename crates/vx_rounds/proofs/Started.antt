@@ -19,7 +19,7 @@ use Rattle.vx_rounds.specs.Rounds.{IsStart}
 use Rattle.vx_rounds.specs.Starting.{EndAtStart, GoOn, IsMainGroup, IsMarkedHeap, first_state, main_chain}
 use Rattle.vx_rounds.specs.State.{Came, IsState, Runs, StateView, attempts_left, most_attempts, standing_at, standing_in, standing_if, standing_of}
 use Rattle.vx_space.specs.Sets.{Extends, Sets}
-use Rattle.vx_stands.specs.Stands.{plain_frame, state_at, state_of}
+use Rattle.vx_group_states.specs.Stands.{plain_frame, state_at, state_of}
 use Rattle.vx_value.specs.declared.end.End.{End}
 
 none_more : (n m : ℕ) → n ≤ m → 0 + n ≤ m

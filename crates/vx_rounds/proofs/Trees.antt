@@ -11,7 +11,7 @@ use Rattle.vx_group.proofs.GroupLaws.{IsGroupIn-callers, IsGroupIn-group, IsGrou
 use Rattle.vx_heap.specs.Heap.{HeapView}
 use Rattle.vx_link.specs.declared.program.Program.{Program}
 use Rattle.vx_sched.specs.Groups as sched
-use Rattle.vx_stands.specs.Stands.{StandsIn}
+use Rattle.vx_group_states.specs.Stands.{StandsIn}
 use Rattle.vx_rounds.specs.Placing.{waiting_at, waiting_in}
 use Rattle.vx_rounds.specs.State.{AreRunning, StateView, group_of}
 use Rattle.vx_attempt.proofs.Alone.{alone_caller, no_below}

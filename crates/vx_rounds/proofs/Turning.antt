@@ -17,7 +17,7 @@ use Rattle.vx_java.specs.Machine.{Outcome as PlainOutcome, Ends, Goes}
 use Rattle.vx_java.specs.Step.{next}
 use Rattle.vx_link.specs.declared.program.Program.{Program}
 use Rattle.vx_sched.proofs.GroupsLaws.{IsTaken}
-use Rattle.vx_stands.specs.Stands.{state_at}
+use Rattle.vx_group_states.specs.Stands.{state_at}
 use Rattle.vx_value.specs.Ends.{compare_ends}
 use Rattle.vx_rounds.specs.declared.placing.Round.{Round}
 use Rattle.vx_attempt.specs.Attempted.{carried_out_row}

@@ -12,8 +12,8 @@ use Rattle.vx_java.specs.Machine.{State}
 use Rattle.vx_link.specs.declared.program.Program.{Program}
 use Rattle.vx_sched.specs.Groups as sched
 use Rattle.vx_sched.proofs.GroupsLaws.{AreGroups-later, standing_at-later}
-use Rattle.vx_stands.specs.Stands.{frame_held, plain_frame, state_of}
-use Rattle.vx_stands.proofs.StateLaws.{frame_held-extends, plain_frame-extends, all_same, map_same}
+use Rattle.vx_group_states.specs.Stands.{frame_held, plain_frame, state_of}
+use Rattle.vx_group_states.proofs.StateLaws.{frame_held-extends, plain_frame-extends, all_same, map_same}
 use Rattle.vx_value.specs.declared.key.Kind.TheVariants.{Call}
 use Rattle.vx_rounds.specs.Placing.{AreWaiting, IsGood, Waiting, waiting_at, waiting_in}
 use Rattle.vx_rounds.specs.State.{group_of}

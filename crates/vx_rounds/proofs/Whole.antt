@@ -14,7 +14,7 @@ use Rattle.vx_families.specs.Built.{is_built}
 use Rattle.vx_findings.specs.Shared.{leaves_of}
 use Rattle.vx_java.specs.Lockstep.{piece_of}
 use Rattle.vx_link.specs.declared.program.Program.{Program}
-use Rattle.vx_stands.specs.Stands.{state_at}
+use Rattle.vx_group_states.specs.Stands.{state_at}
 use Rattle.vx_rounds.specs.declared.placing.Round.{Round}
 use Rattle.vx_attempt.specs.Attempted.{IsUnbuiltThere}
 use Rattle.vx_rounds.specs.Rounds.{IsRound, IsStuck, after_round, written}

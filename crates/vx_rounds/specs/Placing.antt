@@ -22,7 +22,7 @@ use Rattle.vx_outcome.specs.Outcome.{condition_of}
 use Rattle.vx_outcome.specs.declared.outcome.Outcome.{Outcome}
 use Rattle.vx_outcome.specs.declared.outcome.Outcome.TheVariants as shared
 use Rattle.vx_sched.specs.Groups as sched
-use Rattle.vx_stands.specs.Stands.{StandsIn, comes_to, frame_held, is_shaped, outcome_at, state_at}
+use Rattle.vx_group_states.specs.Stands.{StandsIn, comes_to, frame_held, is_shaped, outcome_at, state_at}
 use Rattle.vx_value.specs.Ends.{compare_ends}
 use Rattle.vx_value.specs.declared.end.End.{End}
 use Rattle.vx_value.specs.declared.end.End.TheVariants.{Unfinished}

@@ -13,7 +13,7 @@ use Rattle.vx_java.specs.Machine.{Ref, State, inits_with, with_inits}
 use Rattle.vx_java.specs.Step.{Config, Live, Over, before_main, first_inits, fresh_progress, start}
 use Rattle.vx_link.specs.Parts.{method_at}
 use Rattle.vx_link.specs.declared.program.Program.{Program}
-use Rattle.vx_stands.specs.Stands.{StandsIn, plain_frame}
+use Rattle.vx_group_states.specs.Stands.{StandsIn, plain_frame}
 use Rattle.vx_value.specs.declared.end.End.{End}
 use Rattle.vx_value.specs.declared.ids.ClassId.{ClassId}
 use Rattle.vx_value.specs.declared.key.Kind.TheVariants.{Call}

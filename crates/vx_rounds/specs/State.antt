@@ -17,7 +17,7 @@ use Rattle.vx_java.specs.Report.{bytes_of}
 use Rattle.vx_java.specs.Step.{Progress, Run, RunResult, result}
 use Rattle.vx_link.specs.declared.program.Program.{Program}
 use Rattle.vx_sched.specs.Groups.{AreGroups}
-use Rattle.vx_stands.specs.Stands.{StandsIn, state_at}
+use Rattle.vx_group_states.specs.Stands.{StandsIn, state_at}
 use Rattle.vx_value.specs.Ends.{compare_ends}
 use Rattle.vx_value.specs.declared.end.End.{End}
 use Rattle.vx_value.specs.declared.end.Stream.{Stream}

@@ -11,7 +11,7 @@ use Rattle.vx_heap.specs.Heap.{HeapView, IsHeap, IsHeapFor}
 use Rattle.vx_findings.specs.Shared.{leaves_of}
 use Rattle.vx_java.specs.Machine.{Outcome}
 use Rattle.vx_link.specs.declared.program.Program.{Program}
-use Rattle.vx_stands.specs.Stands.{state_at}
+use Rattle.vx_group_states.specs.Stands.{state_at}
 use Rattle.vx_rounds.specs.declared.placing.Round.{Round}
 use Rattle.vx_attempt.specs.Attempted.{carried_out_row}
 use Rattle.vx_rounds.specs.Placing.{IsUnderway, end_after, leads_in, led_by, made_at, piece_after, put_if, spent_after, waiting_at, waits_after}

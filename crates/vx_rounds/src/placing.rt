@@ -17,7 +17,7 @@ ghost use Rattle.vx_java.specs.Machine.{Write as WriteOf};
 ghost use Rattle.vx_java.specs.Throwing.{next_after_raise};
 ghost use Rattle.vx_link.specs.Parts.{method_at};
 ghost use Rattle.vx_outcome.specs.Outcome.{Divide, condition_of};
-ghost use Rattle.vx_stands.specs.Stands.{StandsIn, state_at};
+ghost use Rattle.vx_group_states.specs.Stands.{StandsIn, state_at};
 ghost use Rattle.vx_value.specs.Ends.{compare_ends};
 ghost use Rattle.vx_families.specs.Bounds.{IsBounded};
 ghost use Rattle.vx_value.specs.Texts.{text_at};

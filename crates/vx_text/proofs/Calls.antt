@@ -21,15 +21,15 @@ use Rattle.vx_outcome.specs.declared.outcome.Outcome.{Outcome}
 use Rattle.vx_outcome.specs.declared.outcome.Outcome.TheVariants as shared
 use Rattle.vx_space.specs.Sets.{Sets, Extends}
 use Rattle.vx_space.proofs.Spaces.{Extends-refl}
-use Rattle.vx_stands.specs.Answering.{operands_at}
-use Rattle.vx_stands.specs.Sites.{Cover, GivesAt}
-use Rattle.vx_stands.specs.Stands.{CameTo, frame_held, state_at}
-use Rattle.vx_stands.specs.declared.site.Site.{Site}
-use Rattle.vx_stands.proofs.AnswerLaws.{all_drop, map_drop}
-use Rattle.vx_stands.proofs.EndingLaws.{HasPast-part}
-use Rattle.vx_stands.proofs.Gathering.{IsGathering, IsGathering-start, IsGathering-step}
-use Rattle.vx_stands.proofs.OutcomeStates.{CameTo-one}
-use Rattle.vx_stands.proofs.StateLaws.{Continues-moved, frame_held-extends, operands_held, state_at-moved}
+use Rattle.vx_group_states.specs.Answering.{operands_at}
+use Rattle.vx_group_states.specs.Sites.{Cover, GivesAt}
+use Rattle.vx_group_states.specs.Stands.{CameTo, frame_held, state_at}
+use Rattle.vx_group_states.specs.declared.site.Site.{Site}
+use Rattle.vx_group_states.proofs.AnswerLaws.{all_drop, map_drop}
+use Rattle.vx_group_states.proofs.EndingLaws.{HasPast-part}
+use Rattle.vx_group_states.proofs.Gathering.{IsGathering, IsGathering-start, IsGathering-step}
+use Rattle.vx_group_states.proofs.OutcomeStates.{CameTo-one}
+use Rattle.vx_group_states.proofs.StateLaws.{Continues-moved, frame_held-extends, operands_held, state_at-moved}
 use Rattle.vx_value.specs.declared.end.Stream.{Stream}
 use Rattle.vx_value.specs.declared.slot.Slot.{Slot}
 use Rattle.vx_value.specs.Slot.{slot_cmp}
@@ -40,7 +40,7 @@ use Rattle.vx_text.specs.declared.print.Print.{Print}
 use Rattle.vx_text.specs.declared.print.Print.TheVariants.{Line}
 use Rattle.vx_families.proofs.MoreTexts.{HasMoreTexts-refl, HasMoreTexts-trans, frame_held-texts}
 use Rattle.vx_text.proofs.Texts.{KeepsPlain-more}
-use Rattle.vx_stands.proofs.GroupParts.{part_shape, part_frame, part_group}
+use Rattle.vx_group_states.proofs.GroupParts.{part_shape, part_frame, part_group}
 
 -- ---- what a part of a group keeps
 

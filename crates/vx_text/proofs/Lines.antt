@@ -16,10 +16,10 @@ use Rattle.vx_link.specs.Assignability.{assignable}
 use Rattle.vx_link.specs.Parts.{class_at, has, method_at}
 use Rattle.vx_link.specs.declared.program.LinkedMethod.{LinkedMethod}
 use Rattle.vx_opcode.specs.Decode.{instruction_at}
-use Rattle.vx_stands.specs.Sites.{here}
-use Rattle.vx_stands.specs.declared.site.Site.{Site}
+use Rattle.vx_group_states.specs.Sites.{here}
+use Rattle.vx_group_states.specs.declared.site.Site.{Site}
 use Rattle.vx_families.specs.Built.{is_println_method}
-use Rattle.vx_stands.proofs.Operands.{with_operands}
+use Rattle.vx_group_states.proofs.Operands.{with_operands}
 
 -- the outcome by the operands, the top first
 abbrev pub line_on : Here → (class : ℕ) → (static : Bool) → List Value → Outcome

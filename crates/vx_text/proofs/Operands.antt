@@ -5,7 +5,7 @@ use Rattle.vx_value.specs.Slot.{slot_cmp}
 use Rattle.vx_space.specs.Sets.{Sets}
 use Rattle.vx_cond.specs.Cond.{Conditional}
 use Rattle.vx_cond.specs.Row.{Conditionals, IsRow}
-use Rattle.vx_stands.proofs.AnswerLaws.{IsDropping, IsDropping-start, IsDropping-step}
+use Rattle.vx_group_states.proofs.AnswerLaws.{IsDropping, IsDropping-start, IsDropping-step}
 
 -- ---- a list read from its end
 

@@ -32,13 +32,13 @@ use Rattle.vx_opcode.specs.Decode.{instruction_at}
 use Rattle.vx_outcome.specs.declared.outcome.Outcome.{Outcome}
 use Rattle.vx_space.specs.Sets.{Sets, Extends}
 use Rattle.vx_space.proofs.Spaces.{Extends-refl}
-use Rattle.vx_stands.specs.Answering.{operands_at}
-use Rattle.vx_stands.specs.Sites.{GivesAt, here}
-use Rattle.vx_stands.specs.Stands.{state_at}
-use Rattle.vx_stands.specs.declared.site.Site.{Site}
-use Rattle.vx_stands.proofs.EndingLaws.{GivesAt-before}
-use Rattle.vx_stands.proofs.Gathering.{AreLeaves-of, Cover-answers, leaf_value, part_path}
-use Rattle.vx_stands.proofs.SettleLaws.{lifting_at, lifting_cond, stack_scope}
+use Rattle.vx_group_states.specs.Answering.{operands_at}
+use Rattle.vx_group_states.specs.Sites.{GivesAt, here}
+use Rattle.vx_group_states.specs.Stands.{state_at}
+use Rattle.vx_group_states.specs.declared.site.Site.{Site}
+use Rattle.vx_group_states.proofs.EndingLaws.{GivesAt-before}
+use Rattle.vx_group_states.proofs.Gathering.{AreLeaves-of, Cover-answers, leaf_value, part_path}
+use Rattle.vx_group_states.proofs.SettleLaws.{lifting_at, lifting_cond, stack_scope}
 use Rattle.vx_value.specs.declared.slot.Slot.{Slot}
 use Rattle.vx_value.specs.declared.slot.Slot.TheVariants.{Top, Int, Long, Null, Ref, Text}
 use Rattle.vx_value.specs.Slot.{slot_cmp}
@@ -50,9 +50,9 @@ use Rattle.vx_text.specs.Printing.{AreReceivers, HasReceiver, IsCalling, object_
 use Rattle.vx_text.proofs.LineLaws.{object_slot, receiver_there}
 use Rattle.vx_text.proofs.Lines.{line_on, native-is}
 use Rattle.vx_text.proofs.Texts.{KeepsPlain-more}
-use Rattle.vx_stands.proofs.KindLaws.{some_same}
-use Rattle.vx_stands.proofs.Operands.{length-operands, operand_there, two_operands}
-use Rattle.vx_stands.proofs.GroupParts.{part_frame}
+use Rattle.vx_group_states.proofs.KindLaws.{some_same}
+use Rattle.vx_group_states.proofs.Operands.{length-operands, operand_there, two_operands}
+use Rattle.vx_group_states.proofs.GroupParts.{part_frame}
 
 -- ---- what is given
 

@@ -16,7 +16,7 @@ use Rattle.vx_java.specs.Machine.{no_object, Top as TopValue}
 use Rattle.vx_java.specs.Texts.{stream_of_cell}
 use Rattle.vx_list.specs.Places.{item_or}
 use Rattle.vx_space.specs.Sets.{Sets, Extends}
-use Rattle.vx_stands.proofs.SettleLaws.{lifting_at}
+use Rattle.vx_group_states.proofs.SettleLaws.{lifting_at}
 use Rattle.vx_value.specs.declared.end.Stream.TheVariants.{Err}
 use Rattle.vx_value.specs.declared.slot.Slot.{Slot}
 use Rattle.vx_value.specs.declared.slot.Slot.TheVariants.{Top, Int, Long, Null, Ref, Text}

@@ -18,9 +18,9 @@ use Rattle.vx_link.specs.Parts.{method_at}
 use Rattle.vx_list.specs.Places.{item_or}
 use Rattle.vx_opcode.specs.Decode.{instruction_at}
 use Rattle.vx_space.specs.Sets.{Sets}
-use Rattle.vx_stands.specs.Sites.{Cover, HasPast, here}
-use Rattle.vx_stands.specs.Stands.{frame_held}
-use Rattle.vx_stands.specs.declared.site.Site.{Site}
+use Rattle.vx_group_states.specs.Sites.{Cover, HasPast, here}
+use Rattle.vx_group_states.specs.Stands.{frame_held}
+use Rattle.vx_group_states.specs.declared.site.Site.{Site}
 use Rattle.vx_value.specs.declared.end.Stream.{Stream}
 use Rattle.vx_value.specs.declared.end.Stream.TheVariants.{Out, Err}
 use Rattle.vx_value.specs.declared.slot.Slot.{Slot}

@@ -12,8 +12,8 @@ ghost use Rattle.vx_heap.specs.Heap.{HeapView};
 ghost use Rattle.vx_java.specs.Natives.{native as native_of};
 ghost use Rattle.vx_java.specs.declared.operation.Operation.{Operation};
 ghost use Rattle.vx_link.specs.Parts.{has, method_at};
-ghost use Rattle.vx_stands.specs.Answering.{operands_at};
-ghost use Rattle.vx_stands.specs.Sites.{Cover, GivesAt, HasPast, IsSomewhere};
+ghost use Rattle.vx_group_states.specs.Answering.{operands_at};
+ghost use Rattle.vx_group_states.specs.Sites.{Cover, GivesAt, HasPast, IsSomewhere};
 ghost use Rattle.vx_families.specs.Attempts.{AttemptsBy, IsGiven};
 ghost use Rattle.vx_families.specs.Built.{is_println_method};
 ghost use Rattle.vx_families.specs.Texts.{HasMoreTexts};
@@ -27,13 +27,13 @@ use bitflags::Flags;
 use std::alloc::{AllocError, Global};
 use vx_cond::Leaf;
 use vx_group::Group;
+use vx_group_states::{Site, illegal};
 use vx_heap::Heap;
 use vx_java::assignable;
 use vx_java::parts::{class_of_method, flags_of_method};
 use vx_link::{AccessFlags, Program};
 use vx_outcome::{Outcome, Outcomes};
 use vx_space::{Space, SpaceFault};
-use vx_stands::{Site, illegal};
 use vx_value::{MethodId, Stream};
 
 fn is_static(program: &Program, method: MethodId) -> bool

@@ -1,7 +1,7 @@
 use Rattle.std.proofs.Common.{◌≡◌, ◌∷◌, [], ◌∙◌, ap, refl}
 use Rattle.vx_group.proofs.GroupLaws.{IsGroup-one_scope}
 use Rattle.vx_outcome.specs.declared.outcome.Outcome.TheVariants.{Go}
-use Rattle.vx_stands.proofs.EndingLaws.{moved-gives}
+use Rattle.vx_group_states.proofs.EndingLaws.{moved-gives}
 use Rattle.vx_arith.proofs.AttemptLaws.{goto-gives}
 use Rattle.vx_arith.proofs.attempting.goto.Goals as goal
 

@@ -1,7 +1,7 @@
 use Rattle.std.proofs.Common.{◌-◌, ◌∙◌, arith}
 use Rattle.vx_cond.proofs.RowSteps.{IsRow-get}
-use Rattle.vx_stands.proofs.SettleLaws.{lifting_cond}
-use Rattle.vx_stands.specs.Answers.{answer_cmp}
+use Rattle.vx_group_states.proofs.SettleLaws.{lifting_cond}
+use Rattle.vx_group_states.specs.Answers.{answer_cmp}
 use Rattle.vx_value.specs.Slot.{slot_cmp}
 use Rattle.vx_arith.proofs.Ends.{top_answers}
 use Rattle.vx_arith.proofs.operands.answers_of_top.Goals as goal

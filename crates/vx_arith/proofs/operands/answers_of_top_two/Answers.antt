@@ -1,7 +1,7 @@
 use Rattle.std.proofs.Common.{◌≡◌, ◌-◌, ◌∙◌, arith, sym, suc, ap}
 use Rattle.std.specs.Prelude.{slice_get}
 use Rattle.vx_cond.proofs.RowSteps.{IsRow-get}
-use Rattle.vx_stands.specs.Answers.{answer_cmp}
+use Rattle.vx_group_states.specs.Answers.{answer_cmp}
 use Rattle.vx_value.specs.Slot.{slot_cmp}
 use Rattle.vx_arith.proofs.Ends.{lifting2_cond, top_two_answers}
 use Rattle.vx_arith.proofs.operands.answers_of_top_two.Goals as goal

@@ -2,7 +2,7 @@ use Rattle.std.proofs.Common.{◌∙◌, ◌≤◌, ◌<◌, arith, length}
 use Rattle.vx_space.proofs.Spaces.{Extends-trans}
 use Rattle.vx_frame.proofs.FrameLaws.{IsFrame-stack}
 use Rattle.vx_group.proofs.GroupLaws.{IsGroup-extends, IsGroup-top}
-use Rattle.vx_stands.proofs.SettleLaws.{stack_scope}
+use Rattle.vx_group_states.proofs.SettleLaws.{stack_scope}
 use Rattle.vx_arith.proofs.OperandLaws.{few-gives, ready_for, top_two-gives}
 use Rattle.vx_arith.proofs.operands.on_top_two.Goals as goal
 

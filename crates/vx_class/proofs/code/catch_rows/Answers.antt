@@ -1,7 +1,7 @@
 use Rattle.std.proofs.Common.{arith}
 use Rattle.std.proofs.lemmas.Result.{err_from_is_err_and}
-use Rattle.vx_reading.specs.Reading.{items, item_step}
-use Rattle.vx_reading.specs.Steps.{steps-done, items-goes_on, items-ends}
+use Rattle.vx_cursor.specs.Reading.{items, item_step}
+use Rattle.vx_cursor.specs.Steps.{steps-done, items-goes_on, items-ends}
 use Rattle.vx_class.specs.Code.{catch_at}
 use Rattle.vx_class.proofs.code.catch_rows.Goals as goal
 

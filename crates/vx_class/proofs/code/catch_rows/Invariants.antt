@@ -1,5 +1,5 @@
 use Rattle.std.proofs.Common.{◌≡◌, ◌-◌, ◌+◌, ◌*◌, vec_len}
-use Rattle.vx_reading.specs.Reading.{steps, items, item_step}
+use Rattle.vx_cursor.specs.Reading.{steps, items, item_step}
 use Rattle.vx_class.specs.Code.{catch_at}
 use Rattle.vx_class.proofs.code.catch_rows.Given as goal
 

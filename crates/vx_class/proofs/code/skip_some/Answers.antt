@@ -1,6 +1,6 @@
 use Rattle.std.proofs.lemmas.Result.{err_from_is_err_and}
-use Rattle.vx_reading.specs.Reading.{steps}
-use Rattle.vx_reading.specs.Steps.{steps-goes_on, steps-ends, steps-done}
+use Rattle.vx_cursor.specs.Reading.{steps}
+use Rattle.vx_cursor.specs.Steps.{steps-goes_on, steps-ends, steps-done}
 use Rattle.vx_class.specs.Code.{skip_step}
 use Rattle.vx_class.proofs.code.skip_some.Goals as goal
 

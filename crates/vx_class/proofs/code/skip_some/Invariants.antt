@@ -1,5 +1,5 @@
 use Rattle.std.proofs.Common.{◌≡◌, ◌-◌}
-use Rattle.vx_reading.specs.Reading.{steps}
+use Rattle.vx_cursor.specs.Reading.{steps}
 use Rattle.vx_class.specs.Code.{skip_step}
 use Rattle.vx_class.proofs.code.skip_some.Given as goal
 

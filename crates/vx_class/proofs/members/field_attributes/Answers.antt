@@ -1,7 +1,7 @@
 use Rattle.std.proofs.Common.{None}
 use Rattle.std.proofs.lemmas.Result.{err_from_is_err_and}
-use Rattle.vx_reading.specs.Reading.{steps}
-use Rattle.vx_reading.specs.Steps.{steps-goes_on, steps-ends, steps-done}
+use Rattle.vx_cursor.specs.Reading.{steps}
+use Rattle.vx_cursor.specs.Steps.{steps-goes_on, steps-ends, steps-done}
 use Rattle.vx_class.specs.Members.{field_attribute_at}
 use Rattle.vx_class.proofs.members.field_attributes.Goals as goal
 

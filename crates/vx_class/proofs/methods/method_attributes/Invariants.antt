@@ -1,5 +1,5 @@
 use Rattle.std.proofs.Common.{◌≡◌, ◌-◌, None}
-use Rattle.vx_reading.specs.Reading.{steps}
+use Rattle.vx_cursor.specs.Reading.{steps}
 use Rattle.vx_class.specs.Members.{method_attribute_at}
 use Rattle.vx_class.proofs.methods.method_attributes.Given as goal
 

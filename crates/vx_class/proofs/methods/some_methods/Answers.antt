@@ -1,7 +1,7 @@
 use Rattle.std.proofs.Common.{[]}
 use Rattle.std.proofs.lemmas.Result.{err_from_is_err_and}
-use Rattle.vx_reading.specs.Reading.{steps, behind}
-use Rattle.vx_reading.specs.Steps.{steps-done, behind-goes_on, behind-ends}
+use Rattle.vx_cursor.specs.Reading.{steps, behind}
+use Rattle.vx_cursor.specs.Steps.{steps-done, behind-goes_on, behind-ends}
 use Rattle.vx_class.specs.Members.{method_at}
 use Rattle.vx_class.proofs.methods.some_methods.Goals as goal
 

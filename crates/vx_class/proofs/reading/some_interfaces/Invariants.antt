@@ -1,5 +1,5 @@
 use Rattle.std.proofs.Common.{◌≡◌, ◌-◌}
-use Rattle.vx_reading.specs.Reading.{steps, items, item_step}
+use Rattle.vx_cursor.specs.Reading.{steps, items, item_step}
 use Rattle.vx_class.specs.Class.{interface_at}
 use Rattle.vx_class.proofs.reading.some_interfaces.Given as goal
 

@@ -2,7 +2,7 @@ use Rattle.std.specs.Ordering.{bool_cmp}
 use Rattle.vx_heap.specs.Heap.{inits_at}
 use Rattle.vx_java.specs.Initialisation.{is_failed}
 use Rattle.vx_java.specs.Machine.{init_at}
-use Rattle.vx_stands.proofs.SettleLaws.{lifting_cond}
+use Rattle.vx_group_states.proofs.SettleLaws.{lifting_cond}
 use Rattle.vx_fields.proofs.Yes.{IsSet-asked}
 use Rattle.vx_fields.proofs.initialising.failed.Goals as goal
 

@@ -1,6 +1,6 @@
 use Rattle.std.specs.Ordering.{bool_cmp}
 use Rattle.vx_cond.specs.Leaves.{AreLeaves}
-use Rattle.vx_stands.proofs.Gathering.{AreLeaves-of}
+use Rattle.vx_group_states.proofs.Gathering.{AreLeaves-of}
 use Rattle.vx_fields.proofs.Yes.{IsNoSoFar-start, IsNoSoFar-step, IsSet-none, IsSet-yes}
 use Rattle.vx_fields.proofs.initialising.where_yes.Goals as goal
 

@@ -3,7 +3,7 @@ use Rattle.std.proofs.lemmas.List.{length-append}
 use Rattle.vx_group.proofs.GroupLaws.{IsGroup-one_scope, IsGroup-path_known}
 use Rattle.vx_java.specs.Machine.{State, Top, go}
 use Rattle.vx_list.specs.Places.{item_or}
-use Rattle.vx_stands.specs.Sites.{here}
+use Rattle.vx_group_states.specs.Sites.{here}
 use Rattle.vx_fields.proofs.Moving.{got-gives}
 use Rattle.vx_fields.proofs.Splitting.{none-gives}
 use Rattle.vx_fields.proofs.statics.got_part.Goals as goal

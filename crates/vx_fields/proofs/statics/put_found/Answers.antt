@@ -2,8 +2,8 @@ use Rattle.std.proofs.Common.{arith}
 use Rattle.vx_group.proofs.GroupLaws.{IsGroup-extends}
 use Rattle.vx_heap.proofs.HeapLaws.{IsHeap-extends}
 use Rattle.vx_space.proofs.Spaces.{Extends-trans}
-use Rattle.vx_stands.proofs.EndingLaws.{HasPast-part}
-use Rattle.vx_stands.proofs.Gathering.{IsPartOf-group}
+use Rattle.vx_group_states.proofs.EndingLaws.{HasPast-part}
+use Rattle.vx_group_states.proofs.Gathering.{IsPartOf-group}
 use Rattle.vx_fields.proofs.Moving.{part_operands}
 use Rattle.vx_fields.proofs.Puts.{put-attempts}
 use Rattle.vx_fields.proofs.Running.{field_there, needs_inside, proceeds_there, running_held, running_runs}

@@ -1,6 +1,6 @@
 use Rattle.vx_group.proofs.GroupLaws.{IsGroup-path_known}
 use Rattle.vx_java.specs.Machine.{raise}
-use Rattle.vx_stands.specs.Sites.{here}
+use Rattle.vx_group_states.specs.Sites.{here}
 use Rattle.vx_fields.proofs.Splitting.{none-gives}
 use Rattle.vx_fields.proofs.stopping.failed_part.Goals as goal
 

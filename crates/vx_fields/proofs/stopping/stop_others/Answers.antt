@@ -4,12 +4,12 @@ use Rattle.vx_group.specs.Group.{path_of}
 use Rattle.vx_group.proofs.GroupLaws.{IsPartOf-extends}
 use Rattle.vx_java.specs.Machine.{State}
 use Rattle.vx_space.proofs.Spaces.{Extends-trans}
-use Rattle.vx_stands.specs.Sites.{here}
-use Rattle.vx_stands.proofs.Gathering.{IsPartOf-group}
+use Rattle.vx_group_states.specs.Sites.{here}
+use Rattle.vx_group_states.proofs.Gathering.{IsPartOf-group}
 use Rattle.vx_fields.specs.Initialising.{stopped, stopped_by}
 use Rattle.vx_fields.proofs.Splitting.{GivesWithin-part}
 use Rattle.vx_fields.proofs.stopping.stop_others.Goals as goal
-use Rattle.vx_stands.proofs.StateLaws.{both_first}
+use Rattle.vx_group_states.proofs.StateLaws.{both_first}
 
 pub stopped_parts-requires-clause-group : goal.stopped_parts-requires-clause-group
 stopped_parts-requires-clause-group g c = IsPartOf-group _ _ _ c.args.group _ c.in_ok-going.ensures.outside

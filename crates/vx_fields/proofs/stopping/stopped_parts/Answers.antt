@@ -2,8 +2,8 @@ use Rattle.std.proofs.Common.{◌≡◌, Bool, List, true, false, ap, sym, ◌�
 use Rattle.vx_heap.specs.Heap.{HeapView}
 use Rattle.vx_java.specs.Machine.{Begin, State, illegal, raise, when}
 use Rattle.vx_space.proofs.Spaces.{Extends-refl, Extends-trans}
-use Rattle.vx_stands.specs.Sites.{here}
-use Rattle.vx_stands.proofs.Gathering.{IsPartOf-group}
+use Rattle.vx_group_states.specs.Sites.{here}
+use Rattle.vx_group_states.proofs.Gathering.{IsPartOf-group}
 use Rattle.vx_fields.specs.Initialising.{stopped, stopped_by}
 use Rattle.vx_fields.proofs.Splitting.{GivesAt-later, split-gives}
 use Rattle.vx_fields.proofs.stopping.stopped_parts.Goals as goal

@@ -1,5 +1,5 @@
 use Rattle.vx_heap.specs.Lifted.{IsLifted}
-use Rattle.vx_first.proofs.Zips.{zip_read}
+use Rattle.vx_initial_heap.proofs.Zips.{zip_read}
 use Rattle.vx_heap.proofs.lifted.lifted_objects.Goals as goal
 
 pub loop-object-preserved : goal.loop-object-preserved

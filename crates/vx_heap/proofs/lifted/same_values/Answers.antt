@@ -1,5 +1,5 @@
 use Rattle.vx_heap.specs.Lifted.{IsSame}
-use Rattle.vx_first.proofs.Zips.{zip_step}
+use Rattle.vx_initial_heap.proofs.Zips.{zip_step}
 use Rattle.vx_heap.proofs.lifted.same_values.Goals as goal
 
 pub loop-value-preserved : goal.loop-value-preserved

@@ -6,8 +6,8 @@ use Rattle.vx_group.proofs.GroupLaws.{IsGroup-top}
 use Rattle.vx_java.specs.Calls.{call_instance}
 use Rattle.vx_java.specs.declared.operation.Mode.TheVariants.{Virtual}
 use Rattle.vx_space.proofs.Spaces.{Extends-trans}
-use Rattle.vx_stands.specs.Sites.{here}
-use Rattle.vx_stands.proofs.EndingLaws.{GivesAt-before}
+use Rattle.vx_group_states.specs.Sites.{here}
+use Rattle.vx_group_states.proofs.EndingLaws.{GivesAt-before}
 use Rattle.vx_value.specs.Slot.{slot_cmp}
 use Rattle.vx_invoke.specs.Named.{println}
 use Rattle.vx_invoke.proofs.Groups.{AreReceivers-zipped, IsCalling-later, SomeEnters-later, few-operands}

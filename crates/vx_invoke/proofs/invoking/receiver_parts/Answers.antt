@@ -4,13 +4,13 @@ use Rattle.vx_space.proofs.Spaces.{Extends-refl, Extends-trans}
 use Rattle.vx_cond.proofs.LeafLoops.{next_known}
 use Rattle.vx_java.specs.Calls.{call_instance}
 use Rattle.vx_java.specs.declared.operation.Mode.TheVariants.{Virtual}
-use Rattle.vx_stands.specs.Sites.{here}
-use Rattle.vx_stands.proofs.Gathering.{IsGathering-end, IsGathering-inner, IsGathering-rest, IsGathering-start, IsGathering-step, leaf_inside}
+use Rattle.vx_group_states.specs.Sites.{here}
+use Rattle.vx_group_states.proofs.Gathering.{IsGathering-end, IsGathering-inner, IsGathering-rest, IsGathering-start, IsGathering-step, leaf_inside}
 use Rattle.vx_invoke.specs.Named.{println}
 use Rattle.vx_invoke.specs.Receivers.{receiver_cmp}
 use Rattle.vx_invoke.proofs.Groups.{HasReceiver-part, IsCalling-part, SomeEnters-part, at_heap, some_at}
 use Rattle.vx_invoke.proofs.invoking.receiver_parts.Goals as goal
-use Rattle.vx_stands.proofs.GroupParts.{IsSomewhere-leaf}
+use Rattle.vx_group_states.proofs.GroupParts.{IsSomewhere-leaf}
 
 pub loop-leaf-init : goal.loop-leaf-init
 loop-leaf-init g c = rw c.new-outcomes.ensures (IsGathering-start c.args.site.now.program.now _ c.args.group _ _ c.args.receivers.now c.requires.calling.running.is_group)

@@ -1,8 +1,8 @@
 use Rattle.std.proofs.Common.{◌≡◌}
 use Rattle.vx_java.specs.Calls.{call_instance}
 use Rattle.vx_java.specs.declared.operation.Mode.TheVariants.{Virtual}
-use Rattle.vx_stands.specs.Sites.{here}
-use Rattle.vx_stands.proofs.Gathering.{IsGathering}
+use Rattle.vx_group_states.specs.Sites.{here}
+use Rattle.vx_group_states.proofs.Gathering.{IsGathering}
 use Rattle.vx_invoke.specs.Named.{println}
 use Rattle.vx_invoke.proofs.invoking.receiver_parts.Given as goal
 

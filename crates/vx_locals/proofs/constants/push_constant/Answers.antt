@@ -2,7 +2,7 @@ use Rattle.std.proofs.Common.{ap}
 use Rattle.vx_cond.proofs.CondLaws.{IsCond-of}
 use Rattle.vx_group.proofs.GroupLaws.{IsGroup-path_known}
 use Rattle.vx_families.specs.Pushing.{is_push}
-use Rattle.vx_stands.specs.Answers.{answer_cmp}
+use Rattle.vx_group_states.specs.Answers.{answer_cmp}
 use Rattle.vx_locals.proofs.Loads.{constant-gives, constant_at}
 use Rattle.vx_locals.proofs.constants.push_constant.Goals as goal
 

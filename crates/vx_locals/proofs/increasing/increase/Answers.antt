@@ -10,8 +10,8 @@ use Rattle.vx_java.specs.declared.operation.Sort.TheVariants.{Int as IntSort}
 use Rattle.vx_java.specs.Locals.{increase}
 use Rattle.vx_java.specs.Machine.{Top}
 use Rattle.vx_list.specs.Places.{item_or}
-use Rattle.vx_stands.specs.Sites.{here}
-use Rattle.vx_stands.proofs.SettleLaws.{lifting_cond}
+use Rattle.vx_group_states.specs.Sites.{here}
+use Rattle.vx_group_states.proofs.SettleLaws.{lifting_cond}
 use Rattle.vx_value.specs.Slot.{slot_cmp}
 use Rattle.vx_locals.specs.Slots.{slot_is_of}
 use Rattle.vx_locals.proofs.Loads.{Gives-before, increase_none}

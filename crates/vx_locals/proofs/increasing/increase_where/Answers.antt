@@ -9,8 +9,8 @@ use Rattle.vx_cond.proofs.RowLaws.{IsRow-extends}
 use Rattle.vx_cond.proofs.RowSteps.{IsRow-get}
 use Rattle.vx_frame.proofs.FrameLaws.{IsFrame-locals, IsFrame-stack}
 use Rattle.vx_group.proofs.GroupLaws.{IsGroup-one_scope, IsGroup-top}
-use Rattle.vx_stands.proofs.Gathering.{AreLeaves-of, Cover-answers}
-use Rattle.vx_stands.proofs.SettleLaws.{lifting_cond, stack_scope}
+use Rattle.vx_group_states.proofs.Gathering.{AreLeaves-of, Cover-answers}
+use Rattle.vx_group_states.proofs.SettleLaws.{lifting_cond, stack_scope}
 use Rattle.vx_value.specs.Slot.{slot_cmp}
 use Rattle.vx_locals.specs.Slots.{increased}
 use Rattle.vx_locals.proofs.Lifts.{mapped_at}

@@ -6,8 +6,8 @@ use Rattle.vx_group.specs.Group.{path_of}
 use Rattle.vx_families.specs.Pushing.{is_push}
 use Rattle.vx_frame.proofs.FrameLaws.{IsFrame-locals}
 use Rattle.vx_group.proofs.GroupLaws.{IsGroup-extends, IsGroup-one_scope, IsGroup-path_known, IsGroup-top}
-use Rattle.vx_stands.specs.Answers.{answer_cmp}
-use Rattle.vx_stands.proofs.SettleLaws.{lifting_cond}
+use Rattle.vx_group_states.specs.Answers.{answer_cmp}
+use Rattle.vx_group_states.proofs.SettleLaws.{lifting_cond}
 use Rattle.vx_value.specs.Slot.{slot_cmp}
 use Rattle.vx_locals.proofs.Loads.{load-gives, load_none, loaded_at, loaded_pushes}
 use Rattle.vx_locals.proofs.loading.load.Goals as goal

@@ -4,9 +4,9 @@ use Rattle.std.specs.Prelude.{unwrap_or, Bool, List, false}
 use Rattle.vx_space.proofs.Spaces.{Extends-refl, Extends-trans}
 use Rattle.vx_cond.proofs.LeafLoops.{next_known}
 use Rattle.vx_java.specs.Machine.{State, go, illegal, when}
-use Rattle.vx_stands.specs.Sites.{here}
-use Rattle.vx_stands.proofs.EndingLaws.{HasPast-part}
-use Rattle.vx_stands.proofs.Gathering.{IsGathering-end, IsGathering-past, IsGathering-rest, IsGathering-start, IsGathering-step, IsPartOf-group, leaf_value}
+use Rattle.vx_group_states.specs.Sites.{here}
+use Rattle.vx_group_states.proofs.EndingLaws.{HasPast-part}
+use Rattle.vx_group_states.proofs.Gathering.{IsGathering-end, IsGathering-past, IsGathering-rest, IsGathering-start, IsGathering-step, IsPartOf-group, leaf_value}
 use Rattle.vx_locals.proofs.passing.pass_where.Goals as goal
 
 pub loop-leaf-init : goal.loop-leaf-init

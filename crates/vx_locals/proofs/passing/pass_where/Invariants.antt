@@ -1,5 +1,5 @@
-use Rattle.vx_stands.specs.Sites.{settled_by}
-use Rattle.vx_stands.proofs.Gathering.{IsGathering}
+use Rattle.vx_group_states.specs.Sites.{settled_by}
+use Rattle.vx_group_states.proofs.Gathering.{IsGathering}
 use Rattle.vx_locals.proofs.passing.pass_where.Given as goal
 
 abbrev pub invariant-loop-leaf : goal.invariant-loop-leaf

@@ -6,8 +6,8 @@ use Rattle.vx_cond.proofs.RowSteps.{IsRow-get}
 use Rattle.vx_frame.proofs.FrameLaws.{IsFrame-stack}
 use Rattle.vx_group.proofs.GroupLaws.{IsGroup-extends, IsGroup-path_known, IsGroup-top}
 use Rattle.vx_java.specs.Locals.{store}
-use Rattle.vx_stands.specs.Sites.{here}
-use Rattle.vx_stands.proofs.SettleLaws.{lifting_cond, stack_scope}
+use Rattle.vx_group_states.specs.Sites.{here}
+use Rattle.vx_group_states.proofs.SettleLaws.{lifting_cond, stack_scope}
 use Rattle.vx_value.specs.Slot.{slot_cmp}
 use Rattle.vx_locals.specs.Slots.{slot_is_of}
 use Rattle.vx_locals.proofs.Loads.{Gives-before, store_none}

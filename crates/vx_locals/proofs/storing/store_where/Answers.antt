@@ -5,7 +5,7 @@ use Rattle.vx_cond.proofs.CondLaws.{IsCond-extends}
 use Rattle.vx_cond.proofs.RowLaws.{IsRow-extends}
 use Rattle.vx_frame.proofs.FrameLaws.{IsFrame-locals}
 use Rattle.vx_group.proofs.GroupLaws.{IsGroup-one_scope, IsGroup-top}
-use Rattle.vx_stands.proofs.Gathering.{AreLeaves-of, Cover-answers}
+use Rattle.vx_group_states.proofs.Gathering.{AreLeaves-of, Cover-answers}
 use Rattle.vx_value.specs.Slot.{slot_cmp}
 use Rattle.vx_locals.proofs.Rows.{operands_at-extends}
 use Rattle.vx_locals.proofs.Written.{IsGroup-written, store-gives, top_taken, written}

@@ -1,6 +1,6 @@
 use Rattle.std.proofs.Common.{refl, ◌∙◌, ap}
 use Rattle.vx_cond.proofs.RowSteps.{IsRow-get}
-use Rattle.vx_stands.proofs.SettleLaws.{lifting_cond}
+use Rattle.vx_group_states.proofs.SettleLaws.{lifting_cond}
 use Rattle.vx_value.specs.Slot.{slot_cmp}
 use Rattle.vx_locals.specs.Slots.{unless_long}
 use Rattle.vx_locals.proofs.Lifts.{mapped_at}

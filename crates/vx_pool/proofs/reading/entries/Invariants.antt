@@ -1,6 +1,6 @@
 use Rattle.std.proofs.Common.{◌≡◌, [], ◌∷◌, false, ◌+◌, sum_by}
 use Rattle.vx_pool.specs.declared.pool.Entry.TheVariants.{Unusable}
-use Rattle.vx_reading.specs.Reading.{with_front}
+use Rattle.vx_cursor.specs.Reading.{with_front}
 use Rattle.vx_pool.specs.Pool.{size, entries_at}
 use Rattle.vx_pool.proofs.reading.entries.Given as goal
 

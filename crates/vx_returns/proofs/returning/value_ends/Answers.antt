@@ -4,8 +4,8 @@ use Rattle.vx_value.specs.Slot.{slot_cmp}
 use Rattle.vx_cond.proofs.RowSteps.{IsRow-get}
 use Rattle.vx_frame.proofs.FrameLaws.{IsFrame-stack}
 use Rattle.vx_group.proofs.GroupLaws.{IsGroup-top}
-use Rattle.vx_stands.proofs.Gathering.{AreLeaves-of, Cover-answers}
-use Rattle.vx_stands.proofs.SettleLaws.{lifting_cond, stack_scope}
+use Rattle.vx_group_states.proofs.Gathering.{AreLeaves-of, Cover-answers}
+use Rattle.vx_group_states.proofs.SettleLaws.{lifting_cond, stack_scope}
 use Rattle.vx_returns.proofs.ReturnLaws.{none-gives, positive, value-gives}
 use Rattle.vx_returns.proofs.returning.value_ends.Goals as goal
 

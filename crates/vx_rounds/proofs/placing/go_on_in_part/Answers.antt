@@ -5,7 +5,7 @@ use Rattle.vx_cond.proofs.LeafLaws.{AreLeaves-extends}
 use Rattle.vx_findings.specs.Shared.{leaves_of}
 use Rattle.vx_group.proofs.GroupLaws.{IsGroupIn-group, IsGroup-attempts, IsGroup-path_known}
 use Rattle.vx_heap.proofs.HeapLaws.{IsHeap-extends}
-use Rattle.vx_stands.proofs.Gathering.{IsPartOf-group}
+use Rattle.vx_group_states.proofs.Gathering.{IsPartOf-group}
 use Rattle.vx_value.specs.Ends.{compare_ends}
 use Rattle.vx_rounds.proofs.Going.{IsPut-parted, ended_vacant, left_attempts, left_stands, left_vacant, part_kind, used_put}
 use Rattle.vx_rounds.proofs.Putting.{ends_apart, spent_apart}

@@ -4,7 +4,7 @@ use Rattle.vx_group.proofs.GroupLaws.{IsGroupIn-group, IsGroup-path_known}
 use Rattle.vx_heap.proofs.HeapLaws.{IsHeap-extends}
 use Rattle.vx_java.specs.Step.{utf8_of}
 use Rattle.vx_value.specs.Texts.{text_at}
-use Rattle.vx_stands.proofs.StateLaws.{StandsIn-extends}
+use Rattle.vx_group_states.proofs.StateLaws.{StandsIn-extends}
 use Rattle.vx_rounds.proofs.Going.{AreWritten-text, IsPut-text, IsUnderway-text, IsVacant-text, bound_later}
 use Rattle.vx_rounds.proofs.placing.write.Goals as goal
 

@@ -4,7 +4,7 @@ use Rattle.vx_frame.proofs.FrameLaws.{IsFrame-stack}
 use Rattle.vx_group.proofs.GroupLaws.{IsGroup-top}
 use Rattle.vx_space.proofs.Spaces.{Extends-trans}
 use Rattle.vx_java.specs.Natives.{native}
-use Rattle.vx_stands.proofs.EndingLaws.{GivesAt-before}
+use Rattle.vx_group_states.proofs.EndingLaws.{GivesAt-before}
 use Rattle.vx_value.specs.Slot.{slot_cmp}
 use Rattle.vx_text.proofs.Calls.{IsCalling-later}
 use Rattle.vx_text.proofs.Received.{AreReceivers-mapped}

@@ -3,8 +3,8 @@ use Rattle.std.specs.Prelude.{unwrap_or, Bool, List, true}
 use Rattle.vx_space.proofs.Spaces.{Extends-refl, Extends-trans}
 use Rattle.vx_cond.proofs.LeafLoops.{next_known}
 use Rattle.vx_java.specs.Machine.{State}
-use Rattle.vx_stands.proofs.EndingLaws.{HasPast-part}
-use Rattle.vx_stands.proofs.Gathering.{IsGathering-end, IsGathering-past, IsGathering-rest, IsPartOf-group, leaf_value}
+use Rattle.vx_group_states.proofs.EndingLaws.{HasPast-part}
+use Rattle.vx_group_states.proofs.Gathering.{IsGathering-end, IsGathering-past, IsGathering-rest, IsPartOf-group, leaf_value}
 use Rattle.vx_text.specs.Printing.{printed}
 use Rattle.vx_text.specs.Prints.{print_cmp}
 use Rattle.vx_text.specs.declared.print.Print.TheVariants.{Illegal}

@@ -1,7 +1,7 @@
 use Rattle.std.proofs.Common.{◌∙◌}
 use Rattle.vx_frame.proofs.FrameLaws.{IsFrame-stack}
 use Rattle.vx_group.proofs.GroupLaws.{IsGroup-one_scope, IsGroup-top}
-use Rattle.vx_stands.proofs.SettleLaws.{stack_scope}
+use Rattle.vx_group_states.proofs.SettleLaws.{stack_scope}
 use Rattle.vx_text.proofs.Operands.{dropped_two}
 use Rattle.vx_text.proofs.printing.past_call.Goals as goal
 

@@ -5,8 +5,8 @@ use Rattle.vx_cond.proofs.RowSteps.{IsRow-get}
 use Rattle.vx_frame.proofs.FrameLaws.{IsFrame-stack}
 use Rattle.vx_group.proofs.GroupLaws.{IsGroup-extends, IsGroup-path_known, IsGroup-top}
 use Rattle.vx_space.proofs.Spaces.{Extends-trans}
-use Rattle.vx_stands.proofs.Gathering.{AreLeaves-of, Cover-answers}
-use Rattle.vx_stands.proofs.SettleLaws.{stack_scope}
+use Rattle.vx_group_states.proofs.Gathering.{AreLeaves-of, Cover-answers}
+use Rattle.vx_group_states.proofs.SettleLaws.{stack_scope}
 use Rattle.vx_value.specs.Slot.{slot_cmp}
 use Rattle.vx_text.specs.Prints.{print_cmp}
 use Rattle.vx_text.proofs.LineLaws.{printed-gives, receiver_inside}

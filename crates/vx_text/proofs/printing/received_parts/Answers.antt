@@ -4,11 +4,11 @@ use Rattle.std.specs.Ordering.{nat_cmp}
 use Rattle.vx_space.proofs.Spaces.{Extends-trans}
 use Rattle.vx_cond.proofs.LeafLoops.{next_known}
 use Rattle.vx_java.specs.Natives.{native}
-use Rattle.vx_stands.proofs.Gathering.{IsGathering-end, IsGathering-inner, IsGathering-rest, leaf_inside}
+use Rattle.vx_group_states.proofs.Gathering.{IsGathering-end, IsGathering-inner, IsGathering-rest, leaf_inside}
 use Rattle.vx_text.proofs.Calls.{IsCalling-more, IsCalling-part, IsWriting-start, IsWriting-step}
 use Rattle.vx_text.proofs.Received.{HasReceiver-part}
 use Rattle.vx_text.proofs.printing.received_parts.Goals as goal
-use Rattle.vx_stands.proofs.GroupParts.{IsSomewhere-leaf}
+use Rattle.vx_group_states.proofs.GroupParts.{IsSomewhere-leaf}
 
 pub loop-leaf-init : goal.loop-leaf-init
 loop-leaf-init g c = rw c.new-outcomes.ensures (IsWriting-start c.args.site.now.program.now _ c.args.group c.args.heap.now _ c.args.receivers.now c.requires.calling.is_group)

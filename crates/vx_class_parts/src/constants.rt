@@ -1,0 +1,341 @@
+//! The constants of a class that is assembled, in the order in which they are first needed.
+
+ghost use Rattle.std.specs.Prelude.{◌≡◌, ◌+◌, ◌%◌, ◌≤◌, ◌<◌, ◌++◌, ◌∷◌, option_copied, OnOk, IfOk};
+ghost use Rattle.std.specs.List.{list_any, flat_map};
+ghost use Rattle.std.specs.Str.{bytes_eq};
+ghost use Rattle.vx_class_parts.specs.Constants.{is_same_kind, is_same, with, with_text, with_class, with_literal, with_name_and_type, with_member, with_constant, width, index_of, places, in_file, in_file_or_zero, text_entry, member_entry, entry_of, entries_of, pool_of};
+
+use std::alloc::{AllocError, Global};
+use vx_list::Items;
+use vx_pool::{Entry, Pool, Utf8};
+use vx_value::Name;
+
+/// The kind of a member.
+#[derive(Clone, Copy, Debug, PartialEq, Eq)]
+pub enum Kind {
+    Field,
+    Method,
+    InterfaceMethod,
+}
+
+/// What an entry of the pool says, in place of its indices.
+#[derive(Debug, Drop)]
+pub enum Constant {
+    Text(Name),
+    Integer(i32),
+    Long(i64),
+    Class(Name),
+    Literal(Name),
+    NameAndType(Name, Name),
+    /// A class, a name and a descriptor.
+    Member(Kind, Name, Name, Name),
+}
+
+fn is_equal(first: &Name, second: &Name) -> bool
+    ensures { result ≡ bytes_eq first.now second.now }
+{
+    first.bytes() == second.bytes()
+}
+
+fn is_same_kind(first: Kind, second: Kind) -> bool
+    ensures { result ≡ is_same_kind first second }
+{
+    matches!(
+        (first, second),
+        (Kind::Field, Kind::Field)
+            | (Kind::Method, Kind::Method)
+            | (Kind::InterfaceMethod, Kind::InterfaceMethod)
+    )
+}
+
+/// Whether two constants are one.
+fn is_same(first: &Constant, second: &Constant) -> bool
+    ensures { result ≡ is_same first.now second.now }
+{
+    match (first, second) {
+        (Constant::Text(a), Constant::Text(b)) => is_equal(a, b),
+        (Constant::Integer(a), Constant::Integer(b)) => *a == *b,
+        (Constant::Long(a), Constant::Long(b)) => *a == *b,
+        (Constant::Class(a), Constant::Class(b)) => is_equal(a, b),
+        (Constant::Literal(a), Constant::Literal(b)) => is_equal(a, b),
+        (Constant::NameAndType(a, b), Constant::NameAndType(c, d)) => {
+            is_equal(a, c) && is_equal(b, d)
+        }
+        (Constant::Member(k, a, b, c), Constant::Member(l, d, e, f)) => {
+            is_same_kind(*k, *l) && is_equal(a, d) && is_equal(b, e) && is_equal(c, f)
+        }
+        _ => false,
+    }
+}
+
+fn has(pool: &[Constant], constant: &Constant) -> bool
+    ensures { result ≡ list_any (is_same constant.now) pool.now }
+{
+    pool.iter().any(|other| is_same(constant, other))
+}
+
+/// A constant behind the others, unless it is there.
+#[tactic(auto, unfolding(crate::specs::Constants::with))]
+fn put(pool: &mut Vec<Constant>, constant: Constant) -> Result<(), AllocError>
+    ensures { OnOk result (pool.new.items ≡ with pool.old.items constant) }
+{
+    if !has(pool, &constant) {
+        pool.push(constant)?;
+    }
+    Ok(())
+}
+
+pub fn put_text(alloc: Global, pool: &mut Vec<Constant>, text: &[u8]) -> Result<(), AllocError>
+    ensures { OnOk result (pool.new.items ≡ with_text pool.old.items text.now) }
+{
+    put(pool, Constant::Text(Name::of(alloc, text)?))
+}
+
+pub fn put_number(pool: &mut Vec<Constant>, number: i32) -> Result<(), AllocError>
+    ensures { OnOk result (pool.new.items ≡ with pool.old.items (Constant.Integer number)) }
+{
+    put(pool, Constant::Integer(number))
+}
+
+pub fn put_long(pool: &mut Vec<Constant>, number: i64) -> Result<(), AllocError>
+    ensures { OnOk result (pool.new.items ≡ with pool.old.items (Constant.Long number)) }
+{
+    put(pool, Constant::Long(number))
+}
+
+pub fn put_class(alloc: Global, pool: &mut Vec<Constant>, name: &[u8]) -> Result<(), AllocError>
+    ensures { OnOk result (pool.new.items ≡ with_class pool.old.items name.now) }
+{
+    put(pool, Constant::Class(Name::of(alloc, name)?))?;
+    put_text(alloc, pool, name)
+}
+
+pub fn put_literal(alloc: Global, pool: &mut Vec<Constant>, text: &[u8]) -> Result<(), AllocError>
+    ensures { OnOk result (pool.new.items ≡ with_literal pool.old.items text.now) }
+{
+    put(pool, Constant::Literal(Name::of(alloc, text)?))?;
+    put_text(alloc, pool, text)
+}
+
+fn put_name_and_type(
+    alloc: Global,
+    pool: &mut Vec<Constant>,
+    name: &[u8],
+    descriptor: &[u8],
+) -> Result<(), AllocError>
+    ensures { OnOk result (pool.new.items ≡ with_name_and_type pool.old.items name.now descriptor.now) }
+{
+    let first = Name::of(alloc, name)?;
+    let second = Name::of(alloc, descriptor)?;
+    put(pool, Constant::NameAndType(first, second))?;
+    put_text(alloc, pool, name)?;
+    put_text(alloc, pool, descriptor)
+}
+
+pub fn put_member(
+    alloc: Global,
+    pool: &mut Vec<Constant>,
+    kind: Kind,
+    class: &[u8],
+    name: &[u8],
+    descriptor: &[u8],
+) -> Result<(), AllocError>
+    ensures { OnOk result (pool.new.items ≡ with_member pool.old.items kind class.now name.now descriptor.now) }
+{
+    let first = Name::of(alloc, class)?;
+    let second = Name::of(alloc, name)?;
+    let third = Name::of(alloc, descriptor)?;
+    put(pool, Constant::Member(kind, first, second, third))?;
+    put_class(alloc, pool, class)?;
+    put_name_and_type(alloc, pool, name, descriptor)
+}
+
+/// How many places a constant takes.
+fn width(constant: &Constant) -> u8
+    ensures value { result ≡ width constant.now }
+    ensures few { result ≤ 2 }
+{
+    match constant {
+        Constant::Long(_) => 2,
+        _ => 1,
+    }
+}
+
+/// The index of a constant that is there.
+#[tactic(auto, unfolding(crate::specs::Constants::index_of))]
+pub fn index_of(pool: &[Constant], constant: &Constant) -> u128
+    ensures { result ≡ index_of pool.now constant.now }
+{
+    let mut index = 1;
+    for other in pool {
+        if is_same(constant, other) {
+            return index;
+        }
+        index += u128::from(width(other));
+    }
+    index
+}
+
+/// How many places the pool has, place 0 among them.
+pub fn places(pool: &[Constant]) -> u128
+    ensures { result ≡ places pool.now }
+{
+    let mut count = 1;
+    for constant in pool {
+        count += u128::from(width(constant));
+    }
+    count
+}
+
+/// The index of a constant as it stands in the file.
+pub fn in_file(pool: &[Constant], constant: &Constant) -> u16
+    ensures { result ≡ in_file pool.now constant.now }
+{
+    (index_of(pool, constant) % 65_536) as u16
+}
+
+/// The index of a constant as it stands in the file, or 0 where there is no constant.
+pub fn in_file_or_zero(pool: &[Constant], constant: Option<&Constant>) -> u16
+    ensures { result ≡ in_file_or_zero pool.now (option_copied constant.entry) }
+{
+    match constant {
+        None => 0,
+        Some(constant) => in_file(pool, constant),
+    }
+}
+
+fn text_entry(alloc: Global, text: &[u8]) -> Result<Entry, AllocError>
+    ensures { IfOk result (λ e. e ≡ text_entry text.now) }
+{
+    if text.len() < 65_536 {
+        Ok(Entry::Utf8(Utf8::of(Vec::from_slice(alloc, text)?)))
+    } else {
+        Ok(Entry::Unusable)
+    }
+}
+
+fn member_entry(kind: Kind, class: u16, name: u16) -> Entry
+    ensures { result ≡ member_entry kind class name }
+{
+    match kind {
+        Kind::Field => Entry::Field(class, name),
+        Kind::Method => Entry::Method(class, name),
+        Kind::InterfaceMethod => Entry::InterfaceMethod(class, name),
+    }
+}
+
+/// The index of a text, as it stands in the file.
+pub fn text_index(alloc: Global, pool: &[Constant], text: &[u8]) -> Result<u16, AllocError>
+    ensures { IfOk result (λ i. i ≡ in_file pool.now (Constant.Text text.now)) }
+{
+    let constant = Constant::Text(Name::of(alloc, text)?);
+    Ok(in_file(pool, &constant))
+}
+
+/// The index of a class, as it stands in the file.
+pub fn class_index(alloc: Global, pool: &[Constant], name: &[u8]) -> Result<u16, AllocError>
+    ensures { IfOk result (λ i. i ≡ in_file pool.now (Constant.Class name.now)) }
+{
+    let constant = Constant::Class(Name::of(alloc, name)?);
+    Ok(in_file(pool, &constant))
+}
+
+fn name_and_type_index(
+    alloc: Global,
+    pool: &[Constant],
+    name: &[u8],
+    descriptor: &[u8],
+) -> Result<u16, AllocError>
+    ensures { IfOk result (λ i. i ≡ in_file pool.now (Constant.NameAndType name.now descriptor.now)) }
+{
+    let first = Name::of(alloc, name)?;
+    let second = Name::of(alloc, descriptor)?;
+    let constant = Constant::NameAndType(first, second);
+    Ok(in_file(pool, &constant))
+}
+
+/// The entry of a constant, whose parts have their indices.
+fn entry_of(alloc: Global, pool: &[Constant], constant: &Constant) -> Result<Entry, AllocError>
+    ensures { IfOk result (λ e. e ≡ entry_of pool.now constant.now) }
+{
+    match constant {
+        Constant::Text(text) => text_entry(alloc, text.bytes()),
+        Constant::Integer(number) => Ok(Entry::Integer(*number)),
+        Constant::Long(number) => Ok(Entry::Long(*number)),
+        Constant::Class(name) => Ok(Entry::Class(text_index(alloc, pool, name.bytes())?)),
+        Constant::Literal(text) => Ok(Entry::Text(text_index(alloc, pool, text.bytes())?)),
+        Constant::NameAndType(name, descriptor) => Ok(Entry::NameAndType(
+            text_index(alloc, pool, name.bytes())?,
+            text_index(alloc, pool, descriptor.bytes())?,
+        )),
+        Constant::Member(kind, class, name, descriptor) => Ok(member_entry(
+            *kind,
+            class_index(alloc, pool, class.bytes())?,
+            name_and_type_index(alloc, pool, name.bytes(), descriptor.bytes())?,
+        )),
+    }
+}
+
+/// The places of a constant behind those that are there.
+fn put_entries(
+    alloc: Global,
+    entries: &mut Vec<Entry>,
+    pool: &[Constant],
+    constant: &Constant,
+) -> Result<(), AllocError>
+    ensures { OnOk result (entries.new.items ≡ entries.old.items ++ entries_of pool.now constant.now) }
+{
+    entries.push(entry_of(alloc, pool, constant)?)?;
+    if width(constant) > 1 {
+        entries.push(Entry::Unusable)?;
+    }
+    Ok(())
+}
+
+fn all_entries(alloc: Global, pool: &[Constant]) -> Result<Vec<Entry>, AllocError>
+    ensures { IfOk result (λ v. v.items ≡ Entry.Unusable ∷ flat_map (entries_of pool.now) pool.now) }
+{
+    let mut entries = Vec::new(alloc);
+    entries.push(Entry::Unusable)?;
+    for constant in pool {
+        put_entries(alloc, &mut entries, pool, constant)?;
+    }
+    Ok(entries)
+}
+
+/// The pool of a class file.
+pub fn pool_of(alloc: Global, pool: &[Constant]) -> Result<Pool, AllocError>
+    ensures { IfOk result (λ p. p ≡ pool_of pool.now) }
+{
+    Ok(Pool {
+        entries: Items::of(all_entries(alloc, pool)?),
+    })
+}
+
+/// A constant with what it refers to, behind the others.
+pub fn put_constant(
+    alloc: Global,
+    pool: &mut Vec<Constant>,
+    constant: &Constant,
+) -> Result<(), AllocError>
+    ensures { OnOk result (pool.new.items ≡ with_constant pool.old.items constant.now) }
+{
+    match constant {
+        Constant::Text(text) => put_text(alloc, pool, text.bytes()),
+        Constant::Integer(number) => put_number(pool, *number),
+        Constant::Long(number) => put_long(pool, *number),
+        Constant::Class(name) => put_class(alloc, pool, name.bytes()),
+        Constant::Literal(text) => put_literal(alloc, pool, text.bytes()),
+        Constant::NameAndType(name, descriptor) => {
+            put_name_and_type(alloc, pool, name.bytes(), descriptor.bytes())
+        }
+        Constant::Member(kind, class, name, descriptor) => put_member(
+            alloc,
+            pool,
+            *kind,
+            class.bytes(),
+            name.bytes(),
+            descriptor.bytes(),
+        ),
+    }
+}

@@ -1,6 +1,0 @@
-use Rattle.std.proofs.Common.{◌≡◌, [], fold, take}
-use Rattle.vx_first.specs.Literals.{with_class}
-use Rattle.vx_first.proofs.literals.gathered.Given as goal
-
-abbrev pub invariant-loop-class : goal.invariant-loop-class
-invariant-loop-class l = l.literals ≡ fold with_class [] (take l.class-index l.classes)

@@ -1,6 +1,0 @@
-use Rattle.vx_first.specs.First.{IsFirstStatic}
-use Rattle.vx_first.proofs.Zips.{zip_step}
-use Rattle.vx_first.proofs.statics.first_statics.Goals as goal
-
-pub loop-field-preserved : goal.loop-field-preserved
-loop-field-preserved c = rw c.in_ok-push.ensures.items (zip_step (IsFirstStatic c.args.program.now) c.as_slice-field-items.result.now c.loop-field.statics.items c.loop-field.field-index c.field-item.result c.in_ok-first_static.field-0 c.loop-field.invariant c.loop-field-test.true c.field-item.is c.in_ok-first_static.ensures)

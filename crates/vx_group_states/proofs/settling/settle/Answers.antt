@@ -1,0 +1,29 @@
+use Rattle.std.proofs.Common.{◌∙◌}
+use Rattle.std.specs.Ordering.{bool_cmp}
+use Rattle.vx_space.proofs.Spaces.{Extends-trans}
+use Rattle.vx_frame.proofs.FrameLaws.{IsFrame-stack}
+use Rattle.vx_group.proofs.GroupLaws.{IsGroup-extends, IsGroup-top}
+use Rattle.vx_group_states.proofs.Gathering.{AreLeaves-of, Cover-answers}
+use Rattle.vx_group_states.proofs.SettleLaws.{lifting_cond, settle-gives, stack_scope}
+use Rattle.vx_group_states.proofs.settling.settle.Goals as goal
+
+pub stack_size-requires-clause-row : goal.stack_size-requires-clause-row
+stack_size-requires-clause-row g c = rw c.top_frame.ensures (IsFrame-stack _ c.args.group.top (IsGroup-top _ c.args.group c.requires.group))
+
+pub stack_size-requires-clause-few : goal.stack_size-requires-clause-few
+stack_size-requires-clause-few g c = rw (c.top_frame.ensures, ← c.group.view_is) c.group.invariant.1
+
+pub settled_parts-requires-clause-group : goal.settled_parts-requires-clause-group
+settled_parts-requires-clause-group g c = IsGroup-extends (Extends-trans c.in_ok-sizes.ensures.extends c.in_ok-fits.ensures.extends) c.args.group c.requires.group
+
+pub settled_parts-requires-clause-fits : goal.settled_parts-requires-clause-fits
+settled_parts-requires-clause-fits g c = rw c.leaves.ensures (AreLeaves-of bool_cmp _ c.in_ok-fits.fits (lifting_cond bool_cmp _ _ _ c.in_ok-fits.fits c.in_ok-fits.ensures.ok))
+
+pub settled_parts-requires-clause-cover : goal.settled_parts-requires-clause-cover
+settled_parts-requires-clause-cover g c = rw c.leaves.ensures (Cover-answers bool_cmp _ _ c.in_ok-fits.fits (lifting_cond bool_cmp _ _ _ c.in_ok-fits.fits c.in_ok-fits.ensures.ok) (c.in_ok-fits.ensures.scope ∙ (rw c.top_frame.ensures at c.in_ok-sizes.ensures.scope) ∙ stack_scope _ c.args.group c.requires.group))
+
+pub returns-clause-extends : goal.returns-clause-extends
+returns-clause-extends g c = Extends-trans (Extends-trans c.in_ok-sizes.ensures.extends c.in_ok-fits.ensures.extends) c.in_ok-outcomes.ensures.extends
+
+pub returns-clause-gives : goal.returns-clause-gives
+returns-clause-gives g c = settle-gives c.args.site.now c.args.group c.in_ok-sizes.sizes c.in_ok-fits.fits _ _ (λ n b h. rw c.from-room.ensures at h) c.in_ok-sizes.ensures.extends c.in_ok-fits.ensures.extends c.requires.group (rw c.top_frame.ensures at c.in_ok-sizes.ensures.at) c.in_ok-fits.ensures.ok (rw c.leaves.ensures at c.in_ok-outcomes.ensures.gives)

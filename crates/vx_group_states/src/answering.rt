@@ -1,0 +1,246 @@
+//! Groups by what an instruction makes of their operands.
+
+ghost use Rattle.std.specs.Prelude.{◌≡◌, ◌+◌, ◌∷◌, ◌<◌, ◌≤◌, ◌^◌, IfOk, Bool, List, drop, length, true};
+ghost use Rattle.vx_space.specs.Sets.{IsKnown, Sets, Extends};
+ghost use Rattle.vx_cond.specs.Cond.{IsCond, IsInside};
+ghost use Rattle.vx_cond.specs.Row.{IsRow};
+ghost use Rattle.vx_cond.specs.Slots.{slot_at};
+ghost use Rattle.vx_value.specs.Slot.{slot_cmp};
+ghost use Rattle.vx_group.specs.Group.{IsGroup, path_of};
+ghost use Rattle.vx_heap.specs.Heap.{HeapView};
+ghost use Rattle.vx_java.specs.Machine.{at_position, Go, Raise as RaiseOf};
+ghost use Rattle.vx_link.specs.declared.program.Program.{Program};
+ghost use Rattle.vx_group_states.specs.Answering.{AreHeld, AreKinds, ArePushedHeld, IsKindHeld, IsReady, answer_at, answered_as, answered_by, kind_of, operands_at, pushed_by, pushed_to};
+ghost use Rattle.vx_group_states.specs.Answers.{answer_cmp};
+ghost use Rattle.vx_group_states.specs.Sites.{Gives, GivesAt, HasPast};
+ghost use Rattle.vx_group_states.specs.Stands.{IsMessage, message_of};
+
+use crate::answer::Answer;
+use crate::endings::illegal;
+use crate::settling::settle;
+use crate::site::Site;
+use std::alloc::{AllocError, Global};
+use vx_cond::{Cond, Leaf, Row};
+use vx_group::Group;
+use vx_outcome::{Outcome, Outcomes};
+use vx_space::{Space, SpaceFault};
+use vx_value::{ClassId, Slot};
+
+/// What parts are told apart by: the answer without its value.
+fn kind(answer: Answer) -> Answer
+    ensures { result ≡ kind_of answer }
+{
+    match answer {
+        Answer::Push(_) => Answer::Push(Slot::Top),
+        other => other,
+    }
+}
+
+/// The value of an answer that is one.
+fn pushed(answer: Answer) -> Slot
+    ensures { result ≡ pushed_by answer }
+{
+    match answer {
+        Answer::Push(slot) => slot,
+        _ => Slot::Top,
+    }
+}
+
+/// Takes so many operands off.
+fn drop_operands<S: Space>(space: &S, stack: &mut Row<Slot, S>, count: usize)
+    requires row { IsRow slot_cmp (S.sets space.now) stack.old }
+    requires enough { count ≤ length stack.old.conds }
+    ensures row { IsRow slot_cmp (S.sets space.now) stack.new }
+    ensures scope { stack.new.scope ≡ stack.old.scope }
+    ensures length { length stack.new.conds + count ≡ length stack.old.conds }
+    ensures at { (c : List Bool) → operands_at (S.sets space.now) stack.new c ≡ drop count (operands_at (S.sets space.now) stack.old c) }
+{
+    for _operand in 0..count {
+        let Some(_top) = stack.pop() else {
+            unreachable!()
+        };
+    }
+}
+
+/// The values of the answers inside a path.
+fn values_inside<S: Space>(
+    space: &mut S,
+    answers: &Cond<Answer, S>,
+    path: S::Id,
+) -> Result<Cond<Slot, S>, SpaceFault>
+    requires answers { IsCond answer_cmp (S.sets space.old) answers.now }
+    requires known { IsKnown (S.sets space.old) path }
+    requires inside { IsInside (S.sets space.old) path answers.now.scope }
+    ensures extends { Extends (S.sets space.old) (S.sets space.new) }
+    ensures cond { IfOk result (IsCond slot_cmp (S.sets space.new)) }
+    ensures scope { IfOk result (λ r. r.scope ≡ path) }
+    ensures at { IfOk result (λ r. (c : List Bool) → (S.sets space.old).test path c ≡ true → slot_at (S.sets space.new) r c ≡ pushed_by (answer_at (S.sets space.old) answers.now c)) }
+{
+    let inside = answers.restrict(space, path)?;
+    let values = inside.map(space, pushed)?;
+    Ok(values)
+}
+
+/// The group with so many operands taken off and a value put on.
+fn with_operand<S: Space>(
+    space: &S,
+    group: Group<S>,
+    taken: usize,
+    value: Cond<Slot, S>,
+) -> Result<Group<S>, AllocError>
+    requires group { IsGroup (S.sets space.now) group }
+    requires enough { taken ≤ length group.top.stack.conds }
+    requires few { length group.top.stack.conds + 1 < 2 ^ 32 + taken }
+    requires value { IsCond slot_cmp (S.sets space.now) value }
+    requires scope { value.scope ≡ path_of group }
+    ensures same { IfOk result (λ r. r ≡ record group { top = record group.top { stack = r.top.stack } }) }
+    ensures row { IfOk result (λ r. IsRow slot_cmp (S.sets space.now) r.top.stack) }
+    ensures scope { IfOk result (λ r. r.top.stack.scope ≡ path_of group) }
+    ensures at { IfOk result (λ r. (c : List Bool) → operands_at (S.sets space.now) r.top.stack c ≡ slot_at (S.sets space.now) value c ∷ drop taken (operands_at (S.sets space.now) group.top.stack c)) }
+{
+    let (below, mut frame) = group.take_top();
+    drop_operands(space, &mut frame.stack, taken);
+    frame.stack.push(value)?;
+    Ok(below.put_top(frame))
+}
+
+/// The part of a group in which values are pushed.
+fn pushed_part<S: Space>(
+    alloc: Global,
+    site: &Site,
+    space: &mut S,
+    part: Group<S>,
+    taken: usize,
+    answers: &Cond<Answer, S>,
+) -> Result<Outcomes<S>, SpaceFault>
+    requires group { IsGroup (S.sets space.old) part }
+    requires past { HasPast site.now part }
+    requires enough { taken ≤ length part.top.stack.conds }
+    requires few { length part.top.stack.conds + 1 < 2 ^ 32 + taken }
+    requires answers { IsCond answer_cmp (S.sets space.old) answers.now }
+    requires inside { IsInside (S.sets space.old) (path_of part) answers.now.scope }
+    ensures extends { Extends (S.sets space.old) (S.sets space.new) }
+    ensures gives { IfOk result (λ r. (heap : HeapView S S.Id) → ArePushedHeld (S.sets space.old) heap (path_of part) answers.now → GivesAt site.now.program.now (pushed_to site.now taken (S.sets space.old) answers.now) (S.sets space.old) (S.sets space.new) part r.items.items heap) }
+{
+    let values = values_inside(space, answers, part.path())?;
+    let group = with_operand(space, part, taken, values)?;
+    let outcomes = settle(alloc, site, space, group)?;
+    Ok(outcomes)
+}
+
+/// The part of a group that goes to a position.
+fn jumped_part<S: Space>(
+    alloc: Global,
+    space: &S,
+    part: Group<S>,
+    taken: usize,
+    position: u32,
+) -> Result<Outcomes<S>, AllocError>
+    requires group { IsGroup (S.sets space.now) part }
+    requires enough { taken ≤ length part.top.stack.conds }
+    ensures { IfOk result (λ r. (program : Program) → Gives program (λ s. Go (at_position s position (drop taken s.top.operands))) (S.sets space.now) (S.sets space.now) part r.items.items) }
+{
+    let (below, mut frame) = part.take_top();
+    drop_operands(space, &mut frame.stack, taken);
+    frame.position = position;
+    let outcomes = Outcomes::go(alloc, below.put_top(frame))?;
+    Ok(outcomes)
+}
+
+/// The part of a group that raises an exception.
+fn raised_part<S: Space>(
+    alloc: Global,
+    part: Group<S>,
+    class: ClassId,
+    message: Option<u64>,
+) -> Result<Outcomes<S>, AllocError>
+    ensures { IfOk result (λ r. (program : Program) (sets : Sets S.Id) (heap : HeapView S S.Id) → IsMessage heap message → GivesAt program (λ heap _ s. RaiseOf class.0 (message_of heap message) s) sets sets part r.items.items heap) }
+{
+    let mut outcomes = Outcomes::new(alloc);
+    outcomes.push(Outcome::Raise {
+        group: part,
+        class,
+        message,
+    })?;
+    Ok(outcomes)
+}
+
+/// The part of a group in which the answers are of one kind.
+fn answered_part<S: Space>(
+    alloc: Global,
+    site: &Site,
+    space: &mut S,
+    part: Group<S>,
+    taken: usize,
+    kind: Answer,
+    answers: &Cond<Answer, S>,
+) -> Result<Outcomes<S>, SpaceFault>
+    requires ready { IsReady site.now (S.sets space.old) part taken answers.now }
+    ensures extends { Extends (S.sets space.old) (S.sets space.new) }
+    ensures gives { IfOk result (λ r. (heap : HeapView S S.Id) → IsKindHeld (S.sets space.old) heap (path_of part) kind answers.now → GivesAt site.now.program.now (answered_as site.now taken (S.sets space.old) kind answers.now) (S.sets space.old) (S.sets space.new) part r.items.items heap) }
+{
+    match kind {
+        Answer::Illegal => {
+            let ended = illegal(alloc, site.program, &part)?;
+            Ok(ended)
+        }
+        Answer::Raise(class, message) => {
+            let raised = raised_part(alloc, part, class, message)?;
+            Ok(raised)
+        }
+        Answer::Push(_) => {
+            let put = pushed_part(alloc, site, space, part, taken, answers)?;
+            Ok(put)
+        }
+        Answer::Jump(position) => {
+            let jumped = jumped_part(alloc, space, part, taken, position)?;
+            Ok(jumped)
+        }
+    }
+}
+
+/// The parts of a group by the kinds of the answers.
+fn answered_parts<S: Space>(
+    alloc: Global,
+    site: &Site,
+    space: &mut S,
+    group: Group<S>,
+    taken: usize,
+    kinds: &[Leaf<Answer, S>],
+    answers: &Cond<Answer, S>,
+) -> Result<Outcomes<S>, SpaceFault>
+    requires ready { IsReady site.now (S.sets space.old) group taken answers.now }
+    requires kinds { AreKinds (S.sets space.old) (path_of group) answers.now kinds.now }
+    ensures extends { Extends (S.sets space.old) (S.sets space.new) }
+    ensures gives { IfOk result (λ r. (heap : HeapView S S.Id) → AreHeld (S.sets space.old) heap (path_of group) answers.now → GivesAt site.now.program.now (answered_by site.now taken (S.sets space.old) answers.now) (S.sets space.old) (S.sets space.new) group r.items.items heap) }
+{
+    let mut outcomes = Outcomes::new(alloc);
+    let mut rest = group;
+    for leaf in kinds {
+        let (part, others) = rest.split(space, leaf.condition)?;
+        let made = answered_part(alloc, site, space, part, taken, leaf.value, answers)?;
+        outcomes.append(made)?;
+        rest = others;
+    }
+    Ok(outcomes)
+}
+
+/// Does at each configuration of a group what the answer there says, with so many operands taken off: ends the run, raises,
+/// pushes a value and goes past the instruction, or goes to a position. The group is divided by the kinds of the answers.
+pub fn carry_out<S: Space>(
+    alloc: Global,
+    site: &Site,
+    space: &mut S,
+    group: Group<S>,
+    taken: usize,
+    answers: &Cond<Answer, S>,
+) -> Result<Outcomes<S>, SpaceFault>
+    requires ready { IsReady site.now (S.sets space.old) group taken answers.now }
+    requires scope { answers.now.scope ≡ path_of group }
+    ensures extends { Extends (S.sets space.old) (S.sets space.new) }
+    ensures gives { IfOk result (λ r. (heap : HeapView S S.Id) → AreHeld (S.sets space.old) heap (path_of group) answers.now → GivesAt site.now.program.now (answered_by site.now taken (S.sets space.old) answers.now) (S.sets space.old) (S.sets space.new) group r.items.items heap) }
+{
+    let kinds = answers.map(space, kind)?;
+    let outcomes = answered_parts(alloc, site, space, group, taken, kinds.leaves(), answers)?;
+    Ok(outcomes)
+}

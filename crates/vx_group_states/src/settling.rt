@@ -1,0 +1,126 @@
+//! Operands that have to fit in a method's greatest stack.
+
+ghost use Rattle.std.specs.Prelude.{◌≡◌, ◌+◌, ◌<◌, ◌^◌, Some, IfOk, Bool, List, length, nat_le, true};
+ghost use Rattle.std.specs.Ordering.{bool_cmp, nat_cmp};
+ghost use Rattle.vx_space.specs.Sets.{Extends};
+ghost use Rattle.vx_cond.specs.Cond.{IsCond, cond_at};
+ghost use Rattle.vx_cond.specs.Leaves.{AreLeaves};
+ghost use Rattle.vx_cond.specs.Row.{IsRow};
+ghost use Rattle.vx_cond.specs.Slots.{slots_at};
+ghost use Rattle.vx_value.specs.Slot.{slot_cmp};
+ghost use Rattle.vx_group.specs.Group.{IsGroup, path_of};
+ghost use Rattle.vx_heap.specs.Heap.{HeapView};
+ghost use Rattle.vx_java.specs.Machine.{go, illegal as illegal_of, settle as settle_of, when};
+ghost use Rattle.vx_group_states.specs.Sites.{Gives, GivesAt, Cover, HasPast, here, settled_by};
+ghost use Rattle.vx_group_states.specs.Widths.{slot_width, slots_size};
+
+use crate::endings::{illegal, pass};
+use crate::site::Site;
+use std::alloc::Global;
+use vx_cond::{Cond, Leaf, Row};
+use vx_group::Group;
+use vx_outcome::Outcomes;
+use vx_space::{Space, SpaceFault};
+use vx_value::Slot;
+
+/// How many words a slot takes on the operand stack: a long two, any other one (JVMS 2.6.2).
+fn width(slot: Slot) -> u64
+    ensures { result ≡ slot_width slot }
+{
+    match slot {
+        Slot::Long(_) => 2,
+        _ => 1,
+    }
+}
+
+/// How many words the operands take, at each configuration of the scope, for fewer than 2^32 operands.
+pub fn stack_size<S: Space>(
+    alloc: Global,
+    space: &mut S,
+    stack: &Row<Slot, S>,
+) -> Result<Cond<u64, S>, SpaceFault>
+    requires row { IsRow slot_cmp (S.sets space.old) stack.now }
+    requires few { length stack.now.conds < 2 ^ 32 }
+    ensures extends { Extends (S.sets space.old) (S.sets space.new) }
+    ensures cond { IfOk result (IsCond nat_cmp (S.sets space.new)) }
+    ensures scope { IfOk result (λ r. r.scope ≡ stack.now.scope) }
+    ensures at { IfOk result (λ r. (c : List Bool) → (S.sets space.old).test stack.now.scope c ≡ true → cond_at (S.sets space.new) r c ≡ Some (slots_size (slots_at (S.sets space.old) stack.now c))) }
+{
+    let mut total = Cond::one(alloc, space, 0, stack.scope())?;
+    for i in 0..stack.len() {
+        let more = |n: u64, slot: Slot| -> u64
+            ensures { n + 2 < 2 ^ 64 → result ≡ n + slot_width slot }
+        { n.saturating_add(width(slot)) };
+        total = total.zip(space, stack.get(i), more)?;
+    }
+    Ok(total)
+}
+
+/// A part of a group in which the operands fit, or in which they don't.
+fn settled_part<S: Space>(
+    alloc: Global,
+    site: &Site,
+    space: &S,
+    part: Group<S>,
+    fits: bool,
+) -> Result<Outcomes<S>, SpaceFault>
+    requires group { IsGroup (S.sets space.now) part }
+    requires past { HasPast site.now part }
+    ensures { IfOk result (λ r. Gives site.now.program.now (λ s. when fits (go (here site.now s) s.top.operands) (illegal_of (here site.now s))) (S.sets space.now) (S.sets space.now) part r.items.items) }
+{
+    if !fits {
+        let ended = illegal(alloc, site.program, &part)?;
+        return Ok(ended);
+    }
+    let outcomes = pass(alloc, site, space, part)?;
+    Ok(outcomes)
+}
+
+/// Goes past the instruction where the operands fit in the method's greatest stack, and ends the runs elsewhere (JVMS
+/// 4.7.3).
+pub fn settle<S: Space>(
+    alloc: Global,
+    site: &Site,
+    space: &mut S,
+    group: Group<S>,
+) -> Result<Outcomes<S>, SpaceFault>
+    requires group { IsGroup (S.sets space.old) group }
+    requires past { HasPast site.now group }
+    ensures extends { Extends (S.sets space.old) (S.sets space.new) }
+    ensures gives { IfOk result (λ r. Gives site.now.program.now (λ s. settle_of (here site.now s) s.top.operands) (S.sets space.old) (S.sets space.new) group r.items.items) }
+{
+    let room = u64::from(site.code.max_stack);
+    let sizes = stack_size(alloc, space, &group.top_frame().stack)?;
+    let is_within = |n: u64| -> bool
+        ensures { result ≡ nat_le n room }
+    { n <= room };
+    let fits = sizes.map(space, is_within)?;
+    let outcomes = settled_parts(alloc, site, space, group, fits.leaves())?;
+    Ok(outcomes)
+}
+
+/// The parts of a group in which the operands fit, and in which they don't.
+fn settled_parts<S: Space>(
+    alloc: Global,
+    site: &Site,
+    space: &mut S,
+    group: Group<S>,
+    fits: &[Leaf<bool, S>],
+) -> Result<Outcomes<S>, SpaceFault>
+    requires group { IsGroup (S.sets space.old) group }
+    requires past { HasPast site.now group }
+    requires fits { AreLeaves bool_cmp (S.sets space.old) fits.now }
+    requires cover { Cover (S.sets space.old) (path_of group) fits.now }
+    ensures extends { Extends (S.sets space.old) (S.sets space.new) }
+    ensures gives { IfOk result (λ r. (heap : HeapView S S.Id) → GivesAt site.now.program.now (λ _. settled_by site.now (S.sets space.old) fits.now) (S.sets space.old) (S.sets space.new) group r.items.items heap) }
+{
+    let mut outcomes = Outcomes::new(alloc);
+    let mut rest = group;
+    for leaf in fits {
+        let (part, others) = rest.split(space, leaf.condition)?;
+        let made = settled_part(alloc, site, space, part, leaf.value)?;
+        outcomes.append(made)?;
+        rest = others;
+    }
+    Ok(outcomes)
+}

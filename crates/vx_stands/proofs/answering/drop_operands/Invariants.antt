@@ -1,5 +1,0 @@
-use Rattle.vx_stands.proofs.AnswerLaws.{IsDropping}
-use Rattle.vx_stands.proofs.answering.drop_operands.Given as goal
-
-abbrev pub invariant-loop-operand : goal.invariant-loop-operand
-invariant-loop-operand g l = IsDropping (g.S.Space.sets l.space) l.initial.stack l.stack l._operand
