@@ -10,7 +10,7 @@ In README.md, CONTRIBUTING.md and docs/*.md each of these has to be there:
 - a word in backquotes: in the crates, in crates.txt, or in a script;
 - words in backquotes behind a crate and a colon: in that crate;
 - words in backquotes in the last column of a table that has crates in its first column: in one of those crates;
-- the words behind a .rt file in a block of code: as functions of that file.
+- the words behind a .rt file in a block of code: as functions or types of that file.
 
 What isn't there is printed, and the status is then 1.
 """
@@ -146,8 +146,8 @@ def block_faults(lines, sources):
             elif path.endswith('.rt') and path.split('/')[0] in sources.crates:
                 code = read('crates/' + path)
                 for name in (word.strip(',') for word in spans[at + 1:]):
-                    if not re.search(r'\bfn %s\b' % re.escape(name), code):
-                        yield 'no function %s in %s' % (name, path)
+                    if not re.search(r'\b(fn|struct|enum|trait) %s\b' % re.escape(name), code):
+                        yield 'no %s in %s' % (name, path)
 
 
 def faults_of(document, sources):
