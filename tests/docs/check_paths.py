@@ -69,11 +69,12 @@ class Sources:
     def is_path(self, text):
         """Whether a text has the form of a path of the repository."""
         head = text.split('/')[0]
-        return '/' in text and head in self.crates.union(self.top, INNER) and ' ' not in text
+        is_head = head.startswith('vx_') or head in self.crates.union(self.top, INNER)
+        return '/' in text and is_head and ' ' not in text
 
     def is_there(self, path):
         head = path.split('/')[0]
-        if head in self.crates:
+        if head.startswith('vx_') or head in self.crates:
             path = 'crates/' + path
         elif head in INNER:
             path = 'crates/*/' + path
