@@ -12,7 +12,7 @@ use vx_class::ClassFile;
 use vx_list::Items;
 
 /// The first core classes, and for each of them and each of its methods the number of a native one.
-#[derive(Debug, Drop)]
+#[derive(Drop)]
 pub struct Draft {
     pub classes: Vec<ClassFile>,
     pub natives: Vec<Items<u32>>,

@@ -1,4 +1,3 @@
-pub mod ReferenceLaws
 pub mod Yes
 pub mod States
 pub mod Climbing

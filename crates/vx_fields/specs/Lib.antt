@@ -1,4 +1,3 @@
-pub mod References
 pub mod Changing
 pub mod Initialising
 pub mod Statics

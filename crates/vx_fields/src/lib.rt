@@ -4,12 +4,10 @@
 
 pub mod initialising;
 mod operands;
-pub mod references;
 pub mod statics;
 pub mod stopping;
 mod unresolved;
 
 pub use initialising::{Mark, Readiness, make_ready, where_yes};
-pub use references::{FieldReference, field_reference, sort_of};
 pub use statics::{attempt, named_member};
 pub use stopping::{ended_part, stop_others};

@@ -18,12 +18,11 @@ ghost use Rattle.vx_group_states.specs.Sites.{Gives, GivesAt, HasPast, here};
 ghost use Rattle.vx_families.specs.Attempts.{AttemptsBy, IsAttemptBy, IsGiven};
 ghost use Rattle.vx_families.specs.Bounds.{IsBounded};
 ghost use Rattle.vx_fields.specs.Changing.{IsChanged};
-ghost use Rattle.vx_fields.specs.References.{IsFieldReference};
+ghost use Rattle.vx_references.specs.Fields.{IsFieldReference};
 ghost use Rattle.vx_fields.specs.Statics.{IsRunning, got, is_of_statics, keeps_option, stored, top_of};
 
 use crate::initialising::make_ready;
 use crate::operands::{narrowed_top, where_fitting, where_room};
-use crate::references::{FieldReference, field_reference};
 use crate::stopping::stop_others;
 use crate::unresolved::unresolved;
 use std::alloc::Global;
@@ -35,6 +34,7 @@ use vx_java::parts::{class_of_method, name_of_method};
 use vx_java::{MemberReference, Operation, member};
 use vx_link::Program;
 use vx_outcome::Outcomes;
+use vx_references::{FieldReference, field_reference};
 use vx_space::{Space, SpaceFault};
 use vx_value::{ClassId, FieldId, MethodId};
 

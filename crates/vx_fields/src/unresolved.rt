@@ -7,15 +7,15 @@ ghost use Rattle.vx_java.specs.Machine.{Outcome as PlainOutcome};
 ghost use Rattle.vx_java.specs.Named.{in_bytes};
 ghost use Rattle.vx_space.specs.Sets.{Sets};
 ghost use Rattle.vx_group_states.specs.Sites.{Gives, here};
-ghost use Rattle.vx_fields.specs.References.{by_reference, is_ending, is_found};
+ghost use Rattle.vx_references.specs.Fields.{by_reference, is_ending, is_found};
 
-use crate::references::FieldReference;
 use std::alloc::{AllocError, Global};
 use vx_families::{raise, unsupported};
 use vx_group::Group;
 use vx_group_states::{Site, illegal};
 use vx_java::MemberReference;
 use vx_outcome::Outcomes;
+use vx_references::FieldReference;
 use vx_space::{Space, SpaceFault};
 use vx_value::Name;
 

@@ -10,7 +10,7 @@ use vx_link::Program;
 use vx_value::ClassId;
 
 /// The classes of the first objects, which each program has among its core classes.
-#[derive(Clone, Copy, Debug)]
+#[derive(Clone, Copy)]
 pub struct CoreClasses {
     pub print_stream: ClassId,
     pub integer: ClassId,

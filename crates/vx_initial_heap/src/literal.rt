@@ -11,7 +11,7 @@ use vx_code::text;
 use vx_pool::{Entry, Pool};
 
 /// A string literal by its UTF-16 units, or a class by its name.
-#[derive(Debug, Drop, PartialEq, Eq, Hash)]
+#[derive(Drop, PartialEq, Eq, Hash)]
 pub enum Literal {
     Text(Vec<u16>),
     Class(Vec<u8>),

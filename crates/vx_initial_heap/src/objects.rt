@@ -17,7 +17,7 @@ use vx_link::Program;
 use vx_value::{ClassId, Slot, TextTable};
 
 /// A first object, with its one cell or without cells. The array for main has no elements, so it has no cells either.
-#[derive(Clone, Copy, Debug)]
+#[derive(Clone, Copy)]
 pub struct FirstObject {
     pub class: ClassId,
     pub cell: Option<Slot>,

@@ -19,7 +19,7 @@ use vx_pool::{Entry, Pool};
 use vx_value::Slot;
 
 /// What a static field begins with: one value at each configuration, or that of an option as an int.
-#[derive(Clone, Copy, Debug)]
+#[derive(Clone, Copy)]
 pub enum FirstStatic {
     Same(Slot),
     OfOption(u32),
@@ -83,7 +83,7 @@ fn plain_static(
     if field.constant == 0 {
         return Ok(default_of(field.descriptor.bytes()));
     }
-    match program.classes.get(field.class.0 as usize) {
+    match program.class(field.class) {
         Some(class) => constant_of(alloc, program, listed, &class.pool, field.constant),
         None => Ok(Slot::Top),
     }

@@ -19,7 +19,7 @@ use Rattle.vx_space.specs.Sets.{Sets}
 use Rattle.vx_value.specs.declared.slot.Slot.{Slot}
 use Rattle.vx_value.specs.declared.slot.Slot.TheVariants.{Top, Int, Long, Null, Ref, Text}
 use Rattle.vx_invoke.specs.Called.{IsEntry, accepts, by_selected, call_of, called, is_enter, receiver_of}
-use Rattle.vx_invoke.specs.Named.{println}
+use Rattle.vx_references.specs.Calls.{println}
 use Rattle.vx_invoke.specs.declared.call.Call.{Call}
 use Rattle.vx_invoke.specs.declared.call.Call.TheVariants as call
 use Rattle.vx_invoke.specs.declared.call.Receiver.TheVariants as receiver

@@ -43,8 +43,8 @@ use Rattle.vx_value.specs.declared.slot.Slot.{Slot}
 use Rattle.vx_value.specs.declared.slot.Slot.TheVariants.{Top, Ref}
 use Rattle.vx_value.specs.Slot.{slot_cmp}
 use Rattle.vx_invoke.specs.Called.{AreReceivers, HasReceiver, IsCalling, IsEntry, IsRunning, SomeEnters, call_of, called, is_enter, operand_at, receiver_at, receiver_of}
-use Rattle.vx_invoke.specs.Named.{IsReference, by_reference, println, referenced}
-use Rattle.vx_invoke.specs.declared.reference.Reference.{Reference}
+use Rattle.vx_references.specs.Calls.{IsMethodReference, by_reference, println, referenced}
+use Rattle.vx_references.specs.declared.calls.MethodReference.{MethodReference}
 use Rattle.vx_invoke.specs.Receivers.{receiver_cmp}
 use Rattle.vx_invoke.specs.declared.call.Call.{Call}
 use Rattle.vx_invoke.specs.declared.call.Call.TheVariants as call
@@ -271,14 +271,14 @@ some_at P (Some b) a e h = let same : b ≡ a = cc in subst P same h
 
 -- ---- by what the name comes to
 
-pub IsReference-is : (p : Program) (a b : Reference) → a ≡ b → IsReference p a → IsReference p b
-IsReference-is p a b e h =
-    let P : Reference → Type 0 = λ r. IsReference p r in
+pub IsMethodReference-is : (p : Program) (a b : MethodReference) → a ≡ b → IsMethodReference p a → IsMethodReference p b
+IsMethodReference-is p a b e h =
+    let P : MethodReference → Type 0 = λ r. IsMethodReference p r in
     subst P e h
 
-pub referenced-gives : {S I : Type 0} (site : Site) {s0 : Sets I} (s1 : Sets I) (heap : HeapView S I) (group : GroupView S I) (reference : Reference) (outcomes : List (Outcome S I)) → IsReference site.program.now reference → GivesAt site.program.now (λ _ _ s. by_reference (here site s) reference) s0 s1 group outcomes heap → GivesAt site.program.now (λ _ _ s. referenced (here site s)) s0 s1 group outcomes heap
+pub referenced-gives : {S I : Type 0} (site : Site) {s0 : Sets I} (s1 : Sets I) (heap : HeapView S I) (group : GroupView S I) (reference : MethodReference) (outcomes : List (Outcome S I)) → IsMethodReference site.program.now reference → GivesAt site.program.now (λ _ _ s. by_reference (here site s) reference) s0 s1 group outcomes heap → GivesAt site.program.now (λ _ _ s. referenced (here site s)) s0 s1 group outcomes heap
 referenced-gives site {s0 = s0} s1 heap group reference outcomes r gives =
     GivesAt-before site.program.now s1 group heap (λ _ _ s. by_reference (here site s) reference) (λ _ _ s. referenced (here site s)) outcomes (Extends-refl s0) (λ tree h s c t. sym (r.decides (here site (state_at s0 heap tree group c)))) gives
 
-pub referenced-enters : {S I : Type 0} (site : Site) (sets : Sets I) (heap : HeapView S I) (group : GroupView S I) (reference : Reference) → IsReference site.program.now reference → SomeEnters site sets heap group (λ s. by_reference (here site s) reference) → SomeEnters site sets heap group (λ s. referenced (here site s))
+pub referenced-enters : {S I : Type 0} (site : Site) (sets : Sets I) (heap : HeapView S I) (group : GroupView S I) (reference : MethodReference) → IsMethodReference site.program.now reference → SomeEnters site sets heap group (λ s. by_reference (here site s) reference) → SomeEnters site sets heap group (λ s. referenced (here site s))
 referenced-enters site sets heap group reference r some = SomeEnters-as site sets heap group (λ s. by_reference (here site s) reference) (λ s. referenced (here site s)) (λ s. sym (r.decides (here site s))) some

@@ -1,4 +1,3 @@
-pub mod ReferenceLaws
 pub mod Calls
 pub mod Groups
 pub mod Rows

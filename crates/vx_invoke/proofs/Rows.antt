@@ -29,7 +29,8 @@ use Rattle.vx_group_states.specs.Sites.{GivesAt, here}
 use Rattle.vx_group_states.specs.Stands.{state_at}
 use Rattle.vx_group_states.specs.declared.site.Site.{Site}
 use Rattle.vx_invoke.specs.Called.{IsEntry, IsRunning, SomeEnters}
-use Rattle.vx_invoke.specs.Named.{is_built_call, pool_of, println, referenced}
+use Rattle.vx_invoke.specs.Named.{is_built_call, pool_of}
+use Rattle.vx_references.specs.Calls.{println, referenced}
 
 -- ---- the instruction
 

@@ -11,7 +11,7 @@ use vx_link::Program;
 use vx_value::{ClassId, Exact, MethodId, Slot};
 
 /// The operand under the argument, where the argument is an int.
-#[derive(Clone, Copy, Debug, PartialEq, Eq, PartialOrd, Ord)]
+#[derive(Clone, Copy, PartialEq, Eq, PartialOrd, Ord)]
 pub enum Receiver {
     /// The argument is no int, or no reference is under it.
     Illegal,
@@ -27,7 +27,7 @@ impl Exact for Receiver {
 }
 
 /// What a call of a method comes to on an object of a class.
-#[derive(Clone, Copy, Debug)]
+#[derive(Clone, Copy)]
 pub enum Call {
     /// The object is not of the named class.
     Illegal,

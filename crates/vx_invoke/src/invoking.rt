@@ -10,10 +10,10 @@ ghost use Rattle.vx_java.specs.declared.operation.Mode.TheVariants.{Virtual};
 ghost use Rattle.vx_group_states.specs.Sites.{Gives, GivesAt, here, IsSomewhere};
 ghost use Rattle.vx_families.specs.Attempts.{IsAttemptBy, IsGiven, MeetsUnbuilt};
 ghost use Rattle.vx_invoke.specs.Called.{AreReceivers, HasReceiver, IsCalling, IsRunning, SomeEnters, called, is_enter};
-ghost use Rattle.vx_invoke.specs.Named.{is_built_call, pool_of, println, referenced};
+ghost use Rattle.vx_invoke.specs.Named.{is_built_call, pool_of};
+ghost use Rattle.vx_references.specs.Calls.{println, referenced};
 
 use crate::call::{Call, Receiver, call_of, receiver_of};
-use crate::reference::{Reference, method_name, println_class, println_reference, println_text};
 use std::alloc::Global;
 use vx_cond::Leaf;
 use vx_families::{AttemptFault, raise, unsupported};
@@ -22,6 +22,7 @@ use vx_group_states::{Site, illegal};
 use vx_heap::Heap;
 use vx_java::Operation;
 use vx_outcome::{Outcome, Outcomes};
+use vx_references::{MethodReference, method_name, println_class, println_reference, println_text};
 use vx_space::{Space, SpaceFault};
 use vx_value::{ClassId, MethodId};
 
@@ -189,21 +190,21 @@ fn referenced_call<S: Space>(
     ensures enters { IfOk result (λ r. IsNone r → SomeEnters site.now (S.sets space.old) heap.now group (λ s. referenced (here site.now s))) }
 {
     match println_reference(site.program) {
-        Reference::Found { named, resolved } => {
+        MethodReference::Found { named, resolved } => {
             let made = instance_call(alloc, site, space, heap, group, named, resolved)?;
             Ok(made)
         }
-        Reference::NoClass => {
+        MethodReference::NoClass => {
             let name = println_class(alloc)?;
             let ended = unsupported(alloc, site.program, &group, CLASS_WORD, name)?;
             Ok(Some(ended))
         }
-        Reference::NoMethod => {
+        MethodReference::NoMethod => {
             let name = println_text(alloc)?;
             let ended = unsupported(alloc, site.program, &group, METHOD_WORD, name)?;
             Ok(Some(ended))
         }
-        Reference::WrongKind => {
+        MethodReference::WrongKind => {
             let raised = raise(
                 alloc,
                 site.program,

@@ -3,8 +3,6 @@
 
 pub mod call;
 pub mod invoking;
-pub mod reference;
 
 pub use call::{Call, Receiver};
 pub use invoking::attempt;
-pub use reference::Reference;

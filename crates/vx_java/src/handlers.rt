@@ -19,7 +19,7 @@ fn name_of_entry(program: &Program, class: ClassId, index: u16) -> &[u8]
     ensures name { result.now ≡ class_name (class_at program.now class.0).pool index }
     ensures few { length result.now < 2 ^ 16 }
 {
-    let Some(class) = program.classes.get(class.0 as usize) else {
+    let Some(class) = program.class(class) else {
         return &[];
     };
     match class_text(&class.pool, index) {
@@ -77,7 +77,7 @@ fn handler_in(
 fn catches_of(program: &Program, method: MethodId) -> &[Catch]
     ensures { result.now ≡ catches_of (method_at program.now method.0).code }
 {
-    match program.methods.get(method.0 as usize) {
+    match program.method(method) {
         Some(method) => match &method.code {
             Some(code) => code.catches.as_slice(),
             None => &[],

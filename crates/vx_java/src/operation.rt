@@ -3,7 +3,7 @@
 use vx_value::{IntOp, Narrow, ShiftOp};
 
 /// The sort of a value: an int, a long or a reference.
-#[derive(Clone, Copy, Debug, PartialEq, Eq)]
+#[derive(Clone, Copy, PartialEq, Eq)]
 pub enum Sort {
     Int,
     Long,
@@ -11,7 +11,7 @@ pub enum Sort {
 }
 
 /// The elements of the arrays that an array load or store works on. `Bytes` are those of `boolean` arrays too.
-#[derive(Clone, Copy, Debug, PartialEq, Eq)]
+#[derive(Clone, Copy)]
 pub enum Element {
     Ints,
     Longs,
@@ -22,7 +22,7 @@ pub enum Element {
 }
 
 /// How a stack form moves values.
-#[derive(Clone, Copy, Debug, PartialEq, Eq)]
+#[derive(Clone, Copy)]
 pub enum Shuffle {
     Pop,
     Pop2,
@@ -36,7 +36,7 @@ pub enum Shuffle {
 }
 
 /// A test of an int against 0, or of two ints.
-#[derive(Clone, Copy, Debug, PartialEq, Eq)]
+#[derive(Clone, Copy)]
 pub enum Test {
     Eq,
     Ne,
@@ -47,7 +47,7 @@ pub enum Test {
 }
 
 /// The four calls.
-#[derive(Clone, Copy, Debug, PartialEq, Eq)]
+#[derive(Clone, Copy)]
 pub enum Mode {
     Virtual,
     Special,
@@ -56,7 +56,7 @@ pub enum Mode {
 }
 
 /// What an instruction does, with its operands. The index of a pool entry is that of the file, a jump is relative to the opcode.
-#[derive(Clone, Copy, Debug)]
+#[derive(Clone, Copy)]
 pub enum Operation {
     Nop,
     PushNull,

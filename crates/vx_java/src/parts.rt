@@ -19,7 +19,7 @@ pub fn is_array(program: &Program, class: ClassId) -> bool
 pub fn superclass_of(program: &Program, class: ClassId) -> Option<ClassId>
     ensures { result ≡ (class_at program.now class.0).superclass }
 {
-    match program.classes.get(class.0 as usize) {
+    match program.class(class) {
         Some(class) => class.superclass,
         None => None,
     }
@@ -29,7 +29,7 @@ pub fn superclass_of(program: &Program, class: ClassId) -> Option<ClassId>
 pub fn interfaces_of(program: &Program, class: ClassId) -> &[ClassId]
     ensures { result.now ≡ (class_at program.now class.0).interfaces }
 {
-    match program.classes.get(class.0 as usize) {
+    match program.class(class) {
         Some(class) => class.interfaces.as_slice(),
         None => &[],
     }
@@ -39,7 +39,7 @@ pub fn interfaces_of(program: &Program, class: ClassId) -> &[ClassId]
 pub fn fields_of(program: &Program, class: ClassId) -> &[FieldId]
     ensures { result.now ≡ (class_at program.now class.0).fields }
 {
-    match program.classes.get(class.0 as usize) {
+    match program.class(class) {
         Some(class) => class.fields.as_slice(),
         None => &[],
     }
@@ -49,7 +49,7 @@ pub fn fields_of(program: &Program, class: ClassId) -> &[FieldId]
 pub fn name_of_field(program: &Program, field: FieldId) -> &[u8]
     ensures { result.now ≡ (field_at program.now field.0).name }
 {
-    match program.fields.get(field.0 as usize) {
+    match program.field(field) {
         Some(field) => field.name.bytes(),
         None => &[],
     }
@@ -59,7 +59,7 @@ pub fn name_of_field(program: &Program, field: FieldId) -> &[u8]
 pub fn descriptor_of_field(program: &Program, field: FieldId) -> &[u8]
     ensures { result.now ≡ (field_at program.now field.0).descriptor }
 {
-    match program.fields.get(field.0 as usize) {
+    match program.field(field) {
         Some(field) => field.descriptor.bytes(),
         None => &[],
     }
@@ -69,7 +69,7 @@ pub fn descriptor_of_field(program: &Program, field: FieldId) -> &[u8]
 pub fn is_interface(program: &Program, class: ClassId) -> bool
     ensures { result ≡ is_interface program.now class.0 }
 {
-    match program.classes.get(class.0 as usize) {
+    match program.class(class) {
         Some(class) => class.flags.contains(AccessFlags::INTERFACE),
         None => false,
     }
@@ -79,7 +79,7 @@ pub fn is_interface(program: &Program, class: ClassId) -> bool
 pub fn has_initialiser(program: &Program, class: ClassId) -> bool
     ensures { result ≡ (class_at program.now class.0).own_initialiser }
 {
-    match program.classes.get(class.0 as usize) {
+    match program.class(class) {
         Some(class) => class.own_initialiser,
         None => false,
     }
@@ -89,7 +89,7 @@ pub fn has_initialiser(program: &Program, class: ClassId) -> bool
 pub fn name_of_class(program: &Program, class: ClassId) -> &[u8]
     ensures { result.now ≡ (class_at program.now class.0).name }
 {
-    match program.classes.get(class.0 as usize) {
+    match program.class(class) {
         Some(class) => class.name.bytes(),
         None => &[],
     }
@@ -99,7 +99,7 @@ pub fn name_of_class(program: &Program, class: ClassId) -> &[u8]
 pub fn class_of_method(program: &Program, method: MethodId) -> ClassId
     ensures { result ≡ (method_at program.now method.0).class }
 {
-    match program.methods.get(method.0 as usize) {
+    match program.method(method) {
         Some(method) => method.class,
         None => ClassId(0),
     }
@@ -109,7 +109,7 @@ pub fn class_of_method(program: &Program, method: MethodId) -> ClassId
 pub fn name_of_method(program: &Program, method: MethodId) -> &[u8]
     ensures { result.now ≡ (method_at program.now method.0).name }
 {
-    match program.methods.get(method.0 as usize) {
+    match program.method(method) {
         Some(method) => method.name.bytes(),
         None => &[],
     }
@@ -119,7 +119,7 @@ pub fn name_of_method(program: &Program, method: MethodId) -> &[u8]
 pub fn descriptor_of_method(program: &Program, method: MethodId) -> &[u8]
     ensures { result.now ≡ (method_at program.now method.0).descriptor }
 {
-    match program.methods.get(method.0 as usize) {
+    match program.method(method) {
         Some(method) => method.descriptor.bytes(),
         None => &[],
     }
@@ -129,7 +129,7 @@ pub fn descriptor_of_method(program: &Program, method: MethodId) -> &[u8]
 pub fn flags_of_method(program: &Program, method: MethodId) -> AccessFlags
     ensures { result ≡ (method_at program.now method.0).flags }
 {
-    match program.methods.get(method.0 as usize) {
+    match program.method(method) {
         Some(method) => method.flags,
         None => AccessFlags(0),
     }
@@ -139,7 +139,7 @@ pub fn flags_of_method(program: &Program, method: MethodId) -> AccessFlags
 pub fn methods_of(program: &Program, class: ClassId) -> &[MethodId]
     ensures { result.now ≡ (class_at program.now class.0).methods }
 {
-    match program.classes.get(class.0 as usize) {
+    match program.class(class) {
         Some(class) => class.methods.as_slice(),
         None => &[],
     }

@@ -9,7 +9,7 @@ use vx_link::class_name;
 use vx_pool::{Entry, Pool};
 
 /// A field or a method as an entry of a pool names it.
-#[derive(Clone, Copy, Debug)]
+#[derive(Clone, Copy)]
 pub struct MemberReference<'a> {
     /// The class that is named, or the descriptor of an array.
     pub class: &'a [u8],

@@ -70,6 +70,38 @@ fn initialiser_of(class: &ClassFile, first: u32) -> MethodId
     MethodId(first + place as u32)
 }
 
+/// The name of a class and its direct superinterfaces.
+fn name_and_interfaces(
+    alloc: Global,
+    numbers: &ClassNumbers,
+    class: &ClassFile,
+) -> Result<(Name, Items<ClassId>), AllocError>
+    requires { length numbers.now.folder + length numbers.now.core < 2 ^ 16 }
+    ensures name { IfOk result (λ made. made.0 ≡ name_of class.now) }
+    ensures interfaces { IfOk result (λ made. made.1 ≡ map (class_id (numbers.now.folder ++ numbers.now.core)) (interface_names class.now)) }
+{
+    let name = Name::of(alloc, name_of(class))?;
+    let interfaces = interfaces_of(alloc, numbers, class)?;
+    Ok((name, interfaces))
+}
+
+/// The numbers of the methods and of the fields of a class, from these on.
+fn member_ids(
+    alloc: Global,
+    class: &ClassFile,
+    first_method: u32,
+    first_field: u32,
+) -> Result<(Items<MethodId>, Items<FieldId>), AllocError>
+    requires methods { first_method + length class.now.methods < 2 ^ 32 }
+    requires fields { first_field + length class.now.fields < 2 ^ 32 }
+    ensures methods { IfOk result (λ made. made.0 ≡ method_ids first_method (length class.now.methods)) }
+    ensures fields { IfOk result (λ made. made.1 ≡ field_ids first_field (length class.now.fields)) }
+{
+    let methods = method_ids(alloc, first_method, class.methods.len())?;
+    let fields = field_ids(alloc, first_field, class.fields.len())?;
+    Ok((methods, fields))
+}
+
 /// A class of a program, whose methods and fields are numbered from these on, and its methods, which are still to be linked.
 pub fn linked_class(
     alloc: Global,
@@ -84,13 +116,15 @@ pub fn linked_class(
     ensures class { IfOk result (λ linked. linked.0 ≡ linked_class (numbers.now.folder ++ numbers.now.core) class first_method first_field) }
     ensures methods { IfOk result (λ linked. linked.1 ≡ class.methods) }
 {
+    let (name, interfaces) = name_and_interfaces(alloc, numbers, &class)?;
+    let (methods, fields) = member_ids(alloc, &class, first_method, first_field)?;
     let linked = LinkedClass {
-        name: Name::of(alloc, name_of(&class))?,
+        name,
         superclass: superclass_of(numbers, &class),
-        interfaces: interfaces_of(alloc, numbers, &class)?,
+        interfaces,
         flags: AccessFlags(class.flags),
-        methods: method_ids(alloc, first_method, class.methods.len())?,
-        fields: field_ids(alloc, first_field, class.fields.len())?,
+        methods,
+        fields,
         initialiser: initialiser_of(&class, first_method),
         own_initialiser: own_initialiser(&class).is_some(),
         pool: class.pool,

@@ -19,7 +19,7 @@ use vx_value::{ClassId, FieldId};
 fn is_static(program: &Program, field: FieldId) -> bool
     ensures { result ≡ is_static_field program.now field.0 }
 {
-    match program.fields.get(field.0 as usize) {
+    match program.field(field) {
         Some(field) => field.flags.contains(AccessFlags::STATIC),
         None => false,
     }
@@ -85,7 +85,7 @@ fn number_at(numbers: &[u32], place: u32) -> u32
 fn superclass_of(program: &Program, class: ClassId) -> Option<ClassId>
     ensures { option_map (λ c. c.0) result ≡ superclass_of program.now class.0 }
 {
-    match program.classes.get(class.0 as usize) {
+    match program.class(class) {
         Some(class) => class.superclass,
         None => None,
     }
@@ -134,7 +134,7 @@ fn fields_before(program: &Program, class: ClassId, before: FieldId) -> u32
     ensures count { result ≡ fields_before program.now class.0 before.0 }
     ensures few { result < 65536 }
 {
-    match program.classes.get(class.0 as usize) {
+    match program.class(class) {
         Some(class) => {
             let count = count_before(program, class.fields.as_slice(), before);
             count as u32

@@ -1,5 +1,7 @@
 //! A linked program and its parts, each named by its number.
 
+ghost use Rattle.std.specs.Prelude.{◌≡◌, option_copied, slice_get};
+
 use crate::access_flags::AccessFlags;
 use vx_class::Code;
 use vx_list::Items;
@@ -8,7 +10,7 @@ use vx_value::{ClassId, FieldId, MethodId, Name};
 
 /// A program: the classes of the folder and then the core classes, with their methods and fields numbered through. A number is
 /// a place in its list.
-#[derive(Debug, Drop)]
+#[derive(Drop)]
 pub struct Program {
     pub classes: Items<LinkedClass>,
     pub methods: Items<LinkedMethod>,
@@ -19,8 +21,31 @@ pub struct Program {
     pub options: Items<Option<FieldId>>,
 }
 
+impl Program {
+    /// The class of a number, or `None` where the program has no such class.
+    pub fn class(&self, class: ClassId) -> Option<&LinkedClass>
+        ensures { option_copied result ≡ slice_get self.now.classes class.0 }
+    {
+        self.classes.get(class.0 as usize)
+    }
+
+    /// The method of a number, or `None` where the program has no such method.
+    pub fn method(&self, method: MethodId) -> Option<&LinkedMethod>
+        ensures { option_copied result ≡ slice_get self.now.methods method.0 }
+    {
+        self.methods.get(method.0 as usize)
+    }
+
+    /// The field of a number, or `None` where the program has no such field.
+    pub fn field(&self, field: FieldId) -> Option<&LinkedField>
+        ensures { option_copied result ≡ slice_get self.now.fields field.0 }
+    {
+        self.fields.get(field.0 as usize)
+    }
+}
+
 /// A class or an interface of a program.
-#[derive(Debug, Drop)]
+#[derive(Drop)]
 pub struct LinkedClass {
     pub name: Name,
     /// `None` for `java/lang/Object` alone.
@@ -40,7 +65,7 @@ pub struct LinkedClass {
 }
 
 /// A method of a program.
-#[derive(Debug, Drop)]
+#[derive(Drop)]
 pub struct LinkedMethod {
     pub class: ClassId,
     pub name: Name,
@@ -53,7 +78,7 @@ pub struct LinkedMethod {
 }
 
 /// A field of a program.
-#[derive(Debug, Drop)]
+#[derive(Drop)]
 pub struct LinkedField {
     pub class: ClassId,
     pub name: Name,

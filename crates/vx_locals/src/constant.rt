@@ -52,7 +52,7 @@ fn constant_in(pool: &Pool, index: u16) -> Constant
 pub(crate) fn constant_of(program: &Program, class: ClassId, index: u16) -> Constant
     ensures { result ≡ constant_of (entry_of (class_at program.now class.0).pool index) }
 {
-    match program.classes.get(class.0 as usize) {
+    match program.class(class) {
         Some(class) => constant_in(&class.pool, index),
         None => Constant::Unloadable,
     }
@@ -63,7 +63,7 @@ pub(crate) fn text_of(program: &Program, class: ClassId, index: u16) -> &[u8]
     ensures value { result.now ≡ utf8 (class_at program.now class.0).pool index }
     ensures few { length result.now < 2 ^ 16 }
 {
-    match program.classes.get(class.0 as usize) {
+    match program.class(class) {
         Some(class) => text(&class.pool, index).unwrap_or(&[]),
         None => &[],
     }

@@ -3,10 +3,10 @@ use Rattle.vx_desc.specs.Descriptors.{element_at, field_of, type_at}
 use Rattle.vx_link.specs.Names.{member}
 use Rattle.vx_link.specs.Parts.{no_class}
 use Rattle.vx_link.specs.declared.program.LinkedClass.{LinkedClass}
-use Rattle.vx_fields.specs.References.{IsFieldReference}
-use Rattle.vx_fields.specs.declared.references.FieldReference.TheVariants.{NoType}
+use Rattle.vx_references.specs.Fields.{IsFieldReference}
+use Rattle.vx_references.specs.declared.fields.FieldReference.TheVariants.{NoType}
 use Rattle.vx_fields.proofs.Pools.{class_missing, class_of_member, class_there, descriptor_of_member}
-use Rattle.vx_fields.proofs.ReferenceLaws.{no_type}
+use Rattle.vx_references.proofs.FieldLaws.{no_type}
 use Rattle.vx_fields.proofs.statics.static_field.Goals as goal
 
 pub field_reference-requires-clause-class : goal.field_reference-requires-clause-class

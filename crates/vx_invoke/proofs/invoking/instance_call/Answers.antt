@@ -9,7 +9,7 @@ use Rattle.vx_space.proofs.Spaces.{Extends-trans}
 use Rattle.vx_group_states.specs.Sites.{here}
 use Rattle.vx_group_states.proofs.EndingLaws.{GivesAt-before}
 use Rattle.vx_value.specs.Slot.{slot_cmp}
-use Rattle.vx_invoke.specs.Named.{println}
+use Rattle.vx_references.specs.Calls.{println}
 use Rattle.vx_invoke.proofs.Groups.{AreReceivers-zipped, IsCalling-later, SomeEnters-later, few-operands}
 use Rattle.vx_invoke.proofs.invoking.instance_call.Goals as goal
 

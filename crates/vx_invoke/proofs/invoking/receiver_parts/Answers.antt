@@ -6,7 +6,7 @@ use Rattle.vx_java.specs.Calls.{call_instance}
 use Rattle.vx_java.specs.declared.operation.Mode.TheVariants.{Virtual}
 use Rattle.vx_group_states.specs.Sites.{here}
 use Rattle.vx_group_states.proofs.Gathering.{IsGathering-end, IsGathering-inner, IsGathering-rest, IsGathering-start, IsGathering-step, leaf_inside}
-use Rattle.vx_invoke.specs.Named.{println}
+use Rattle.vx_references.specs.Calls.{println}
 use Rattle.vx_invoke.specs.Receivers.{receiver_cmp}
 use Rattle.vx_invoke.proofs.Groups.{HasReceiver-part, IsCalling-part, SomeEnters-part, at_heap, some_at}
 use Rattle.vx_invoke.proofs.invoking.receiver_parts.Goals as goal

@@ -5,7 +5,7 @@ ghost use Rattle.vx_java.specs.Checks.{same_bool, sort_of};
 ghost use Rattle.vx_java.specs.Ids.{HasClassNumbers};
 ghost use Rattle.vx_link.specs.Names.{member};
 ghost use Rattle.vx_link.specs.Parts.{is_static_field};
-ghost use Rattle.vx_fields.specs.References.{IsFieldReference};
+ghost use Rattle.vx_references.specs.Fields.{IsFieldReference};
 
 use bitflags::Flags;
 use vx_desc::{Base, JavaType, field_type};
@@ -15,7 +15,7 @@ use vx_pool::Pool;
 use vx_value::{ClassId, FieldId};
 
 /// What an instruction of a field and its program decide alone (JVMS 5.4.3.2, 6.5).
-#[derive(Clone, Copy, Debug)]
+#[derive(Clone, Copy)]
 pub enum FieldReference {
     /// The class that the instruction names, its field, and the type of the field.
     Found {
@@ -53,7 +53,7 @@ pub fn sort_of(field_type: JavaType) -> Option<Sort>
 fn is_static_field(program: &Program, field: FieldId) -> bool
     ensures { result ≡ is_static_field program.now field.0 }
 {
-    match program.fields.get(field.0 as usize) {
+    match program.field(field) {
         Some(field) => field.flags.contains(AccessFlags::STATIC),
         None => false,
     }

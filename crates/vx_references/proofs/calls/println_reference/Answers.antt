@@ -1,6 +1,6 @@
 use Rattle.std.proofs.Common.{◌∙◌, sym}
-use Rattle.vx_invoke.proofs.ReferenceLaws.{found, static_method}
-use Rattle.vx_invoke.proofs.reference.println_reference.Goals as goal
+use Rattle.vx_references.proofs.CallLaws.{found, static_method}
+use Rattle.vx_references.proofs.calls.println_reference.Goals as goal
 
 pub returns-then-is_static : goal.returns-then-is_static
 returns-then-is_static c = static_method c.args.program.now c.in-Some.named c.in-Some-resolve_method.resolved c.in-Some.ensures (sym c.is_interface.ensures ∙ c.if-is_interface.false) c.in-Some-resolve_method.ensures (sym c.is_static.ensures ∙ c.if-is_static.true)

@@ -1,7 +1,7 @@
 use Rattle.std.proofs.Common.{◌∙◌, sym}
 use Rattle.vx_java.specs.Named.{in_bytes}
-use Rattle.vx_fields.proofs.ReferenceLaws.{disagrees, floating, found, no_class, no_field, no_type}
-use Rattle.vx_fields.proofs.references.field_reference.Goals as goal
+use Rattle.vx_references.proofs.FieldLaws.{disagrees, floating, found, no_class, no_field, no_type}
+use Rattle.vx_references.proofs.fields.field_reference.Goals as goal
 
 pub returns-in_default : goal.returns-in_default
 returns-in_default c = no_type c.args.program.now c.args.pool.now c.args.index c.args.is_static (in_bytes c.member-reference.result) c.member-reference.ensures c.in_default.ensures

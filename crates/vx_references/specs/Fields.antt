@@ -8,8 +8,8 @@ use Rattle.vx_link.specs.Names.{Member, member}
 use Rattle.vx_link.specs.Parts.{is_static_field}
 use Rattle.vx_link.specs.declared.program.Program.{Program}
 use Rattle.vx_pool.specs.declared.pool.Pool.{Pool}
-use Rattle.vx_fields.specs.declared.references.FieldReference.{FieldReference}
-use Rattle.vx_fields.specs.declared.references.FieldReference.TheVariants.{Found, NoType, Floating, NoClass, NoField, Disagrees}
+use Rattle.vx_references.specs.declared.fields.FieldReference.{FieldReference}
+use Rattle.vx_references.specs.declared.fields.FieldReference.TheVariants.{Found, NoType, Floating, NoClass, NoField, Disagrees}
 
 -- what follows for a field that is there, and how all runs end or raise otherwise
 abbrev pub by_reference : Here → Member → FieldReference → (FoundField → Outcome) → Outcome

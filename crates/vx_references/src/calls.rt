@@ -6,7 +6,7 @@ ghost use Rattle.vx_java.specs.Ids.{HasClassNumbers};
 ghost use Rattle.vx_java.specs.Machine.{method_text};
 ghost use Rattle.vx_class.specs.Members.{STATIC};
 ghost use Rattle.vx_link.specs.Parts.{has, method_at};
-ghost use Rattle.vx_invoke.specs.Named.{IsReference, println};
+ghost use Rattle.vx_references.specs.Calls.{IsMethodReference, println};
 
 use bitflags::Flags;
 use std::alloc::{AllocError, Global};
@@ -19,8 +19,8 @@ use vx_link::{AccessFlags, Program};
 use vx_value::{ClassId, MethodId, Name};
 
 /// What a program makes of the name of println of an int.
-#[derive(Clone, Copy, Debug)]
-pub enum Reference {
+#[derive(Clone, Copy)]
+pub enum MethodReference {
     /// The class that is named, and the method that the name is resolved to, which is not static.
     Found { named: ClassId, resolved: MethodId },
     /// The program has no class of the name.
@@ -38,23 +38,23 @@ fn is_static(program: &Program, method: MethodId) -> bool
 }
 
 /// Resolves the name of println of an int.
-pub fn println_reference(program: &Program) -> Reference
+pub fn println_reference(program: &Program) -> MethodReference
     requires { HasClassNumbers program.now }
-    ensures { IsReference program.now result }
+    ensures { IsMethodReference program.now result }
 {
     let Some(named) = class_named(program, b"java/io/PrintStream") else {
-        return Reference::NoClass;
+        return MethodReference::NoClass;
     };
     if is_interface(program, named) {
-        return Reference::WrongKind;
+        return MethodReference::WrongKind;
     }
     let Some(resolved) = resolve_method(program, named, b"println", b"(I)V") else {
-        return Reference::NoMethod;
+        return MethodReference::NoMethod;
     };
     if is_static(program, resolved) {
-        return Reference::WrongKind;
+        return MethodReference::WrongKind;
     }
-    Reference::Found { named, resolved }
+    MethodReference::Found { named, resolved }
 }
 
 /// The name of the class.

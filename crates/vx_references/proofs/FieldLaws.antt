@@ -17,24 +17,9 @@ use Rattle.vx_link.specs.declared.program.Program.{Program}
 use Rattle.vx_pool.specs.declared.pool.Pool.{Pool}
 use Rattle.vx_value.specs.declared.ids.ClassId.{ClassId}
 use Rattle.vx_value.specs.declared.ids.FieldId.{FieldId}
-use Rattle.vx_fields.specs.References.{IsFieldReference, seeing}
-use Rattle.vx_fields.specs.declared.references.FieldReference.TheVariants.{Found, NoType, Floating, NoClass, NoField, Disagrees}
-
-class_some : (o : Option ℕ) (class : ClassId) → Some class ≡ option_map as_class o → o ≡ Some class.0
-class_some None class e = cc
-class_some (Some n) class e = cc
-
-class_none : (o : Option ℕ) → None ≡ option_map as_class o → o ≡ None
-class_none None e = refl
-class_none (Some n) e = cc
-
-field_some : (o : Option ℕ) (field : FieldId) → Some field ≡ option_map as_field o → o ≡ Some field.0
-field_some None field e = cc
-field_some (Some n) field e = cc
-
-field_none : (o : Option ℕ) → None ≡ option_map as_field o → o ≡ None
-field_none None e = refl
-field_none (Some n) e = cc
+use Rattle.vx_references.proofs.Numbers.{class_none, class_some, field_none, field_some}
+use Rattle.vx_references.specs.Fields.{IsFieldReference, seeing}
+use Rattle.vx_references.specs.declared.fields.FieldReference.TheVariants.{Found, NoType, Floating, NoClass, NoField, Disagrees}
 
 pub no_type : (p : Program) (pool : Pool) (i : ℕ) (static : Bool) (m : Member) → m ≡ member pool i → None ≡ field_type m.descriptor → IsFieldReference p pool i static NoType
 no_type p pool i static m e t = record {

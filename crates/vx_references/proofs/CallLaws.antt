@@ -13,16 +13,9 @@ use Rattle.vx_link.specs.Resolution.{is_array_clone, resolve_method}
 use Rattle.vx_link.specs.declared.program.Program.{Program}
 use Rattle.vx_value.specs.declared.ids.ClassId.{ClassId}
 use Rattle.vx_value.specs.declared.ids.MethodId.{MethodId}
-use Rattle.vx_invoke.specs.Named.{IsReference, println, referenced, seeing}
-use Rattle.vx_invoke.specs.declared.reference.Reference.TheVariants.{Found, WrongKind}
-
-class_some : (o : Option ℕ) (class : ClassId) → Some class ≡ option_map as_class o → o ≡ Some class.0
-class_some None class e = cc
-class_some (Some n) class e = cc
-
-method_some : (o : Option ℕ) (method : MethodId) → Some method ≡ option_map as_method o → o ≡ Some method.0
-method_some None method e = cc
-method_some (Some n) method e = cc
+use Rattle.vx_references.proofs.Numbers.{class_some, method_some}
+use Rattle.vx_references.specs.Calls.{IsMethodReference, println, referenced, seeing}
+use Rattle.vx_references.specs.declared.calls.MethodReference.TheVariants.{Found, WrongKind}
 
 and_false : (a : Bool) → (a && false) ≡ false
 and_false true = refl
@@ -43,12 +36,12 @@ resolved_there p named resolved n i m h =
     ∙ ap cloned (no_clone p named.0)
     ∙ ap (λ o. if_method seen Virtual println named.0 o) (method_some (resolve_method p named.0 println.name println.descriptor) resolved m)
 
-pub static_method : (p : Program) (named : ClassId) (resolved : MethodId) → Some named ≡ option_map as_class (class_named p println.class) → is_interface p named.0 ≡ false → Some resolved ≡ option_map as_method (resolve_method p named.0 println.name println.descriptor) → has STATIC (method_at p resolved.0).flags ≡ true → IsReference p WrongKind
+pub static_method : (p : Program) (named : ClassId) (resolved : MethodId) → Some named ≡ option_map as_class (class_named p println.class) → is_interface p named.0 ≡ false → Some resolved ≡ option_map as_method (resolve_method p named.0 println.name println.descriptor) → has STATIC (method_at p resolved.0).flags ≡ true → IsMethodReference p WrongKind
 static_method p named resolved n i m s = record {
   decides = λ h. resolved_there p named resolved n i m h ∙ ap (λ b. when b (wrong_kind (seeing p h)) (call_instance (seeing p h) Virtual println named.0 resolved.0)) s;
 }
 
-pub found : (p : Program) (named : ClassId) (resolved : MethodId) → Some named ≡ option_map as_class (class_named p println.class) → is_interface p named.0 ≡ false → Some resolved ≡ option_map as_method (resolve_method p named.0 println.name println.descriptor) → has STATIC (method_at p resolved.0).flags ≡ false → IsReference p (Found named resolved)
+pub found : (p : Program) (named : ClassId) (resolved : MethodId) → Some named ≡ option_map as_class (class_named p println.class) → is_interface p named.0 ≡ false → Some resolved ≡ option_map as_method (resolve_method p named.0 println.name println.descriptor) → has STATIC (method_at p resolved.0).flags ≡ false → IsMethodReference p (Found named resolved)
 found p named resolved n i m s = record {
   decides = λ h. resolved_there p named resolved n i m h ∙ ap (λ b. when b (wrong_kind (seeing p h)) (call_instance (seeing p h) Virtual println named.0 resolved.0)) s;
 }
