@@ -11,13 +11,13 @@ ghost use Rattle.vx_dimacs.specs.Dimacs.{named_as, named, comment_line, line_of,
 use crate::line::{
     Header, Line, NO_HEADER, Naming, are_visible, header_line, is_named, is_variable_name,
 };
-use crate::number::{Mark, TOO_MANY, is_number, mark_of};
+use crate::number::{Mark, TOO_MANY, is_number, mark_of, up_to};
 use std::alloc::{AllocError, Global};
 use std::mem;
 use vx_list::Items;
 use vx_model::{Expr, FieldPlace, Model, OptionField, Refusal, is_taken, slashed};
 use vx_value::Name;
-use vx_words::{decimal_up_to, next_word};
+use vx_words::next_word;
 
 /// A word that is no number of a clause.
 const NO_NUMBER: Refusal = Refusal::Reason(8);
@@ -117,7 +117,7 @@ fn named(
 ) -> Result<Line, Refusal>
     ensures { Judges result (named most (drafted draft.now) (up_to 65 number.now) number.now name.now place) }
 {
-    let Some(variable) = decimal_up_to(number, TOO_MANY) else {
+    let Some(variable) = up_to(TOO_MANY, number) else {
         return Ok(Line::Nothing);
     };
     if (1 <= variable && variable <= 64) && (variable <= most && is_variable_name(number, name)) {

@@ -8,12 +8,12 @@ ghost use Rattle.vx_words.specs.Lines.{words};
 ghost use Rattle.vx_model.specs.Answers.{Judges};
 ghost use Rattle.vx_dimacs.specs.Dimacs.{is_numbered, is_variable_name, is_visible, named, clauses_of, header_clauses, told, behind_two, header_line, up_to};
 
-use crate::number::{Mark, TOO_MANY};
+use crate::number::{Mark, TOO_MANY, up_to};
 use std::alloc::Global;
 use vx_list::Items;
 use vx_model::{FieldPlace, OptionField, Refusal, is_taken, slashed};
 use vx_value::Name;
-use vx_words::{decimal_up_to, is_name, next_word};
+use vx_words::{is_name, next_word};
 
 /// How many variables and clauses there are.
 #[derive(Clone, Copy, Debug, PartialEq, Eq)]
@@ -103,7 +103,7 @@ pub fn told(text: &[u8]) -> Option<u32>
     if format != CNF {
         return None;
     }
-    decimal_up_to(variables, TOO_MANY)
+    up_to(TOO_MANY, variables)
 }
 
 const CNF: &[u8] = b"cnf";
@@ -111,7 +111,7 @@ const CNF: &[u8] = b"cnf";
 fn clauses_of(variables: u32, word: &[u8]) -> Result<Line, Refusal>
     ensures { Judges result (clauses_of variables (up_to 1000001 word.now)) }
 {
-    let Some(clauses) = decimal_up_to(word, MOST_CLAUSES + 1) else {
+    let Some(clauses) = up_to(MOST_CLAUSES + 1, word) else {
         return Err(NO_HEADER);
     };
     if MOST_CLAUSES < clauses {

@@ -1,7 +1,7 @@
 //! Numbers of clauses.
 
 ghost use Rattle.std.specs.Prelude.{◌≡◌, Some, None};
-ghost use Rattle.vx_dimacs.specs.Dimacs.{unsigned, is_negative, is_number, mark_of};
+ghost use Rattle.vx_dimacs.specs.Dimacs.{up_to, unsigned, is_negative, is_number, mark_of};
 
 use vx_words::decimal_up_to;
 
@@ -15,6 +15,14 @@ pub enum Mark {
 
 /// A number above every number of options, in whose place it stands.
 pub const TOO_MANY: u32 = 65;
+
+/// The number that a word spells, or `cap` where it is greater.
+pub fn up_to(cap: u32, word: &[u8]) -> Option<u32>
+    ensures { result ≡ up_to cap word.now }
+{
+    let number = decimal_up_to(word, u64::from(cap))?;
+    Some(number as u32)
+}
 
 fn is_negative(word: &[u8]) -> bool
     ensures { result ≡ is_negative word.now }
@@ -39,14 +47,14 @@ fn unsigned(word: &[u8]) -> &[u8]
 pub fn is_number(word: &[u8]) -> bool
     ensures { result ≡ is_number word.now }
 {
-    decimal_up_to(unsigned(word), TOO_MANY).is_some()
+    up_to(TOO_MANY, unsigned(word)).is_some()
 }
 
 /// The number that a word is, for so many variables.
 pub fn mark_of(variables: u32, word: &[u8]) -> Option<Mark>
     ensures { result ≡ mark_of variables word.now }
 {
-    let number = decimal_up_to(unsigned(word), TOO_MANY)?;
+    let number = up_to(TOO_MANY, unsigned(word))?;
     if number == 0 {
         return Some(Mark::End);
     }

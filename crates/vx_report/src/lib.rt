@@ -6,7 +6,7 @@ pub mod line;
 pub mod meaning;
 pub mod projection;
 pub mod report;
-pub mod spelling;
+mod spelling;
 pub mod writing;
 
 pub use projection::project_text;

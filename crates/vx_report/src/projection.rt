@@ -8,12 +8,13 @@ ghost use Rattle.vx_report.specs.Runs.{line_end, break_before, is_shown, run_tex
 
 use crate::meaning::holds_in;
 use crate::report::{Piece, Report};
-use crate::spelling::{TEXT, put_number, put_spelled};
+use crate::spelling::put_spelled;
 use crate::writing::{put_end, word_of_stream};
 use std::alloc::{AllocError, Global};
 use vx_bdd_tools::Node;
 use vx_space::Config;
 use vx_value::{End, Stream};
+use vx_words::{TEXT, put_number};
 
 fn put_line_end(out: &mut Vec<u8>, now: Option<Stream>) -> Result<(), AllocError>
     ensures { OnOk result (out.new.items ≡ out.old.items ++ line_end now) }

@@ -8,10 +8,11 @@ ghost use Rattle.vx_report.specs.Lines.{whole_line, kind_word, unsupported_words
 ghost use Rattle.vx_report.specs.Text.{numbered, front_lines, found_lines, report_text};
 
 use crate::report::{AttemptLine, EndLine, Piece, Report};
-use crate::spelling::{TEXT, WORD, put_number, put_signed_number, put_spelled, put_wide_number};
+use crate::spelling::put_spelled;
 use std::alloc::{AllocError, Global};
 use vx_bdd_tools::Node;
 use vx_value::{End, Name, Stream};
+use vx_words::{TEXT, WORD, put_number};
 
 #[tactic(auto, unfolding(crate::specs::Lines::kind_word))]
 fn kind_of(word: u8) -> &'static [u8]
@@ -57,7 +58,7 @@ pub fn put_end(out: &mut Vec<u8>, end: &End) -> Result<(), AllocError>
         End::Return => out.extend_from_slice(b"return"),
         End::Exit(code) => {
             out.extend_from_slice(b"exit ")?;
-            put_signed_number(out, *code)
+            put_number(out, *code)
         }
         End::Uncaught(class) => {
             out.extend_from_slice(b"uncaught ")?;
@@ -172,7 +173,7 @@ fn put_bounds(out: &mut Vec<u8>, limit: u64, rounds: u128) -> Result<(), AllocEr
     out.extend_from_slice(b"limit ")?;
     put_number(out, limit)?;
     out.extend_from_slice(b"\nrounds ")?;
-    put_wide_number(out, rounds)?;
+    put_number(out, rounds)?;
     out.extend_from_slice(b"\n")
 }
 

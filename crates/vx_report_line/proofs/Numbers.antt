@@ -1,5 +1,5 @@
 -- Decimal numbers read back.
-use Rattle.std.proofs.Common.{◌≡◌, ◌≢◌, ℕ, ◌<◌, ◌≤◌, ◌^◌, List, Bool, true, false, Option, Some, None, decimal, refl, ap, sym, ◌∙◌, arith, nat_lt, ◌&&◌}
+use Rattle.std.proofs.Common.{◌≡◌, ◌≢◌, ℕ, ◌<◌, ◌≤◌, ◌^◌, List, Bool, true, false, Option, Some, None, MatchOption, decimal, refl, ap, sym, ◌∙◌, arith, nat_lt, ◌&&◌}
 use Rattle.std.proofs.lemmas.Bool.Decides.{nat_tests}
 use Rattle.std.proofs.lemmas.Fmt.{decimal_is_IsNumeral_wide}
 use Rattle.std.specs.Str.Parse.{digits_value}
@@ -93,3 +93,8 @@ narrow_over less bound word n h e = rw ((below_is bound (decimal_in word) n e).0
 -- numbers of at most 128 bits have fewer than 64 digits
 pub wide : (n : ℕ) → n < 2 ^ 128 → n < 10 ^ 64
 wide n h = omega (arith, h)
+
+-- what a number reads that is compared with its print
+pub number_in_when : (word : List ℕ) (found : Option ℕ) → MatchOption found ((n : ℕ) → n < 2 ^ 128 → word ≢ decimal n) (λ n. (word ≡ decimal n) × (n < 2 ^ 128)) → found ≡ number_in (2 ^ 128) word
+number_in_when word None h = sym (number_in_none _ word h)
+number_in_when word (Some n) (is, small) = rw is (sym (number_in_of _ n small (wide n small)))

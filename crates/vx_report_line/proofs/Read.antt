@@ -16,7 +16,8 @@ use Rattle.vx_report.specs.declared.line.Line.TheVariants.{Head, Count, Named, L
 use Rattle.vx_report.specs.Lines.{kinds, word_in, kind_word, end_words, stream_word, line_text}
 use Rattle.vx_words.specs.Names.{is_name}
 use Rattle.vx_report_line.specs.Forms.{is_text, is_code, is_named, is_end, is_root, is_line, IsSpelled}
-use Rattle.vx_report_line.specs.Parsing.{◌>>=◌, only_if, reading, behind, cut, number_in, leading, hex_value, escaped_byte, first_byte, unspelled, text_in, negative_in, positive_in, code_in, number_of_word, kind_in, unsupported_in, named_end_in, end_in, node_line_in, root_in, piece_in, end_line_in, attempts_in, head_in, count_in, name_in, limit_in, rounds_in, setting_in, front_in, last_in, printed_in, line_in}
+use Rattle.vx_words.specs.Hex.{hex_value}
+use Rattle.vx_report_line.specs.Parsing.{◌>>=◌, only_if, reading, behind, cut, number_in, leading, escaped_byte, first_byte, unspelled, text_in, negative_in, positive_in, code_in, number_of_word, kind_in, unsupported_in, named_end_in, end_in, node_line_in, root_in, piece_in, end_line_in, attempts_in, head_in, count_in, name_in, limit_in, rounds_in, setting_in, front_in, last_in, printed_in, line_in}
 use Rattle.vx_report_line.proofs.Numbers.{by_test, both_true, only_if_is, number_in_is, same_bytes_same}
 use Rattle.vx_report_line.proofs.Texts.{bind_is}
 use Rattle.vx_report_line.proofs.Again.{le_from, le_of}

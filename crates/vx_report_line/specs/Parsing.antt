@@ -10,7 +10,7 @@ use Rattle.vx_value.specs.Words.{is_plain}
 use Rattle.vx_report.specs.declared.line.Line.{Line}
 use Rattle.vx_report.specs.declared.line.Line.TheVariants.{Head, Count, Named, Limit, Rounds, Numbered, Printed, Ended, Spent, Done}
 use Rattle.vx_report.specs.Lines.{kinds}
-use Rattle.vx_words.specs.Decimal.{is_digit}
+use Rattle.vx_words.specs.Hex.{hex_value}
 use Rattle.vx_words.specs.Names.{is_name}
 use Rattle.vx_report_line.specs.Forms.{is_named}
 
@@ -56,10 +56,6 @@ leading bound text = do
   parts ← cut text
   n ← number_in bound parts.0
   Some (n, parts.1)
-
--- the number of a hexadecimal digit in lower case
-abbrev pub hex_value : ℕ → Option ℕ
-hex_value b = if is_digit b then Some (b - 48) else (if nat_le 97 b && nat_le b 102 then Some (b - 87) else None)
 
 -- the byte of an escape, which is one that doesn't stand for itself
 unfoldable pub escaped_byte : ℕ → ℕ → ℕ → Option ℕ

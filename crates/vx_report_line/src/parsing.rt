@@ -10,10 +10,9 @@ use crate::words::{behind, cut, leading, number, number_below, root, text_in, wi
 use std::alloc::{AllocError, Global};
 use vx_bdd_tools::Node;
 use vx_report::line::Line;
-use vx_report::spelling::{TEXT, WORD};
 use vx_report::{AttemptLine, EndLine, Piece};
 use vx_value::{End, Name, Stream};
-use vx_words::is_name;
+use vx_words::{TEXT, WORD, is_name};
 
 fn is_word(text: &[u8], word: &[u8]) -> bool
     ensures { result ≡ bytes_eq text.now word.now }

@@ -1,12 +1,11 @@
 //! Words and numbers of a line.
 
 ghost use Rattle.std.specs.Prelude.{◌≡◌, ◌^◌, ◌+◌, ◌<◌, option_map, IfOk, IfSome};
-ghost use Rattle.vx_report_line.specs.Parsing.{behind, cut, number_in, leading, hex_value, escaped_byte, first_byte, text_in, root_in};
-ghost use Rattle.vx_value.specs.Words.{is_plain};
+ghost use Rattle.vx_report_line.specs.Parsing.{behind, cut, number_in, leading, escaped_byte, first_byte, text_in, root_in};
 
-use itoa::Buffer;
 use std::alloc::{AllocError, Global};
 use vx_value::Name;
+use vx_words::{hex_value, is_plain, printed_number};
 
 /// What stands behind a word.
 pub fn behind<'a>(word: &[u8], text: &'a [u8]) -> Option<&'a [u8]>
@@ -31,18 +30,7 @@ pub fn cut(text: &[u8]) -> Option<(&[u8], &[u8])>
 pub fn wide_number(word: &[u8]) -> Option<u128>
     ensures { result ≡ number_in (2 ^ 128) word.now }
 {
-    let Ok(text) = str::from_utf8(word) else {
-        return None;
-    };
-    let Ok(n) = text.parse::<u128>() else {
-        return None;
-    };
-    let mut buffer = Buffer::new();
-    if buffer.format(n).as_bytes() == word {
-        Some(n)
-    } else {
-        None
-    }
+    printed_number(word)
 }
 
 /// The number of at most 64 bits whose decimal digits a word is.
@@ -83,24 +71,6 @@ pub fn root(text: &[u8]) -> Option<(u64, &[u8])>
 {
     let (node, rest) = leading(text)?;
     if node >= 1 { Some((node, rest)) } else { None }
-}
-
-/// The number of a hexadecimal digit in lower case.
-fn hex_value(b: u8) -> Option<u8>
-    ensures value { result ≡ hex_value b }
-    ensures small { IfSome result (λ n. n < 16) }
-{
-    match b {
-        b'0'..=b'9' => Some(b - b'0'),
-        b'a'..=b'f' => Some(b - 87),
-        _ => None,
-    }
-}
-
-fn is_plain(least: u8, b: u8) -> bool
-    ensures { result ≡ is_plain least b }
-{
-    least <= b && b <= 126 && b != b'\\'
 }
 
 /// The byte of an escape, which is one that doesn't stand for itself.

@@ -1,5 +1,5 @@
 -- A number that is capped at each digit is the capped number.
-use Rattle.std.proofs.Common.{◌≡◌, ℕ, ◌+◌, ◌-◌, ◌*◌, ◌<◌, suc, List, [], ◌∷◌, min, drop, length, sym, ap, ◌∙◌, arith, add-one, drop-cons, get_or}
+use Rattle.std.proofs.Common.{◌≡◌, ℕ, ◌+◌, ◌-◌, ◌*◌, ◌^◌, ◌<◌, suc, List, [], ◌∷◌, min, drop, length, sym, ap, ◌∙◌, arith, add-one, drop-cons, get_or}
 use Rattle.vx_words.specs.Decimal.{number_from}
 
 pub capped_digit : (cap n d : ℕ) → min cap (10 * min cap n + d) ≡ min cap (10 * n + d)
@@ -19,3 +19,7 @@ next_digit cap n m i word total lt next so_far =
     ap (λ k. min cap (number_from k (drop (i + 1) word))) next ∙ capped cap (10 * n + (get_or word i 0 - 48)) (drop (i + 1) word)
     ∙ ap (λ k. min cap (number_from (10 * n + (get_or word i 0 - 48)) (drop k word))) (add-one i) in
     e ∙ ap (λ bs. min cap (number_from n bs)) (sym front) ∙ so_far
+
+-- numbers of at most 128 bits have fewer than 64 digits
+pub wide : (n : ℕ) → n < 2 ^ 128 → n < 10 ^ 64
+wide n h = omega (arith, h)

@@ -1,3 +1,4 @@
 pub mod Decimal
+pub mod Hex
 pub mod Lines
 pub mod Names

@@ -1,6 +1,6 @@
 //! Decimal numbers.
 
-ghost use Rattle.std.specs.Prelude.{◌≡◌, ◌+◌, ◌-◌, ◌*◌, min};
+ghost use Rattle.std.specs.Prelude.{◌≡◌, ◌≤◌, ◌+◌, ◌-◌, ◌*◌, min, IfSome};
 ghost use Rattle.std.specs.Option.{option_map};
 ghost use Rattle.vx_words.specs.Decimal.{decimal, is_decimal, is_digit};
 ghost use Rattle.std.specs.List.{list_all};
@@ -23,8 +23,9 @@ fn is_decimal(word: &[u8]) -> bool
 
 /// The decimal number without leading zeros that a word spells, or `None` where it spells none. A number above `cap`
 /// gives `cap`.
-pub fn decimal_up_to(word: &[u8], cap: u32) -> Option<u32>
-    ensures { result ≡ option_map (min cap) (decimal word.now) }
+pub fn decimal_up_to(word: &[u8], cap: u64) -> Option<u64>
+    ensures value { result ≡ option_map (min cap) (decimal word.now) }
+    ensures within { IfSome result (λ n. n ≤ cap) }
 {
     if !is_decimal(word) {
         return None;
@@ -37,9 +38,9 @@ pub fn decimal_up_to(word: &[u8], cap: u32) -> Option<u32>
 }
 
 // One more digit behind a number.
-fn capped(number: u32, digit: u8, cap: u32) -> u32
+fn capped(number: u64, digit: u8, cap: u64) -> u64
     ensures { result ≡ min cap (10 * number + (digit - 48)) }
 {
-    let next = 10 * u64::from(number) + u64::from(digit.saturating_sub(b'0'));
-    next.min(u64::from(cap)) as u32
+    let next = 10 * u128::from(number) + u128::from(digit.saturating_sub(b'0'));
+    next.min(u128::from(cap)) as u64
 }
