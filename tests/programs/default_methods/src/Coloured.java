@@ -1,0 +1,5 @@
+interface Coloured {
+    default String text() {
+        return "coloured";
+    }
+}
