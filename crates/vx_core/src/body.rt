@@ -10,6 +10,9 @@ use std::alloc::{AllocError, Global};
 use vx_class::Code;
 use vx_list::Items;
 
+/// The opcode of `ldc`.
+const LDC: u8 = 0x12;
+
 /// The index of a part, where the parts begin at an index, each is of so many entries, and so many parts stand before.
 pub fn part_index(start: u16, size: u8, before: usize) -> u16
     ensures { result ≡ part_index start size before }
@@ -49,7 +52,7 @@ fn put_instruction(
             put_two(bytes, part_index(start, 6, reference as usize))
         }
         Instruction::Ldc(reference) => {
-            bytes.push(0x12)?;
+            bytes.push(LDC)?;
             bytes.push((part_index(start, 6, reference as usize) % 256) as u8)?;
             Ok(())
         }

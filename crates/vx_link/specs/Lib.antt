@@ -10,7 +10,4 @@ pub mod CoreTable
 pub mod CoreFiles
 pub mod Faults
 pub mod Linked
-pub mod Answers
 pub mod Tables
-pub mod Cells
-pub mod Few

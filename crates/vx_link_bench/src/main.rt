@@ -11,7 +11,8 @@ use std::io;
 use vx_asm::assemble;
 use vx_class::{ClassFile, read_class};
 use vx_core::core;
-use vx_link::{Program, link};
+use vx_link::Program;
+use vx_linker::link;
 use vx_model::read_model;
 use vx_value::ClassId;
 

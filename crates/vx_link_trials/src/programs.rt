@@ -4,7 +4,8 @@ ghost use Rattle.vx_class.specs.File.{Holds};
 use std::test::Fail;
 use vx_class::{ClassFile, read_class};
 use vx_core::core;
-use vx_link::{Program, link};
+use vx_link::Program;
+use vx_linker::link;
 use vx_model::read_model;
 use vx_value::{ClassId, FieldId, MethodId};
 

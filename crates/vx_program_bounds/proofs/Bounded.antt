@@ -16,10 +16,11 @@ use Rattle.vx_link.specs.declared.fault.LinkFault.{LinkFault}
 use Rattle.vx_link.specs.declared.fault.LinkFault.TheVariants.{NoMain}
 use Rattle.vx_link.specs.declared.program.LinkedMethod.{LinkedMethod}
 use Rattle.vx_link.specs.declared.program.Program.{Program}
-use Rattle.vx_program_bounds.proofs.ListLaws.{all_follow, all_pass, both, first_holds, last_none, second_holds}
+use Rattle.vx_program_bounds.proofs.ListLaws.{all_follow, both, first_holds, last_none, second_holds}
 use Rattle.vx_program_bounds.proofs.MainRoom.{HasMain, main_among}
 use Rattle.vx_program_bounds.proofs.ShortFiles.{is_short_file, short_file}
 use Rattle.vx_program_bounds.proofs.ShortParts.{count_classes, is_short_method, options_below, options_laid, short_classes, short_fields, short_laid, short_methods}
+use Rattle.vx_jump_targets.proofs.Lists.{all_pass}
 use Rattle.vx_list.specs.Places.{item_or}
 use Rattle.vx_model.specs.declared.model.OptionField.{OptionField}
 

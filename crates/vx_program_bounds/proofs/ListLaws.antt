@@ -1,5 +1,5 @@
 -- Tests of all items of a list, a place behind a front, and the place of an item.
-use Rattle.std.proofs.Common.{All, Bool, List, None, Option, Some, [], arith, cond, false, if◌then◌else◌, length, nat_lt, position, refl, slice_get, suc, true, ℕ, ◌&&◌, ◌++◌, ◌∷◌, ◌≡◌, ◌||◌, ap}
+use Rattle.std.proofs.Common.{Bool, List, None, Option, Some, [], cond, false, if◌then◌else◌, length, nat_lt, position, refl, slice_get, true, ℕ, ◌&&◌, ◌++◌, ◌∷◌, ◌≡◌, ◌||◌, ap}
 use Rattle.std.specs.List.{list_all, position_or_len}
 use Rattle.std.specs.Option.{option_or}
 use Rattle.vx_heap.specs.Heap.{has_option}
@@ -38,17 +38,6 @@ in_rest true b n e = cc
 in_rest false b n e = e
 
 -- ---- all items
-
-pub All-head : {A : Type 0} (P : A → Type 0) (x : A) (xs : List A) → All P (x ∷ xs) → P x
-All-head P x xs h = h 0 x (omega arith)
-
-pub All-tail : {A : Type 0} (P : A → Type 0) (x : A) (xs : List A) → All P (x ∷ xs) → All P xs
-All-tail P x xs h = λ k d few. h (suc k) d (omega (arith, few))
-
--- what follows from a property of each item
-pub all_pass : {A : Type 0} (P : A → Type 0) (test : A → Bool) → ((x : A) → P x → test x ≡ true) → (xs : List A) → All P xs → list_all test xs ≡ true
-all_pass P test law [] h = refl
-all_pass P test law (x ∷ xs) h = both (law x (All-head P x xs h)) (all_pass P test law xs (All-tail P x xs h))
 
 -- what follows from a test of each item
 pub all_follow : {A : Type 0} (given test : A → Bool) → ((x : A) → given x ≡ true → test x ≡ true) → (xs : List A) → list_all given xs ≡ true → list_all test xs ≡ true

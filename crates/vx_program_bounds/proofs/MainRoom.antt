@@ -19,7 +19,8 @@ use Rattle.vx_link.specs.Names.{utf8}
 use Rattle.vx_link.specs.Parts.{PUBLIC, no_method}
 use Rattle.vx_link.specs.declared.program.LinkedClass.{LinkedClass}
 use Rattle.vx_link.specs.declared.program.LinkedMethod.{LinkedMethod}
-use Rattle.vx_program_bounds.proofs.ListLaws.{All-head, All-tail, behind_front, fails_more, fifth_holds, first_holds, in_rest, or_left, or_right, second_holds}
+use Rattle.vx_jump_targets.proofs.Lists.{All-head, All-tail}
+use Rattle.vx_program_bounds.proofs.ListLaws.{behind_front, fails_more, fifth_holds, first_holds, in_rest, or_left, or_right, second_holds}
 use Rattle.vx_list.specs.Places.{item_or}
 use Rattle.vx_pool.specs.declared.pool.Pool.{Pool}
 

@@ -1,0 +1,4 @@
+pub mod Lists
+pub mod PlacedFiles
+pub mod PlacedCore
+pub mod WellPlaced

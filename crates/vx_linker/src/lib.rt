@@ -1,0 +1,17 @@
+//! Linking: from the class files of a folder and the core classes to a program, or their first fault (JVMS 5.3, 5.4).
+#![tactic(auto)]
+
+mod class_numbers;
+mod classes;
+mod entries;
+mod fields;
+mod files;
+mod judging;
+mod layout;
+pub mod linking;
+mod methods;
+mod parts;
+mod whole;
+
+pub use files::Files;
+pub use linking::{link, linkable};

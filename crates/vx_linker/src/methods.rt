@@ -1,0 +1,126 @@
+//! The methods of a program, from those of class files.
+
+ghost use Rattle.std.specs.Prelude.{◌≡◌, ◌<◌, ◌++◌, drop, length, IfOk, IfSome, OnOk, unwrap_or};
+ghost use Rattle.vx_list.specs.Places.{item_or};
+ghost use Rattle.vx_link.specs.Linked.{is_clinit_file, own_clinit, method_flags, linked_method, linked_methods, empty_clinit};
+
+use std::alloc::{AllocError, Global};
+use vx_class::{ClassFile, Code, Method};
+use vx_desc::is_clinit;
+use vx_link::class_names::utf8;
+use vx_link::{AccessFlags, LinkedMethod};
+use vx_list::Items;
+use vx_pool::Pool;
+use vx_value::{ClassId, Name};
+
+const CLINIT: &[u8] = b"<clinit>";
+
+const NOTHING: &[u8] = b"()V";
+
+const RETURN: u8 = 0xb1;
+
+const STATIC: u16 = 0x0008;
+
+const NEITHER_ABSTRACT_NOR_NATIVE: u16 = 0xfaff;
+
+fn is_initialiser(class: &ClassFile, method: &Method) -> bool
+    ensures { result ≡ is_clinit_file class.now method.now }
+{
+    is_clinit(utf8(&class.pool, method.name))
+}
+
+/// The place of a class's own `<clinit>` among its methods.
+pub fn own_initialiser(class: &ClassFile) -> Option<usize>
+    ensures place { result ≡ own_clinit class.now }
+    ensures within { IfSome result (λ place. place < length class.now.methods) }
+{
+    let methods = class.methods.as_slice();
+    methods
+        .iter()
+        .position(|method| is_initialiser(class, method))
+}
+
+/// The flags of a method. A `<clinit>` is static, and neither abstract nor native, whatever its flags (JVMS 2.9, 4.6).
+fn method_flags(name: &[u8], flags: u16) -> AccessFlags
+    ensures { result.0 ≡ method_flags name.now flags }
+{
+    if is_clinit(name) {
+        AccessFlags(flags & NEITHER_ABSTRACT_NOR_NATIVE | STATIC)
+    } else {
+        AccessFlags(flags)
+    }
+}
+
+fn linked_method(
+    alloc: Global,
+    class: ClassId,
+    pool: &Pool,
+    method: Method,
+    native: u32,
+) -> Result<LinkedMethod, AllocError>
+    ensures { IfOk result (λ linked. linked ≡ linked_method class.0 pool.now method native) }
+{
+    let name = utf8(pool, method.name);
+    Ok(LinkedMethod {
+        class,
+        name: Name::of(alloc, name)?,
+        descriptor: Name::of(alloc, utf8(pool, method.descriptor))?,
+        flags: method_flags(name, method.flags),
+        code: method.code,
+        native,
+    })
+}
+
+/// The first number, or 0 where there is none.
+pub fn first_number(numbers: &[u32]) -> u32
+    ensures { result ≡ item_or numbers.now 0 0 }
+{
+    numbers.first().copied().unwrap_or(0)
+}
+
+/// What stands behind the first item.
+pub fn behind_first<T>(items: &[T]) -> &[T]
+    ensures { result.now ≡ drop 1 items.now }
+{
+    if items.is_empty() { items } else { &items[1..] }
+}
+
+/// Puts the methods of a class file behind others, with the numbers of the native ones.
+pub fn add_methods(
+    alloc: Global,
+    class: ClassId,
+    pool: &Pool,
+    methods: Vec<Method>,
+    natives: &[u32],
+    linked: &mut Vec<LinkedMethod>,
+) -> Result<(), AllocError>
+    ensures { OnOk result (linked.new.items ≡ linked.old.items ++ linked_methods class.0 pool.now methods.items natives.now) }
+{
+    let mut numbers = natives;
+    for method in methods {
+        let native = first_number(numbers);
+        linked.push(linked_method(alloc, class, pool, method, native)?)?;
+        numbers = behind_first(numbers);
+    }
+    Ok(())
+}
+
+/// The method of a class without `<clinit>`, whose code is one `return`.
+pub fn empty_initialiser(alloc: Global, class: ClassId) -> Result<LinkedMethod, AllocError>
+    ensures { IfOk result (λ linked. linked ≡ empty_clinit class.0) }
+{
+    let code = Code {
+        max_stack: 0,
+        max_locals: 0,
+        bytes: Items::of(Vec::from_slice(alloc, &[RETURN])?),
+        catches: Items::of(Vec::new(alloc)),
+    };
+    Ok(LinkedMethod {
+        class,
+        name: Name::of(alloc, CLINIT)?,
+        descriptor: Name::of(alloc, NOTHING)?,
+        flags: AccessFlags(STATIC),
+        code: Some(code),
+        native: 0,
+    })
+}
