@@ -33,6 +33,7 @@ IsOwn variable option = (k : ℕ) → k < 100 → option.name ≡ 118 ∷ numera
 pub record Fresh (st : State) (naming : Naming) : Type 0 where
   pub own : IsOwn naming.variable naming.option
   pub free : list_any (clashes naming.option.name naming.option.place) st.names ≡ false
+  pub named : is_name naming.option.name ≡ true
 
 abbrev pub MarkBelow : ℕ → Mark → Type 0
 MarkBelow n mark.End = Unit {0}
@@ -72,9 +73,9 @@ abbrev is_number_of : Option ℕ → ℕ → Bool
 is_number_of None k = false
 is_number_of (Some n) k = n == k
 
--- a numeral spells its number, and v and a numeral are v and digits
+-- a numeral spells its number, and v and a numeral are v and digits, and a name
 abbrev is_spelled : ℕ → Bool
-is_spelled k = is_number_of (decimal (numeral k)) k && is_numbered (118 ∷ numeral k)
+is_spelled k = is_number_of (decimal (numeral k)) k && (is_numbered (118 ∷ numeral k) && is_name (118 ∷ numeral k))
 
 abbrev are_spelled : ℕ → Bool
 are_spelled zero = true
@@ -87,14 +88,23 @@ all_spelled (suc n) e k lt =
     below_more (λ j. is_spelled j ≡ true) n (all_spelled n split.0) split.1 k (subst (λ m. k < m) (sym (add-one n)) lt)
 
 spelled : (k : ℕ) → k < 100 → is_spelled k ≡ true
+unfolding is_name
 spelled = all_spelled 100 refl
 
 number_of : (o : Option ℕ) (k : ℕ) → is_number_of o k ≡ true → o ≡ Some k
 number_of None k e = cc
 number_of (Some n) k e = ap Some (eqb-true n k e)
 
+spelled_name : (k : ℕ) → k < 100 → (is_numbered (118 ∷ numeral k) ≡ true) × (is_name (118 ∷ numeral k) ≡ true)
+spelled_name k lt =
+    both (is_numbered (118 ∷ numeral k)) (is_name (118 ∷ numeral k))
+    (both (is_number_of (decimal (numeral k)) k) (is_numbered (118 ∷ numeral k) && is_name (118 ∷ numeral k)) (spelled k lt)).1
+
+pub numeral_named : (k : ℕ) → k < 100 → is_name (118 ∷ numeral k) ≡ true
+numeral_named k lt = (spelled_name k lt).1
+
 pub numeral_spells : (k : ℕ) → k < 100 → decimal (numeral k) ≡ Some k
-numeral_spells k lt = number_of (decimal (numeral k)) k (both (is_number_of (decimal (numeral k)) k) (is_numbered (118 ∷ numeral k)) (spelled k lt)).0
+numeral_spells k lt = number_of (decimal (numeral k)) k (both (is_number_of (decimal (numeral k)) k) (is_numbered (118 ∷ numeral k) && is_name (118 ∷ numeral k)) (spelled k lt)).0
 
 least : (k variable : ℕ) → variable ≤ 64 → option_map (min 65) (Some k) ≡ Some variable → k ≡ variable
 least k variable few e =
@@ -108,7 +118,7 @@ own_bytes : (number name : List ℕ) (k : ℕ) → k < 100 → is_variable_name 
 unfolding is_variable_name
 own_bytes number name k lt e is =
     let rule = (both (is_name name) (not (is_numbered name) || bytes_eq name (118 ∷ number)) e).1 in
-    let digits = (both (is_number_of (decimal (numeral k)) k) (is_numbered (118 ∷ numeral k)) (spelled k lt)).1 in
+    let digits = (spelled_name k lt).0 in
     let here : (not (is_numbered (118 ∷ numeral k)) || bytes_eq (118 ∷ numeral k) (118 ∷ number)) ≡ true =
     subst (λ n. (not (is_numbered n) || bytes_eq n (118 ∷ number)) ≡ true) is rule in
     let equal : bytes_eq (118 ∷ numeral k) (118 ∷ number) ≡ true = subst (λ b. (not b || bytes_eq (118 ∷ numeral k) (118 ∷ number)) ≡ true) digits here in
@@ -120,6 +130,10 @@ own_name variable number name place reads few fits k lt is =
     let bytes = own_bytes number name k lt fits is in
     let read : up_to 65 (numeral k) ≡ Some variable = subst (λ w. up_to 65 w ≡ Some variable) (sym bytes) reads in
     least k variable few (subst (λ o. option_map (min 65) o ≡ Some variable) (numeral_spells k lt) read)
+
+lawful_name : (number name : List ℕ) → is_variable_name number name ≡ true → is_name name ≡ true
+unfolding is_variable_name
+lawful_name number name e = (both (is_name name) (not (is_numbered name) || bytes_eq name (118 ∷ number)) e).0
 
 le_64 : (n : ℕ) → nat_le n 64 ≡ true → n ≤ 64
 le_64 n e = grind (arith, nat_tests)
@@ -162,11 +176,11 @@ named_case st true read l h e = h refl e
 named_case st false read l h e = same_line st line.Nothing l e tt
 
 naming_fits : (st : State) (variable : ℕ) (name : List ℕ) (place : Option FieldPlace) (l : Line) → IsOwn variable (record { name = name; place = place })
-    → named_as st variable name place ≡ Ok l → Fits st l
-naming_fits st variable name place l own e =
+    → is_name name ≡ true → named_as st variable name place ≡ Ok l → Fits st l
+naming_fits st variable name place l own is e =
     let one = passed (list_any (λ k. k == variable) st.variables || list_any (clashes name place) st.names) 3 _ l e in
     same_line st (line.Names (record { variable = variable; option = record { name = name; place = place } })) l one.1
-    (record { own = own; free = (neither (list_any (λ k. k == variable) st.variables) (list_any (clashes name place) st.names) one.0).1 })
+    (record { own = own; free = (neither (list_any (λ k. k == variable) st.variables) (list_any (clashes name place) st.names) one.0).1; named = is })
 
 named_fits : (most : ℕ) (st : State) (variable : Option ℕ) (number name : List ℕ) (place : Option FieldPlace) (l : Line) → up_to 65 number ≡ variable
     → named most st variable number name place ≡ Ok l → Fits st l
@@ -175,7 +189,8 @@ named_fits most st (Some variable) number name place l is e =
     named_case st ((nat_le 1 variable && nat_le variable 64) && (nat_le variable most && is_variable_name number name)) (named_as st variable name place) l
     (λ test. let two = both (nat_le 1 variable && nat_le variable 64) (nat_le variable most && is_variable_name number name) test in
     naming_fits st variable name place l
-    (own_name variable number name place is (le_64 variable (both (nat_le 1 variable) (nat_le variable 64) two.0).1) (both (nat_le variable most) (is_variable_name number name) two.1).1))
+    (own_name variable number name place is (le_64 variable (both (nat_le 1 variable) (nat_le variable 64) two.0).1) (both (nat_le variable most) (is_variable_name number name) two.1).1)
+    (lawful_name number name (both (nat_le variable most) (is_variable_name number name) two.1).1))
     e
 
 comment_fits : (most : ℕ) (st : State) (rest : List (List ℕ)) (l : Line) → comment_line most st rest ≡ Ok l → Fits st l

@@ -5,16 +5,17 @@ use Rattle.std.proofs.lemmas.Bool.{eqb-true}
 use Rattle.std.proofs.lemmas.List.Quantifiers.{position-Some}
 use Rattle.vx_words.specs.Decimal.{decimal}
 use Rattle.vx_words.specs.Lines.{lines}
+use Rattle.vx_words.specs.Names.{is_name}
 use Rattle.vx_model.specs.Formula.{Formula, formulas}
 use Rattle.vx_model.specs.Formula as tree
 use Rattle.vx_model.specs.Grammar.{disjunction}
-use Rattle.vx_model.specs.Models.{AllApart, ApartFromAll, AreApart, DifferentPlaces, IsModel}
+use Rattle.vx_model.specs.Models.{AllApart, ApartFromAll, AreApart, DifferentPlaces, IsModel, HasOptionNames}
 use Rattle.vx_model.specs.Text.{at_line}
 use Rattle.vx_model.specs.Truth.{AllNamesBelow}
 use Rattle.vx_model.specs.declared.model.FieldPlace.{FieldPlace}
 use Rattle.vx_model.specs.declared.model.Model.{Model}
 use Rattle.vx_model.specs.declared.model.OptionField.{OptionField}
-use Rattle.vx_model.proofs.Lawful.{all_apart, all_below-append, one_more}
+use Rattle.vx_model.proofs.Lawful.{AreNamed, IsRead, all_apart, all_below-append, named_at, named_more, one_more, option_names}
 use Rattle.vx_model.proofs.Names.{disjunction_names}
 use Rattle.vx_dimacs.specs.Dimacs.{State, begun, dimacs_of, end_of, ended, has_too_many, is_nothing, line_of, lines_of, nothing_yet, numeral, option_at, option_for, options_upto, plain_option, with_line, with_mark, with_marks}
 use Rattle.vx_dimacs.specs.declared.line.Header.{Header}
@@ -22,7 +23,7 @@ use Rattle.vx_dimacs.specs.declared.line.Line.{Line}
 use Rattle.vx_dimacs.specs.declared.line.Line.TheVariants as line
 use Rattle.vx_dimacs.specs.declared.number.Mark.{Mark}
 use Rattle.vx_dimacs.specs.declared.number.Mark.TheVariants as mark
-use Rattle.vx_dimacs.proofs.Fits.{Fits, IsOwn, MarkBelow, MarksBelow, line_fits, numeral_spells, same_tail}
+use Rattle.vx_dimacs.proofs.Fits.{Fits, IsOwn, MarkBelow, MarksBelow, line_fits, numeral_named, numeral_spells, same_tail}
 use Rattle.vx_dimacs.proofs.Following.{mark_header}
 use Rattle.vx_model.proofs.Fits.{passed}
 
@@ -54,6 +55,7 @@ Within (Some header) rules literals =
 record IsSound (st : State) : Type 0 where
   own : AllOwn st.variables st.names
   apart : AllApart st.names
+  named : AreNamed st.names
   within : Within st.header st.rules st.literals
 
 own_more : (vs : List ℕ) (os : List OptionField) (v : ℕ) (o : OptionField) → AllOwn vs os → IsOwn v o → AllOwn (vs ++ v ∷ []) (os ++ o ∷ [])
@@ -79,17 +81,20 @@ mark_sound : (header : Header) (st : State) (m : Mark) → st.header ≡ Some he
 mark_sound header st mark.End is below h = record {
   own = h.own;
   apart = h.apart;
+  named = h.named;
   within = subst (λ o. Within o (with_mark st mark.End).rules []) (sym is) (mark_within header st mark.End below (behind_header st.header header st.rules st.literals is h.within));
 }
 mark_sound header st (mark.On k) is below h = record {
   own = h.own;
   apart = h.apart;
+  named = h.named;
   within = subst (λ o. Within o st.rules (with_mark st (mark.On k)).literals) (sym is)
       (mark_within header st (mark.On k) below (behind_header st.header header st.rules st.literals is h.within));
 }
 mark_sound header st (mark.Off k) is below h = record {
   own = h.own;
   apart = h.apart;
+  named = h.named;
   within = subst (λ o. Within o st.rules (with_mark st (mark.Off k)).literals) (sym is)
       (mark_within header st (mark.Off k) below (behind_header st.header header st.rules st.literals is h.within));
 }
@@ -113,6 +118,7 @@ with_sound st new (line.Names naming) e h fits =
     (record {
       own = own_more st.variables st.names naming.variable naming.option h.own fits.own;
       apart = all_apart st.names naming.option h.apart fits.free;
+      named = named_more st.names naming.option h.named fits.named;
       within = h.within;
     })
 with_sound st new (line.Heads header) e h fits =
@@ -121,6 +127,7 @@ with_sound st new (line.Heads header) e h fits =
     (record {
       own = h.own;
       apart = h.apart;
+      named = h.named;
       within = (
         fits.1,
         subst (λ fs. AllNamesBelow header.variables (formulas fs)) (sym before.0) tt,
@@ -229,51 +236,73 @@ unfolding options_upto
 upto_length st zero = refl
 upto_length st (suc n) = omega (arith, length-append (options_upto st n) (option_for st (suc n) ∷ []), upto_length st n)
 
+-- ---- their names
+
+chosen_named : (st : State) (i : ℕ) (a : OptionField) → IsSound st → i < 100 → Chosen st i a → is_name a.name ≡ true
+chosen_named st i a h low (inl is) = subst (λ k. is_name k.name ≡ true) (sym is) (numeral_named i low)
+chosen_named st i a h low (inr named) = named_at st.names named.place a h.named named.option_is
+
+upto_named : (st : State) (n : ℕ) → IsSound st → n < 100 → AreNamed (options_upto st n)
+unfolding options_upto
+upto_named st zero h few = refl
+upto_named st (suc n) h few =
+    named_more (options_upto st n) (option_for st (suc n)) (upto_named st n h (omega (arith, few))) (chosen_named st (suc n) _ h few (chosen st (suc n)))
+
 -- ---- the whole text
 
 abbrev good_model : Model → Result Model ℕ
 good_model m = Ok m
 
-ended_lawful : (st : State) (header : Option Header) (m : Model) → st.header ≡ header → IsSound st → ended st header ≡ Ok m → IsModel m
-ended_lawful st None m is h e = cc e
-ended_lawful st (Some header) m is h e =
+ended_read : (st : State) (header : Option Header) (m : Model) → st.header ≡ header → IsSound st → ended st header ≡ Ok m → IsRead m
+ended_read st None m is h e = cc e
+ended_read st (Some header) m is h e =
     let one = passed (not (is_nothing st.literals) || nat_lt (length st.rules) header.clauses) 9 _ m e in
     let within = behind_header st.header header st.rules st.literals is h.within in
     let count = upto_length st header.variables in
     let model : Model = record { options = options_upto st header.variables; rules = st.rules } in
     let same : model ≡ m = cc one.1 in
-    subst IsModel same
+    subst IsRead same
     (record {
-      at_most_64 = omega (arith, count, within.0);
-      apart = upto_apart st header.variables h (omega (arith, within.0));
-      named = subst (λ n. AllNamesBelow n (formulas st.rules)) (sym count) within.1;
+      lawful = record {
+        at_most_64 = omega (arith, count, within.0);
+        apart = upto_apart st header.variables h (omega (arith, within.0));
+        named = subst (λ n. AllNamesBelow n (formulas st.rules)) (sym count) within.1;
+      };
+      named = upto_named st header.variables h (omega (arith, within.0));
     })
 
-end_lawful : (st : State) (m : Model) → IsSound st → end_of st ≡ Ok m → IsModel m
+end_read : (st : State) (m : Model) → IsSound st → end_of st ≡ Ok m → IsRead m
 unfolding end_of
-end_lawful st m h e = ended_lawful st st.header m refl h e
+end_read st m h e = ended_read st st.header m refl h e
 
-end_case : (n : ℕ) (read : Result Model ℕ) (m : Model) → (read ≡ Ok m → IsModel m) → at_line n read (λ k. Ok k) ≡ Ok m → IsModel m
+end_case : (n : ℕ) (read : Result Model ℕ) (m : Model) → (read ≡ Ok m → IsRead m) → at_line n read (λ k. Ok k) ≡ Ok m → IsRead m
 end_case n (Ok k) m h e = let same : k ≡ m = cc e in h (ap (λ x. Ok x) same)
 end_case n (Err reason) m h e = cc e
 
 state_case : (most n : ℕ) (st : State) (rest : List (List ℕ)) (m : Model) (l : Line) (moved : Result State ℕ) → IsSound st → Fits st l → with_line st l ≡ moved
-    → ((new : State) → IsSound new → lines_of most (n + 1) new rest ≡ Ok m → IsModel m) → at_line n moved (λ new. lines_of most (n + 1) new rest) ≡ Ok m → IsModel m
+    → ((new : State) → IsSound new → lines_of most (n + 1) new rest ≡ Ok m → IsRead m) → at_line n moved (λ new. lines_of most (n + 1) new rest) ≡ Ok m → IsRead m
 state_case most n st rest m l (Ok new) h fits is next e = next new (with_sound st new l is h fits) e
 state_case most n st rest m l (Err reason) h fits is next e = cc e
 
 line_case : (most n : ℕ) (st : State) (text : List ℕ) (rest : List (List ℕ)) (m : Model) (says : Result Line ℕ) → IsSound st → line_of most st text ≡ says
-    → ((new : State) → IsSound new → lines_of most (n + 1) new rest ≡ Ok m → IsModel m)
-    → at_line n says (λ l. at_line n (with_line st l) (λ new. lines_of most (n + 1) new rest)) ≡ Ok m → IsModel m
+    → ((new : State) → IsSound new → lines_of most (n + 1) new rest ≡ Ok m → IsRead m)
+    → at_line n says (λ l. at_line n (with_line st l) (λ new. lines_of most (n + 1) new rest)) ≡ Ok m → IsRead m
 line_case most n st text rest m (Ok l) h is next e = state_case most n st rest m l (with_line st l) h (line_fits most st text l is) refl next e
 line_case most n st text rest m (Err reason) h is next e = cc e
 
-lines_lawful : (most : ℕ) (texts : List (List ℕ)) (n : ℕ) (st : State) (m : Model) → IsSound st → lines_of most n st texts ≡ Ok m → IsModel m
+lines_read : (most : ℕ) (texts : List (List ℕ)) (n : ℕ) (st : State) (m : Model) → IsSound st → lines_of most n st texts ≡ Ok m → IsRead m
 unfolding lines_of
-lines_lawful most [] n st m h e = end_case n (end_of st) m (end_lawful st m h) e
-lines_lawful most (text ∷ rest) n st m h e =
-    line_case most n st text rest m (line_of most st text) h refl (λ new sound. lines_lawful most rest (n + 1) new m sound) e
+lines_read most [] n st m h e = end_case n (end_of st) m (end_read st m h) e
+lines_read most (text ∷ rest) n st m h e =
+    line_case most n st text rest m (line_of most st text) h refl (λ new sound. lines_read most rest (n + 1) new m sound) e
+
+dimacs_read : (bytes : List ℕ) (m : Model) → dimacs_of bytes ≡ Ok m → IsRead m
+dimacs_read bytes m e = lines_read _ (lines bytes) 1 nothing_yet m (record { own = tt; apart = tt; named = refl; within = (refl, refl) }) e
 
 -- the model of a text is one that each call takes
 pub dimacs_lawful : (bytes : List ℕ) (m : Model) → dimacs_of bytes ≡ Ok m → IsModel m
-dimacs_lawful bytes m e = lines_lawful _ (lines bytes) 1 nothing_yet m (record { own = tt; apart = tt; within = (refl, refl) }) e
+dimacs_lawful bytes m e = (dimacs_read bytes m e).lawful
+
+-- and its options have the names that a report takes
+pub dimacs_names : (bytes : List ℕ) (m : Model) → dimacs_of bytes ≡ Ok m → HasOptionNames m
+dimacs_names bytes m e = let h = dimacs_read bytes m e in option_names m h.lawful h.named

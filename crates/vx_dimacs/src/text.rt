@@ -3,7 +3,7 @@
 ghost use Rattle.std.specs.Prelude.{◌≡◌, ◌+◌, ◌<◌, ◌≤◌, ◌∷◌, ◌==◌, position, slice_get, option_copied, IfOk, IfSome, ℕ, Option, is_some, if◌then◌else◌};
 ghost use Rattle.vx_words.specs.Lines.{lines, words};
 ghost use Rattle.vx_model.specs.Answers.{Answers, Judges};
-ghost use Rattle.vx_model.specs.Models.{IsModel};
+ghost use Rattle.vx_model.specs.Models.{IsModel, HasOptionNames};
 ghost use Rattle.vx_dimacs.specs.Draft.{drafted};
 ghost use Rattle.vx_dimacs.specs.Dimacs.{numeral, plain_option, option_at, option_for, options_upto, end_of, told_by, first_told, dimacs_of};
 
@@ -161,6 +161,8 @@ pub fn read_dimacs(alloc: Global, bytes: &[u8]) -> Result<Model, ModelFault>
     ensures exact { Answers result (dimacs_of bytes.now) }
     // What is read is a model that each call takes.
     ensures lawful { IfOk result IsModel }
+    // The names of its options are those that a report takes.
+    ensures names { IfOk result HasOptionNames }
 {
     let most = first_told(bytes).unwrap_or(TOO_MANY);
     let mut draft = Draft::new(alloc);

@@ -20,6 +20,7 @@ use Rattle.vx_model.specs.declared.statement.Statement.TheVariants as statement
 pub record Fresh (options : List OptionField) (option : OptionField) : Type 0 where
   pub free : list_any (clashes option.name option.place) options ≡ false
   pub room : length options < 64
+  pub named : is_name option.name ≡ true
 
 pub record Given (options : List OptionField) (rule : Formula) : Type 0 where
   pub ts : List Token
@@ -36,6 +37,10 @@ pub passed : {A : Type 0} (b : Bool) (reason : ℕ) (next : Result A ℕ) (x : A
 passed true reason next x e = cc
 passed false reason next x e = (refl, e)
 
+is_kept : (b : Bool) → not b ≡ false → b ≡ true
+is_kept true e = refl
+is_kept false e = cc
+
 below_64 : (n : ℕ) → nat_le 64 n ≡ false → n < 64
 below_64 n e = grind (arith, nat_tests)
 
@@ -46,7 +51,7 @@ declared_fits options name place s e =
     let two = passed (list_any (clashes name place) options) 3 _ s one.1 in
     let three = passed (nat_le 64 (length options)) 6 _ s two.1 in
     let same : statement.Declares (record { name = name; place = place }) ≡ s = cc three.1 in
-    let fresh : Fits options (statement.Declares (record { name = name; place = place })) = record { free = two.0; room = below_64 (length options) three.0 } in
+    let fresh : Fits options (statement.Declares (record { name = name; place = place })) = record { free = two.0; room = below_64 (length options) three.0; named = is_kept (is_name name) one.0 } in
     subst (Fits options) same fresh
 
 option_fits : (options : List OptionField) (ws : List (List ℕ)) (s : Statement) → option_line options ws ≡ Ok s → Fits options s

@@ -1,13 +1,15 @@
 -- What is read is a model that each call takes.
-use Rattle.std.proofs.Common.{◌≡◌, ◌≢◌, ℕ, ◌+◌, ◌≤◌, List, [], ◌∷◌, ◌++◌, length, length-append, true, false, ◌&&◌, refl, subst, arith, Option, Some, None, Result, Ok, Err}
-use Rattle.std.specs.List.{list_any}
+use Rattle.std.proofs.Common.{◌≡◌, ◌≢◌, ℕ, zero, suc, ◌+◌, ◌<◌, ◌≤◌, List, [], ◌∷◌, ◌++◌, length, length-append, map, take, slice_get, slice_index_or, Contains, Bool, true, false, ◌&&◌, refl, subst, arith, Option, Some, None, Result, Ok, Err}
+use Rattle.std.proofs.lemmas.List.{length-map}
+use Rattle.std.specs.List.{list_all, list_any}
 use Rattle.std.specs.Str.{bytes_eq}
 use Rattle.std.proofs.lemmas.Slice.Eq.{bytes_eq-Decides}
 use Rattle.vx_words.specs.Lines.{lines}
+use Rattle.vx_words.specs.Names.{is_name}
 use Rattle.vx_model.specs.Formula.{Formula, Formulas, formulas}
 use Rattle.vx_model.specs.Formula as tree
 use Rattle.vx_model.specs.Truth.{NamesBelow, AllNamesBelow}
-use Rattle.vx_model.specs.Models.{IsModel, AreApart, DifferentPlaces, ApartFromAll, AllApart}
+use Rattle.vx_model.specs.Models.{IsModel, HasOptionNames, AreApart, DifferentPlaces, ApartFromAll, AllApart}
 use Rattle.vx_model.specs.Text.{statement_of, with_statement, lines_of, at_line, model_of, empty, clashes, is_same_place}
 use Rattle.vx_model.specs.declared.model.Model.{Model}
 use Rattle.vx_model.specs.declared.model.OptionField.{OptionField}
@@ -64,6 +66,61 @@ pub all_below-append : (n : ℕ) (fs : List Formula) (f : Formula) → AllNamesB
 all_below-append n [] f h k = (k, tt)
 all_below-append n (g ∷ gs) f h k = (h.0, all_below-append n gs f h.1 k)
 
+-- ---- names
+
+abbrev pub texts_of : List OptionField → List (List ℕ)
+texts_of os = map (λ option. option.name) os
+
+-- each option's name is one
+abbrev pub AreNamed : List OptionField → Type 0
+AreNamed os = list_all is_name (texts_of os) ≡ true
+
+both_true : (a b : Bool) → (a && b) ≡ true → (a ≡ true) × (b ≡ true)
+both_true true b e = (refl, e)
+both_true false b e = cc
+
+pub named_more : (os : List OptionField) (option : OptionField) → AreNamed os → is_name option.name ≡ true → AreNamed (os ++ option ∷ [])
+named_more [] option h is = rw is refl
+named_more (o ∷ os) option h is =
+    let two = both_true (is_name o.name) (list_all is_name (texts_of os)) h in
+    rw (two.0, named_more os option two.1 is) refl
+
+pub named_at : (os : List OptionField) (place : ℕ) (option : OptionField) → AreNamed os → slice_get os place ≡ Some option → is_name option.name ≡ true
+named_at [] place option h e = cc e
+named_at (o ∷ os) zero option h e = let same : o ≡ option = cc e in subst (λ k. is_name k.name ≡ true) same (both_true (is_name o.name) (list_all is_name (texts_of os)) h).0
+named_at (o ∷ os) (suc place) option h e = named_at os place option (both_true (is_name o.name) (list_all is_name (texts_of os)) h).1 e
+
+other_name : (a : OptionField) (os : List OptionField) (place : ℕ) (name : List ℕ) → ApartFromAll a os → slice_get (texts_of os) place ≡ Some name → a.name ≢ name
+other_name a [] place name h e = cc e
+other_name a (o ∷ os) zero name h e = let same : o.name ≡ name = cc e in subst (λ k. a.name ≢ k) same h.0.0
+other_name a (o ∷ os) (suc place) name h e = other_name a os place name h.1 e
+
+nowhere : (o : OptionField) (os : List OptionField) (place : ℕ) (name : List ℕ) → AllApart (o ∷ os) → slice_get (texts_of os) place ≡ Some name
+    → ¬ Contains (take place (texts_of os)) name → (k : ℕ) → k < length (take (suc place) (texts_of (o ∷ os)))
+    → slice_index_or (take (suc place) (texts_of (o ∷ os))) k name ≡ name → ⊥
+nowhere o os place name h e none zero less same = other_name o os place name h.0 e same
+nowhere o os place name h e none (suc k) less same = none (k, omega (arith, less), same)
+
+not_before : (os : List OptionField) (place : ℕ) (name : List ℕ) → AllApart os → slice_get (texts_of os) place ≡ Some name → ¬ Contains (take place (texts_of os)) name
+not_before [] place name h e = cc e
+not_before (o ∷ os) zero name h e = λ found. absurd (omega (arith, found.1))
+not_before (o ∷ os) (suc place) name h e = λ found. nowhere o os place name h e (not_before os place name h.1 e) found.0 found.1 found.2
+
+-- options that are apart and named have the names that a report takes
+pub option_names : (m : Model) → IsModel m → AreNamed m.options → HasOptionNames m
+option_names m h named = record {
+  named = named;
+  distinct = λ place name e. not_before m.options place name h.apart e;
+  few = omega (arith, length-map m.options (λ option. option.name), h.at_most_64);
+}
+
+-- ---- a text
+
+-- a model that each call takes, whose options are named
+pub record IsRead (model : Model) : Type 0 where
+  pub lawful : IsModel model
+  pub named : AreNamed model.options
+
 with_lawful : (model : Model) (s : Statement) → IsModel model → Fits model.options s → IsModel (with_statement model s)
 with_lawful model statement.Nothing h fits = h
 with_lawful model (statement.Declares option) h fits = record {
@@ -78,17 +135,32 @@ with_lawful model (statement.Demands rule) h fits = record {
       (rule_names (length model.options) fits.ts rule (rule_sound fits.ts rule fits.read) (are_known (length model.options) fits.ts fits.known));
 }
 
-line_case : (n : ℕ) (model m : Model) (line : List ℕ) (rest : List (List ℕ)) → IsModel model
-    → ((k : ℕ) (new : Model) → IsModel new → lines_of k new rest ≡ Ok m → IsModel m)
-    → (says : Result Statement ℕ) → statement_of model.options line ≡ says → at_line n says (λ s. lines_of (n + 1) (with_statement model s) rest) ≡ Ok m → IsModel m
-line_case n model m line rest h next (Ok s) is e = next (n + 1) (with_statement model s) (with_lawful model s h (statement_fits model.options line s is)) e
+with_named : (model : Model) (s : Statement) → AreNamed model.options → Fits model.options s → AreNamed (with_statement model s).options
+with_named model statement.Nothing h fits = h
+with_named model (statement.Declares option) h fits = named_more model.options option h fits.named
+with_named model (statement.Demands rule) h fits = h
+
+with_read : (model : Model) (s : Statement) → IsRead model → Fits model.options s → IsRead (with_statement model s)
+with_read model s h fits = record { lawful = with_lawful model s h.lawful fits; named = with_named model s h.named fits }
+
+line_case : (n : ℕ) (model m : Model) (line : List ℕ) (rest : List (List ℕ)) → IsRead model
+    → ((k : ℕ) (new : Model) → IsRead new → lines_of k new rest ≡ Ok m → IsRead m)
+    → (says : Result Statement ℕ) → statement_of model.options line ≡ says → at_line n says (λ s. lines_of (n + 1) (with_statement model s) rest) ≡ Ok m → IsRead m
+line_case n model m line rest h next (Ok s) is e = next (n + 1) (with_statement model s) (with_read model s h (statement_fits model.options line s is)) e
 line_case n model m line rest h next (Err reason) is e = cc
 
-lines_lawful : (m : Model) (ls : List (List ℕ)) (n : ℕ) (model : Model) → IsModel model → lines_of n model ls ≡ Ok m → IsModel m
+lines_read : (m : Model) (ls : List (List ℕ)) (n : ℕ) (model : Model) → IsRead model → lines_of n model ls ≡ Ok m → IsRead m
 unfolding lines_of
-lines_lawful m [] n model h e = let same : model ≡ m = cc e in subst IsModel same h
-lines_lawful m (line ∷ rest) n model h e = line_case n model m line rest h (lines_lawful m rest) (statement_of model.options line) refl e
+lines_read m [] n model h e = let same : model ≡ m = cc e in subst IsRead same h
+lines_read m (line ∷ rest) n model h e = line_case n model m line rest h (lines_read m rest) (statement_of model.options line) refl e
+
+model_read : (bytes : List ℕ) (m : Model) → model_of bytes ≡ Ok m → IsRead m
+model_read bytes m e = lines_read m (lines bytes) 1 empty (record { lawful = record { at_most_64 = omega arith; apart = tt; named = tt }; named = refl }) e
 
 -- the model of a text is one that each call takes
 pub model_lawful : (bytes : List ℕ) (m : Model) → model_of bytes ≡ Ok m → IsModel m
-model_lawful bytes m e = lines_lawful m (lines bytes) 1 empty (record { at_most_64 = omega arith; apart = tt; named = tt }) e
+model_lawful bytes m e = (model_read bytes m e).lawful
+
+-- and its options have the names that a report takes
+pub model_names : (bytes : List ℕ) (m : Model) → model_of bytes ≡ Ok m → HasOptionNames m
+model_names bytes m e = let h = model_read bytes m e in option_names m h.lawful h.named

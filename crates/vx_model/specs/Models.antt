@@ -1,5 +1,6 @@
 -- Feature models.
-use Rattle.std.specs.Prelude.{◌≤◌, List, [], ◌∷◌, length, Bool, Option, Some, None, ◌≢◌}
+use Rattle.std.specs.Prelude.{ℕ, ◌≤◌, List, [], ◌∷◌, length, map, Bool, Option, Some, None, ◌≢◌}
+use Rattle.vx_words.specs.Names.{AreOptionNames}
 use Rattle.vx_model.specs.declared.model.Model.{Model}
 use Rattle.vx_model.specs.declared.model.OptionField.{OptionField}
 use Rattle.vx_model.specs.declared.model.FieldPlace.{FieldPlace}
@@ -33,3 +34,10 @@ pub record IsModel (model : Model) : Type 0 where
   pub at_most_64 : length model.options ≤ 64
   pub apart : AllApart model.options
   pub named : AllNamesBelow (length model.options) (formulas model.rules)
+
+abbrev pub names_of : Model → List (List ℕ)
+names_of model = map (λ option. option.name) model.options
+
+-- the names of the options are lawful and distinct
+abbrev pub HasOptionNames : Model → Type 0
+HasOptionNames model = AreOptionNames (names_of model)

@@ -2,7 +2,7 @@
 
 ghost use Rattle.std.specs.Prelude.{◌≡◌, ◌+◌, ◌<◌, IfOk, OnOk};
 ghost use Rattle.vx_model.specs.Text.{with_statement, model_of};
-ghost use Rattle.vx_model.specs.Models.{IsModel};
+ghost use Rattle.vx_model.specs.Models.{IsModel, HasOptionNames};
 ghost use Rattle.vx_model.specs.Answers.{Answers, fault_at};
 
 use crate::expr::Expr;
@@ -53,6 +53,8 @@ pub fn read_model(alloc: Global, bytes: &[u8]) -> Result<Model, ModelFault>
     ensures exact { Answers result (model_of bytes.now) }
     // What is read is a model that each call takes.
     ensures lawful { IfOk result IsModel }
+    // The names of its options are those that a report takes.
+    ensures names { IfOk result HasOptionNames }
 {
     let mut draft = Draft {
         options: Vec::new(alloc),

@@ -11,7 +11,7 @@ use Rattle.vx_report_reader.specs.Rules.{Draft, MayFollow, after, reached, AreGo
 use Rattle.vx_report_reader.specs.Rules as rules
 use Rattle.vx_report_reader.specs.declared.reading.ReportFault.{ReportFault}
 use Rattle.vx_report_reader.specs.declared.reading.ReportFault.TheVariants.{NoMemory, Line as At}
-use Rattle.vx_report_reader.specs.Reading.{IsOnlyReading, Faults}
+use Rattle.vx_report_reader.specs.Reading.{IsOnlyReading, Faults, IsCutOff, IsRefused}
 use Rattle.vx_report_reader.proofs.Drafts.{good_behind, report_said}
 use Rattle.vx_report_reader.proofs.Lines.{first_same, not_empty}
 
@@ -102,3 +102,25 @@ only_reading bytes (Err (At m)) t f = record {
   report = λ s u. no_report bytes m s f u;
   line = λ n b. bad_same bytes m n f b;
 }
+
+-- nothing follows a whole report
+nothing_follows : (r : Report) (line : Line) → MayFollow (rules.Whole r) line → ⊥
+nothing_follows r line m = m
+
+-- the text of a report goes on to that of no other
+pub no_front : (bytes : List ℕ) (r : Report) → IsCutOff bytes → ReportText bytes r → ⊥
+unfolding report_text
+no_front bytes r cut t =
+    let c = continues rules.Nothing rules.Nothing (report_lines r) (report_lines cut.report) cut.rest t.good cut.text.good (ap (λ xs. xs ++ cut.rest) (sym t.text) ∙ cut.text.text) in
+    by_more c.more c.lines_are c.rest_is
+  where
+    by_more : (more : List Line) → report_lines cut.report ≡ report_lines r ++ more → cut.rest ≡ flat_map whole_line more → ⊥
+    by_more [] l e = cut.some e
+    by_more (x ∷ xs) l e =
+        let g : AreGood (reached rules.Nothing (report_lines r)) (x ∷ xs) = good_behind rules.Nothing (report_lines r) (x ∷ xs) (subst (AreGood rules.Nothing) l cut.text.good) in
+        nothing_follows r x (subst (λ (d : Draft). MayFollow d x) (report_said r) g.1)
+
+-- a text that was cut off is refused
+pub cut_off : (bytes : List ℕ) (answer : Result Report ReportFault) → IfOk answer (ReportText bytes) → IfErr answer (Faults bytes) → IsCutOff bytes → IsRefused bytes answer
+cut_off bytes (Ok r) t f cut = absurd (no_front bytes r cut t)
+cut_off bytes (Err e) t f cut = f

@@ -4,7 +4,7 @@ ghost use Rattle.std.specs.Prelude.{◌≡◌, IfOk, IfErr};
 ghost use Rattle.vx_report_reader.specs.declared.reading.ReportFault.TheVariants.{NoMemory};
 ghost use Rattle.vx_report_reader.specs.Lawful.{IsLawful};
 ghost use Rattle.vx_report_reader.specs.Rules.{ReportText};
-ghost use Rattle.vx_report_reader.specs.Reading.{IsOnlyReading, Faults};
+ghost use Rattle.vx_report_reader.specs.Reading.{IsOnlyReading, Faults, IsCutOff, IsRefused};
 
 use crate::stage::{Stage, whole_report, with_text};
 use std::alloc::{AllocError, Global};
@@ -64,6 +64,8 @@ pub fn read_report(alloc: Global, bytes: &[u8]) -> Result<Report, ReportFault>
     // Where the bytes are the text of a report, or a line is the first bad one, just that is the answer, unless memory runs
     // out.
     ensures only { IsOnlyReading bytes.now result }
+    // A report that was cut off is none.
+    ensures cut { IsCutOff bytes.now → IsRefused bytes.now result }
 {
     report_in(alloc, bytes)
 }

@@ -1,7 +1,7 @@
 use Rattle.std.proofs.Common.{refl}
 use Rattle.vx_dimacs.specs.Draft.{drafted}
 use Rattle.vx_dimacs.proofs.Following.{reads_more, line_refuse, add_refuse, end_read, end_refuse}
-use Rattle.vx_dimacs.proofs.Lawful.{dimacs_lawful}
+use Rattle.vx_dimacs.proofs.Lawful.{dimacs_lawful, dimacs_names}
 use Rattle.vx_dimacs.proofs.text.read_dimacs.Goals as goal
 
 pub returns-in-Err-clause-exact : goal.returns-in-Err-clause-exact
@@ -35,5 +35,11 @@ returns-in-Err-end_of-clause-exact c =
 pub returns-in-Ok-end_of-clause-lawful : goal.returns-in-Ok-end_of-clause-lawful
 returns-in-Ok-end_of-clause-lawful c =
     dimacs_lawful c.args.bytes.now c.in-Ok-end_of.model
+    (end_read c.args.bytes.now c.unwrap_or-most.result (drafted c.loop-text.draft) c.loop-text.rest.now c.loop-text.number c.in-Ok-end_of.model c.loop-text.invariant
+    (c.in_default.ensures.none.0 refl) c.in-Ok-end_of.ensures)
+
+pub returns-in-Ok-end_of-clause-names : goal.returns-in-Ok-end_of-clause-names
+returns-in-Ok-end_of-clause-names c =
+    dimacs_names c.args.bytes.now c.in-Ok-end_of.model
     (end_read c.args.bytes.now c.unwrap_or-most.result (drafted c.loop-text.draft) c.loop-text.rest.now c.loop-text.number c.in-Ok-end_of.model c.loop-text.invariant
     (c.in_default.ensures.none.0 refl) c.in-Ok-end_of.ensures)

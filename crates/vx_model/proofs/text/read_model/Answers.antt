@@ -1,6 +1,6 @@
 use Rattle.std.proofs.Common.{refl}
 use Rattle.vx_model.specs.Drafts.{drafted}
-use Rattle.vx_model.proofs.Lawful.{model_lawful}
+use Rattle.vx_model.proofs.Lawful.{model_lawful, model_names}
 use Rattle.vx_model.proofs.Lines.{reads_more, reads_refuse, reads_done}
 use Rattle.vx_model.proofs.text.read_model.Goals as goal
 
@@ -24,4 +24,10 @@ pub returns-clause-lawful : goal.returns-clause-lawful
 returns-clause-lawful c =
     rw (c.of.ensures, c.of-2.ensures)
     (model_lawful c.args.bytes.now (drafted c.loop-line.draft)
+    (reads_done c.args.bytes.now (drafted c.loop-line.draft) c.loop-line.rest.now c.loop-line.number c.loop-line.invariant (c.in_default.ensures.none.0 refl)))
+
+pub returns-clause-names : goal.returns-clause-names
+returns-clause-names c =
+    rw c.of.ensures
+    (model_names c.args.bytes.now (drafted c.loop-line.draft)
     (reads_done c.args.bytes.now (drafted c.loop-line.draft) c.loop-line.rest.now c.loop-line.number c.loop-line.invariant (c.in_default.ensures.none.0 refl)))
