@@ -1,13 +1,13 @@
 -- Loops over the lines of a source, the instructions of a body and its catch rows.
 use Rattle.std.proofs.Common.{◌≡◌, ℕ, ◌+◌, ◌<◌, List, [], ◌∷◌, ◌++◌, length, drop, get_or, Bool, true, Ok, Err, refl, sym, ap, ◌∙◌, append_assoc}
 use Rattle.std.specs.Prelude.{Result}
-use Rattle.vx_source.specs.Reading.{Read, Fails, check}
-use Rattle.vx_source.specs.declared.fault.LineFault.{LineFault}
-use Rattle.vx_source.specs.declared.fault.LineFault.TheVariants as line_fault
+use Rattle.vx_source_words.specs.Reading.{Read, Fails, check}
+use Rattle.vx_source_words.specs.declared.fault.LineFault.{LineFault}
+use Rattle.vx_source_words.specs.declared.fault.LineFault.TheVariants as line_fault
 use Rattle.vx_source.specs.declared.lines.SourceLine.{SourceLine}
-use Rattle.vx_class_parts.specs.Drafts.{next_place}
+use Rattle.vx_code_parts.specs.Drafts.{next_place}
 use Rattle.vx_class_parts.specs.declared.constants.Constant.{Constant}
-use Rattle.vx_class_parts.specs.declared.drafts.Draft.{Draft}
+use Rattle.vx_code_parts.specs.declared.drafts.Draft.{Draft}
 use Rattle.vx_asm.specs.declared.fault.AsmFault.{AsmFault}
 use Rattle.vx_asm.specs.declared.fault.AsmFault.TheVariants as fault
 use Rattle.vx_asm.specs.declared.class_draft.ClassDraft.{ClassDraft}
@@ -16,7 +16,7 @@ use Rattle.vx_source.specs.declared.statement.CatchLine.{CatchLine}
 use Rattle.vx_asm.specs.declared.class_draft.Body.{Body}
 use Rattle.vx_asm.specs.Bodies.{places_from, with_caught, with_rows, are_known, is_lawful_row, with_row, catch_said}
 use Rattle.vx_asm.specs.Source.{Fault, onward, with_line, is_late, located, fault_at, walk, Refuses}
-use Rattle.vx_class_parts.proofs.Loops.{front_is}
+use Rattle.vx_code_parts.proofs.Loops.{front_is}
 
 -- ---- places
 

@@ -3,20 +3,20 @@ use Rattle.std.specs.Prelude.{ℕ, ◌+◌, List, [], ◌∷◌, ◌++◌, lengt
 use Rattle.vx_class.specs.declared.class_file.Code.{Code}
 use Rattle.vx_class.specs.declared.class_file.Catch.{Catch}
 use Rattle.vx_class.specs.declared.class_file.Method.{Method}
-use Rattle.vx_source.specs.Reading.{Read, ◌>>=◌, check}
+use Rattle.vx_source_words.specs.Reading.{Read, ◌>>=◌, check}
 use Rattle.vx_source.specs.declared.statement.Statement.{Statement}
 use Rattle.vx_source.specs.declared.statement.Statement.TheVariants as statement
 use Rattle.vx_source.specs.declared.statement.Instruction.{Instruction}
 use Rattle.vx_source.specs.declared.statement.CatchLine.{CatchLine}
-use Rattle.vx_class_parts.specs.Bodies.{find_label}
+use Rattle.vx_code_parts.specs.Bodies.{find_label}
 use Rattle.vx_class_parts.specs.Constants.{with_constant, with_class, index_of, in_file, in_file_or_zero}
-use Rattle.vx_class_parts.specs.Drafts.{next_place, code_bytes, all_reach}
-use Rattle.vx_class_parts.specs.Instructions.{number_of, is_known, leads, instruction_checked, constant_of, draft_of}
+use Rattle.vx_code_parts.specs.Drafts.{next_place, code_bytes, all_reach}
+use Rattle.vx_code_parts.specs.Instructions.{number_of, is_known, leads, instruction_checked, constant_of, draft_of}
 use Rattle.vx_class_parts.specs.Rules.{is_lawful_class}
 use Rattle.vx_class_parts.specs.declared.constants.Constant.{Constant}
 use Rattle.vx_class_parts.specs.declared.constants.Constant.TheVariants as constant
-use Rattle.vx_class_parts.specs.declared.drafts.Draft.{Draft}
-use Rattle.vx_class_parts.specs.declared.labels.Labels.{Labels}
+use Rattle.vx_code_parts.specs.declared.drafts.Draft.{Draft}
+use Rattle.vx_code_parts.specs.declared.labels.Labels.{Labels}
 use Rattle.vx_asm.specs.declared.class_draft.Body.{Body}
 use Rattle.vx_asm.specs.declared.class_draft.Covered.{Covered}
 use Rattle.vx_asm.specs.declared.class_draft.ClassDraft.{ClassDraft}

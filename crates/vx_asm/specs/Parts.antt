@@ -6,7 +6,7 @@ use Rattle.std.specs.Str.{bytes_eq}
 use Rattle.vx_class.specs.declared.class_file.Field.{Field}
 use Rattle.vx_class.specs.declared.class_file.Method.{Method}
 use Rattle.vx_class.specs.Members.{is_lawful_initialiser}
-use Rattle.vx_source.specs.Reading.{Read, check}
+use Rattle.vx_source_words.specs.Reading.{Read, check}
 use Rattle.vx_source.specs.declared.lines.SourceLine.{SourceLine}
 use Rattle.vx_source.specs.declared.statement.Statement.{Statement}
 use Rattle.vx_source.specs.declared.statement.Statement.TheVariants as statement
@@ -16,9 +16,9 @@ use Rattle.vx_source.specs.declared.statement.MethodLine.{MethodLine}
 use Rattle.vx_source.specs.declared.statement.Room.{Room}
 use Rattle.vx_source.specs.declared.statement.Value.{Value}
 use Rattle.vx_source.specs.declared.statement.Value.TheVariants as value
-use Rattle.vx_class_parts.specs.Bodies.{labels_of}
+use Rattle.vx_code_parts.specs.Bodies.{labels_of}
 use Rattle.vx_class_parts.specs.Constants.{with_text, with_class, with_constant, in_file, in_file_or_zero}
-use Rattle.vx_class_parts.specs.Instructions.{is_of_version}
+use Rattle.vx_code_parts.specs.Instructions.{is_of_version}
 use Rattle.vx_class_parts.specs.Rules.{is_lawful_class, is_plain_class, is_lawful_field, is_lawful_method, may_have_value, is_lawful_code}
 use Rattle.vx_class_parts.specs.declared.constants.Constant.{Constant}
 use Rattle.vx_class_parts.specs.declared.constants.Constant.TheVariants as constant
@@ -58,8 +58,7 @@ has_class _ = true
 unfoldable pub version_said : ClassDraft → ℕ → Read ClassDraft
 version_said d major =
     check (may_have_version d.stage) 5
-    (check (nat_le 45 major && nat_le major 52) 8
-    (Ok (record d { stage = stage.Version; major = major })))
+    (Ok (record d { stage = stage.Version; major = major }))
 
 -- the pool with the class and its superclass
 abbrev pub with_names : List Constant → ClassLine → List Constant

@@ -2,9 +2,9 @@
 use Rattle.std.specs.Prelude.{◌≡◌, ℕ, ◌+◌, List, [], ◌∷◌, length, Bool, not, is_none, nat_lt, ◌==◌, ◌&&◌, Option, Some, None, Result, Ok, Err, if◌then◌else◌}
 use Rattle.vx_class.specs.declared.class_file.ClassFile.{ClassFile}
 use Rattle.vx_source.specs.Lines.{source_of}
-use Rattle.vx_source.specs.Reading.{Read}
-use Rattle.vx_source.specs.declared.fault.LineFault.{LineFault}
-use Rattle.vx_source.specs.declared.fault.LineFault.TheVariants as line_fault
+use Rattle.vx_source_words.specs.Reading.{Read}
+use Rattle.vx_source_words.specs.declared.fault.LineFault.{LineFault}
+use Rattle.vx_source_words.specs.declared.fault.LineFault.TheVariants as line_fault
 use Rattle.vx_source.specs.declared.lines.Said.{Said}
 use Rattle.vx_source.specs.declared.lines.Said.TheVariants as said
 use Rattle.vx_source.specs.declared.lines.SourceLine.{SourceLine}

@@ -1,19 +1,21 @@
 //! The lines of a method's body: instructions, labels and catch rows (JVMS 4.7.3, 4.9.1).
 
 ghost use Rattle.std.specs.Prelude.{◌≡◌, ◌+◌, ◌<◌, ◌&&◌, take, min, option_copied, is_some, OnOk, IfOk};
-ghost use Rattle.vx_source.specs.Reading.{Gives};
-ghost use Rattle.vx_class_parts.specs.Bodies.{find_label};
-ghost use Rattle.vx_class_parts.specs.Instructions.{constant_of};
+ghost use Rattle.vx_source_words.specs.Reading.{Gives};
+ghost use Rattle.vx_code_parts.specs.Bodies.{find_label};
+ghost use Rattle.vx_code_parts.specs.Instructions.{constant_of};
 ghost use Rattle.vx_asm.specs.Bodies.{with_needed, is_index_near, with_draft, pool_of_instruction, with_instruction, instruction_said, label_said, are_known, is_caught, is_lawful_row, covered, with_covered, with_row, catch_said};
 
 use crate::class_draft::{Body, ClassDraft, Covered};
 use std::alloc::{AllocError, Global};
-use vx_class_parts::{
-    Constant, Label, Labels, check_instruction, constant_of, draft_of, find_label, in_file_or_zero,
-    index_of, is_known, is_lawful_class, leads, number_of, pushed, put_constant,
+use vx_class_parts::{Constant, in_file_or_zero, index_of, is_lawful_class, put_constant};
+use vx_code_parts::{
+    Label, Labels, check_instruction, constant_of, draft_of, find_label, is_known, leads,
+    number_of, pushed,
 };
 use vx_list::Items;
-use vx_source::{CatchLine, Instruction, LineFault, refused};
+use vx_source::{CatchLine, Instruction};
+use vx_source_words::{LDC, LineFault, refused};
 use vx_value::Name;
 
 /// The constant that an instruction needs.
@@ -36,7 +38,7 @@ fn is_index_near(pool: &[Constant], opcode: u8, needed: Option<&Constant>) -> bo
 {
     match needed {
         None => true,
-        Some(constant) => opcode != 0x12 || index_of(pool, constant) < 256,
+        Some(constant) => opcode != LDC || index_of(pool, constant) < 256,
     }
 }
 
@@ -92,6 +94,8 @@ fn with_instruction(
     })
 }
 
+/// An instruction of a body, behind the others where it meets its rules: of its version (2), its labels (4), its text (6)
+/// and its operands (8).
 #[tactic(auto, unfolding(crate::specs::Bodies::instruction_said))]
 pub fn instruction_line(
     alloc: Global,
@@ -131,6 +135,7 @@ fn one_more(passed: usize, all: usize) -> usize
     if passed < all { passed + 1 } else { all }
 }
 
+/// A label, which stands once in its body (4).
 #[tactic(auto, unfolding(crate::specs::Bodies::label_said))]
 pub fn label_line(draft: ClassDraft, body: Body, name: &[u8]) -> Result<ClassDraft, LineFault>
     ensures { Gives result (label_said draft body name.now) }
@@ -215,6 +220,8 @@ fn with_row(
     })
 }
 
+/// A catch row: its labels are known (4), it covers something, an instruction stands behind its handler, and what it
+/// catches is a class (8).
 #[tactic(auto, unfolding(crate::specs::Bodies::catch_said))]
 pub fn catch_line(
     alloc: Global,

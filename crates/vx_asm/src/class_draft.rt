@@ -1,7 +1,8 @@
 //! A class while the lines of its source are read.
 
 use vx_class::{Field, Method};
-use vx_class_parts::{Constant, Draft, Labels};
+use vx_class_parts::Constant;
+use vx_code_parts::{Draft, Labels};
 use vx_list::Items;
 use vx_value::Name;
 

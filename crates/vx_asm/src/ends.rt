@@ -1,17 +1,16 @@
 //! The end of a body: the places of its instructions, its catch rows and its code (JVMS 4.7.3).
 
 ghost use Rattle.std.specs.Prelude.{◌≡◌, ◌<◌, map, OnOk, IfOk};
-ghost use Rattle.vx_source.specs.Reading.{Gives};
+ghost use Rattle.vx_source_words.specs.Reading.{Gives};
 ghost use Rattle.vx_asm.specs.Bodies.{places_of, with_caught, with_rows, caught_index, place_in_file, catch_of, code_of, method_of, is_small_code, with_end, end_said};
 
 use crate::class_draft::{Body, ClassDraft, Covered};
 use std::alloc::{AllocError, Global};
 use vx_class::{Catch, Code, Method};
-use vx_class_parts::{
-    Constant, Draft, all_reach, class_index, code_bytes, next_place, place_of, pushed, put_class,
-};
+use vx_class_parts::{Constant, class_index, put_class};
+use vx_code_parts::{Draft, all_reach, code_bytes, next_place, place_of, pushed};
 use vx_list::Items;
-use vx_source::{LineFault, refused};
+use vx_source_words::{LineFault, refused};
 use vx_value::Name;
 
 /// The places of instructions, and the place behind them.
@@ -177,6 +176,8 @@ fn with_end(
     })
 }
 
+/// The end of a body: its code and its rows are few enough, what jumps and `ldc` name is near enough (7), and there is an
+/// instruction (8).
 #[tactic(auto, unfolding(crate::specs::Bodies::end_said))]
 pub fn end_line(alloc: Global, draft: ClassDraft, body: &Body) -> Result<ClassDraft, LineFault>
     ensures { Gives result (end_said draft body.now) }

@@ -1,7 +1,7 @@
 //! Fields and their values (JVMS 4.5, 4.7.2).
 
 ghost use Rattle.std.specs.Prelude.{◌≡◌, ◌<◌, option_copied, OnOk, IfOk};
-ghost use Rattle.vx_source.specs.Reading.{Gives};
+ghost use Rattle.vx_source_words.specs.Reading.{Gives};
 ghost use Rattle.vx_asm.specs.Parts.{with_signature, is_text_value, constant_of_value, with_value, field_of, pool_of_field, with_field, is_lawful_field_line, field_said};
 
 use crate::class_draft::{ClassDraft, Stage};
@@ -9,11 +9,12 @@ use crate::parts::{is_taken, may_have_field, signature_of};
 use std::alloc::{AllocError, Global};
 use vx_class::Field;
 use vx_class_parts::{
-    Constant, in_file_or_zero, is_lawful_field, may_have_value, pushed, put_constant, put_text,
-    text_index,
+    Constant, in_file_or_zero, is_lawful_field, may_have_value, put_constant, put_text, text_index,
 };
+use vx_code_parts::pushed;
 use vx_list::Items;
-use vx_source::{FieldLine, LineFault, Value, refused};
+use vx_source::{FieldLine, Value};
+use vx_source_words::{LineFault, refused};
 use vx_value::Name;
 
 fn is_text_value(value: &Value) -> bool
@@ -118,6 +119,7 @@ fn is_lawful_line(draft: &ClassDraft, line: &FieldLine) -> bool
         && !is_taken(draft.field_signatures.as_slice(), name, descriptor)
 }
 
+/// A field: it stands in its place (5), its value is a text where one is expected (6), and it meets the rules of fields (8).
 #[tactic(auto, unfolding(crate::specs::Parts::field_said))]
 pub fn field_line(
     alloc: Global,

@@ -1,7 +1,7 @@
 //! Methods up to their bodies (JVMS 4.6).
 
 ghost use Rattle.std.specs.Prelude.{◌≡◌, ◌<◌, true, OnOk, IfOk};
-ghost use Rattle.vx_source.specs.Reading.{Gives};
+ghost use Rattle.vx_source_words.specs.Reading.{Gives};
 ghost use Rattle.vx_asm.specs.Parts.{locals_of, is_lawful_method_line, with_signature, bare_method, with_bare_method, body_of, pool_of_body, with_body, with_room, method_said};
 
 use crate::class_draft::{Body, ClassDraft, Stage};
@@ -10,11 +10,12 @@ use crate::parts::{has_class, is_taken, signature_of};
 use std::alloc::{AllocError, Global};
 use vx_class::Method;
 use vx_class_parts::{
-    Constant, is_lawful_code, is_lawful_initialiser, is_lawful_method, labels_of, pushed, put_text,
-    text_index,
+    Constant, is_lawful_code, is_lawful_initialiser, is_lawful_method, put_text, text_index,
 };
+use vx_code_parts::{labels_of, pushed};
 use vx_list::Items;
-use vx_source::{LineFault, MethodLine, Room, SourceLine, refused};
+use vx_source::{MethodLine, Room, SourceLine};
+use vx_source_words::{LineFault, refused};
 
 fn locals_of(room: Option<Room>) -> Option<u16>
     ensures { result ≡ locals_of room }
@@ -163,6 +164,8 @@ fn with_room(
     }
 }
 
+/// A method: the class stands before it (5), and it meets the rules of methods (8). The labels of its body are looked for in
+/// the lines behind it.
 #[tactic(auto, unfolding(crate::specs::Parts::method_said))]
 pub fn method_line(
     alloc: Global,

@@ -2,16 +2,18 @@
 
 ghost use Rattle.std.specs.Prelude.{◌≡◌, ◌<◌, ◌==◌, ◌&&◌, OnOk, IfOk};
 ghost use Rattle.std.specs.Str.{bytes_eq};
-ghost use Rattle.vx_source.specs.Reading.{Gives};
+ghost use Rattle.vx_source_words.specs.Reading.{Gives};
 ghost use Rattle.vx_class_parts.specs.Constants.{in_file};
 ghost use Rattle.vx_class_parts.specs.declared.constants.Constant.TheVariants.{Class};
 ghost use Rattle.vx_asm.specs.Parts.{may_have_version, may_have_class, may_have_interface, may_have_field, has_class, version_said, with_names, with_class_line, class_said, with_interface, implements_said, is_taken};
 
 use crate::class_draft::{ClassDraft, Signature, Stage};
 use std::alloc::{AllocError, Global};
-use vx_class_parts::{Constant, class_index, is_lawful_class, is_plain_class, pushed, put_class};
+use vx_class_parts::{Constant, class_index, is_lawful_class, is_plain_class, put_class};
+use vx_code_parts::pushed;
 use vx_list::Items;
-use vx_source::{ClassLine, LineFault, refused};
+use vx_source::ClassLine;
+use vx_source_words::{LineFault, refused};
 use vx_value::Name;
 
 fn may_have_version(stage: Stage) -> bool
@@ -32,6 +34,7 @@ fn may_have_interface(stage: Stage) -> bool
     matches!(stage, Stage::Class)
 }
 
+/// Whether a field may follow.
 pub fn may_have_field(stage: Stage) -> bool
     ensures { result ≡ may_have_field stage }
 {
@@ -45,15 +48,13 @@ pub fn has_class(stage: Stage) -> bool
     !may_have_class(stage)
 }
 
+/// The version, before which nothing stands (5).
 #[tactic(auto, unfolding(crate::specs::Parts::version_said))]
 pub fn version_line(draft: ClassDraft, major: u16) -> Result<ClassDraft, LineFault>
     ensures { Gives result (version_said draft major) }
 {
     if !may_have_version(draft.stage) {
         return refused(5);
-    }
-    if !(45..=52).contains(&major) {
-        return refused(8);
     }
     Ok(ClassDraft {
         stage: Stage::Version,
@@ -98,6 +99,7 @@ fn with_class_line(
     })
 }
 
+/// The class and its superclass, before which at most the version stands (5), and which are no arrays (8).
 #[tactic(auto, unfolding(crate::specs::Parts::class_said))]
 pub fn class_line(
     alloc: Global,
@@ -129,6 +131,7 @@ fn with_interface(alloc: Global, draft: ClassDraft, name: &[u8]) -> Result<Class
     })
 }
 
+/// A superinterface, before which the class and others stand (5), and which is a class (8).
 #[tactic(auto, unfolding(crate::specs::Parts::implements_said))]
 pub fn implements_line(
     alloc: Global,
@@ -161,6 +164,7 @@ pub fn is_taken(signatures: &[Signature], name: &[u8], descriptor: &[u8]) -> boo
         .any(|signature| is_signature(signature, name, descriptor))
 }
 
+/// The name and the descriptor of a member.
 pub fn signature_of(alloc: Global, name: &[u8], descriptor: &[u8]) -> Result<Signature, AllocError>
     ensures { IfOk result (λ s. s ≡ record { name = name.now; descriptor = descriptor.now }) }
 {

@@ -2,8 +2,8 @@
 
 ghost use Rattle.std.specs.Prelude.{◌≡◌, ◌+◌, ◌<◌, ◌^◌, Ok, Err, ◌&&◌, ◌==◌, IfOk, IfErr, None};
 ghost use Rattle.vx_class.specs.declared.class_file.ClassFile.{ClassFile};
-ghost use Rattle.vx_class_parts.specs.Instructions.{is_of_version};
-ghost use Rattle.vx_source.specs.Reading.{Gives, check};
+ghost use Rattle.vx_code_parts.specs.Instructions.{is_of_version};
+ghost use Rattle.vx_source_words.specs.Reading.{Gives, check};
 ghost use Rattle.vx_writer.specs.Written.{spelling};
 ghost use Rattle.vx_asm.specs.Parts.{part_said};
 ghost use Rattle.vx_asm.specs.Bodies.{body_said};
@@ -18,9 +18,11 @@ use crate::methods::method_line;
 use crate::parts::{class_line, has_class, implements_line, version_line};
 use std::alloc::{AllocError, Global};
 use vx_class::ClassFile;
-use vx_class_parts::{is_of_version, places, pool_of};
+use vx_class_parts::{places, pool_of};
+use vx_code_parts::is_of_version;
 use vx_list::Items;
-use vx_source::{LineFault, Operand, Said, Source, SourceLine, Statement, read_source, refused};
+use vx_source::{Operand, Said, Source, SourceLine, Statement, read_source};
+use vx_source_words::{LineFault, refused};
 use vx_writer::write_class;
 
 /// An instruction that stands in no body.

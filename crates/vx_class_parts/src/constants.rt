@@ -85,24 +85,26 @@ fn put(pool: &mut Vec<Constant>, constant: Constant) -> Result<(), AllocError>
     Ok(())
 }
 
+/// A text behind the others, unless it is there.
 pub fn put_text(alloc: Global, pool: &mut Vec<Constant>, text: &[u8]) -> Result<(), AllocError>
     ensures { OnOk result (pool.new.items ≡ with_text pool.old.items text.now) }
 {
     put(pool, Constant::Text(Name::of(alloc, text)?))
 }
 
-pub fn put_number(pool: &mut Vec<Constant>, number: i32) -> Result<(), AllocError>
+fn put_number(pool: &mut Vec<Constant>, number: i32) -> Result<(), AllocError>
     ensures { OnOk result (pool.new.items ≡ with pool.old.items (Constant.Integer number)) }
 {
     put(pool, Constant::Integer(number))
 }
 
-pub fn put_long(pool: &mut Vec<Constant>, number: i64) -> Result<(), AllocError>
+fn put_long(pool: &mut Vec<Constant>, number: i64) -> Result<(), AllocError>
     ensures { OnOk result (pool.new.items ≡ with pool.old.items (Constant.Long number)) }
 {
     put(pool, Constant::Long(number))
 }
 
+/// A class and its name behind the others, unless they are there.
 pub fn put_class(alloc: Global, pool: &mut Vec<Constant>, name: &[u8]) -> Result<(), AllocError>
     ensures { OnOk result (pool.new.items ≡ with_class pool.old.items name.now) }
 {
@@ -110,7 +112,7 @@ pub fn put_class(alloc: Global, pool: &mut Vec<Constant>, name: &[u8]) -> Result
     put_text(alloc, pool, name)
 }
 
-pub fn put_literal(alloc: Global, pool: &mut Vec<Constant>, text: &[u8]) -> Result<(), AllocError>
+fn put_literal(alloc: Global, pool: &mut Vec<Constant>, text: &[u8]) -> Result<(), AllocError>
     ensures { OnOk result (pool.new.items ≡ with_literal pool.old.items text.now) }
 {
     put(pool, Constant::Literal(Name::of(alloc, text)?))?;
@@ -132,7 +134,7 @@ fn put_name_and_type(
     put_text(alloc, pool, descriptor)
 }
 
-pub fn put_member(
+fn put_member(
     alloc: Global,
     pool: &mut Vec<Constant>,
     kind: Kind,
@@ -188,7 +190,7 @@ pub fn places(pool: &[Constant]) -> u128
 }
 
 /// The index of a constant as it stands in the file.
-pub fn in_file(pool: &[Constant], constant: &Constant) -> u16
+fn in_file(pool: &[Constant], constant: &Constant) -> u16
     ensures { result ≡ in_file pool.now constant.now }
 {
     (index_of(pool, constant) % 65_536) as u16

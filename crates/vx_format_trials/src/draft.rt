@@ -1,29 +1,34 @@
 use std::test::Fail;
 use vx_class_parts::{
-    Constant, Draft, Kind, Labels, all_reach, check_instruction, class_index, code_bytes,
-    constant_of, draft_of, find_label, in_file, index_of, is_known, is_lawful_class,
-    is_lawful_code, is_lawful_field, is_lawful_initialiser, is_lawful_method, is_of_version,
-    is_plain_class, labels_of, leads, may_have_value, next_place, number_of, place_of, places,
-    pool_of, put_class, put_constant, put_literal, put_long, put_member, put_number, put_text,
-    text_index,
+    Constant, Kind, class_index, in_file_or_zero, index_of, is_lawful_class, is_lawful_code,
+    is_lawful_field, is_lawful_initialiser, is_lawful_method, is_plain_class, may_have_value,
+    places, pool_of, put_class, put_constant, put_text, text_index,
+};
+use vx_code_parts::{
+    Draft, Labels, all_reach, check_instruction, code_bytes, constant_of, draft_of, find_label,
+    is_known, is_of_version, labels_of, leads, next_place, number_of, place_of,
 };
 use vx_pool::Entry;
 use vx_source::{Instruction, Operand, Said, Source, Statement, Value, read_source};
+use vx_value::Name;
 
 #[test]
 fn puts_each_constant_once_where_it_is_first_needed(rt: HostRuntime) -> Result<(), Fail> {
     let alloc = rt.alloc();
     let mut pool = Vec::new(alloc);
     put_class(alloc, &mut pool, b"A")?;
-    put_member(alloc, &mut pool, Kind::Method, b"A", b"f", b"()V")?;
-    put_long(&mut pool, 5)?;
-    put_number(&mut pool, 7)?;
-    put_literal(alloc, &mut pool, b"A")?;
+    let first = Name::of(alloc, b"A")?;
+    let second = Name::of(alloc, b"f")?;
+    let method = Constant::Member(Kind::Method, first, second, Name::of(alloc, b"()V")?);
+    put_constant(alloc, &mut pool, &method)?;
+    put_constant(alloc, &mut pool, &Constant::Long(5))?;
+    put_constant(alloc, &mut pool, &Constant::Integer(7))?;
+    put_constant(alloc, &mut pool, &Constant::Literal(Name::of(alloc, b"A")?))?;
     put_constant(alloc, &mut pool, &Constant::Integer(7))?;
     put_text(alloc, &mut pool, b"g")?;
     assert_eq!(&rt; places(&pool), 12);
     assert_eq!(&rt; index_of(&pool, &Constant::Integer(7)), 9);
-    assert_eq!(&rt; in_file(&pool, &Constant::Long(5)), 7);
+    assert_eq!(&rt; in_file_or_zero(&pool, Some(&Constant::Long(5))), 7);
     assert_eq!(&rt; class_index(alloc, &pool, b"A")?, 1);
     assert_eq!(&rt; text_index(alloc, &pool, b"g")?, 11);
     let file = pool_of(alloc, &pool)?;
@@ -44,7 +49,7 @@ fn index_needed(
         None => Ok(0),
         Some(constant) => {
             put_constant(rt.alloc(), pool, &constant)?;
-            Ok(in_file(pool, &constant))
+            Ok(in_file_or_zero(pool, Some(&constant)))
         }
     }
 }

@@ -1,2 +1,1 @@
 mod Numbering
-mod Quotes

@@ -1,9 +1,3 @@
-pub mod Reading
-pub mod Steps
-pub mod Numbers
-pub mod Texts
-pub mod Tokens
-pub mod Mnemonics
 pub mod Operands
 pub mod Statements
 pub mod Lines

@@ -2,8 +2,8 @@
 use Rattle.std.specs.Prelude.{ℕ, ◌+◌, List, [], ◌∷◌, ◌++◌, length, take, slice_index, Bool, ◌==◌, ◌||◌, Ok, Err, if◌then◌else◌, codes}
 use Rattle.std.specs.Str.{bytes_eq}
 use Rattle.vx_words.specs.Lines.{lines}
-use Rattle.vx_source.specs.Reading.{Read, ◌>>=◌}
-use Rattle.vx_source.specs.Tokens.{unindented, blank_place, tokens}
+use Rattle.vx_source_words.specs.Reading.{Read, ◌>>=◌}
+use Rattle.vx_source_words.specs.Tokens.{unindented, blank_place, tokens}
 use Rattle.vx_source.specs.Statements.{is_part, statement_of}
 use Rattle.vx_source.specs.declared.statement.Statement.{Statement}
 use Rattle.vx_source.specs.declared.lines.Said.{Said}

@@ -5,11 +5,11 @@ use Rattle.std.specs.Str.{bytes_eq}
 use Rattle.vx_opcode.specs.declared.shape.Shape.{Shape}
 use Rattle.vx_opcode.specs.declared.shape.Shape.TheVariants as shape
 use Rattle.vx_opcode.specs.Table.{shape_of}
-use Rattle.vx_source.specs.Reading.{Read, ◌>>=◌, check}
-use Rattle.vx_source.specs.Numbers.{spelled, number_of, is_within, value}
-use Rattle.vx_source.specs.Texts.{text_of}
-use Rattle.vx_source.specs.Tokens.{word_at}
-use Rattle.vx_source.specs.declared.numbers.Number.{Number}
+use Rattle.vx_source_words.specs.Reading.{Read, ◌>>=◌, check}
+use Rattle.vx_source_words.specs.Numbers.{spelled, number_of, is_within, value}
+use Rattle.vx_source_words.specs.Texts.{text_of}
+use Rattle.vx_source_words.specs.Tokens.{word_at}
+use Rattle.vx_source_words.specs.declared.numbers.Number.{Number}
 use Rattle.vx_source.specs.declared.statement.Operand.{Operand}
 use Rattle.vx_source.specs.declared.statement.Operand.TheVariants as operand
 use Rattle.vx_source.specs.declared.statement.Case.{Case}
@@ -25,12 +25,13 @@ ranged low high word = do
   n ← spelled word
   check (is_within low high n) 3 (Ok n)
 
--- numbers of 16, 32 and 64 bits
-unfoldable pub u2_of : List ℕ → Read ℕ
-u2_of word = do
-  n ← ranged 0 0xffff word
-  Ok n.magnitude
+-- a major version that is read
+unfoldable pub version_of : List ℕ → Read ℕ
+version_of word = do
+  n ← ranged 0 52 word
+  check (nat_le 45 n.magnitude) 3 (Ok n.magnitude)
 
+-- numbers of 32 and 64 bits
 unfoldable pub int_of : List ℕ → Read ℤ
 int_of word = do
   n ← ranged 0x8000_0000 0x7fff_ffff word

@@ -1,11 +1,12 @@
 -- What a line says, by its first word.
-use Rattle.std.specs.Prelude.{ℕ, ◌-◌, List, length, take, slice_index, Bool, false, true, nat_le, nat_lt, ◌==◌, ◌&&◌, ◌||◌, Option, Some, None, Ok, Err, if◌then◌else◌, codes}
+use Rattle.std.specs.Prelude.{ℕ, ◌+◌, ◌-◌, List, length, take, drop, min, slice_index, Bool, false, true, nat_le, nat_lt, ◌==◌, ◌&&◌, ◌||◌, Option, Some, None, Ok, Err, if◌then◌else◌, codes}
+use Rattle.std.specs.List.{list_any}
 use Rattle.std.specs.Str.{bytes_eq}
-use Rattle.vx_source.specs.Reading.{Read, ◌>>=◌, check}
-use Rattle.vx_source.specs.Numbers.{spelled, is_within, are_four_hex, four_hex}
-use Rattle.vx_source.specs.Tokens.{word_at}
-use Rattle.vx_source.specs.Mnemonics.{opcode_of}
-use Rattle.vx_source.specs.Operands.{is_word, u2_of, int_of, long_of, literal, operand_of, wide_operand_of}
+use Rattle.vx_source_words.specs.Reading.{Read, ◌>>=◌, check}
+use Rattle.vx_source_words.specs.Numbers.{spelled, is_within, are_four_hex, four_hex}
+use Rattle.vx_source_words.specs.Tokens.{word_at, begins_text}
+use Rattle.vx_source_words.specs.Mnemonics.{opcode_of}
+use Rattle.vx_source.specs.Operands.{is_word, version_of, int_of, long_of, literal, operand_of, wide_operand_of}
 use Rattle.vx_source.specs.declared.statement.Statement.{Statement}
 use Rattle.vx_source.specs.declared.statement.Statement.TheVariants as statement
 use Rattle.vx_source.specs.declared.statement.Value.{Value}
@@ -16,7 +17,7 @@ use Rattle.vx_source.specs.declared.statement.Room.{Room}
 
 -- version MAJOR
 unfoldable pub version_line : List (List ℕ) → Read Statement
-version_line words = check (length words == 2) 2 (u2_of (word_at words 1) >>= λ n. Ok (statement.Version n))
+version_line words = check (length words == 2) 2 (version_of (word_at words 1) >>= λ n. Ok (statement.Version n))
 
 -- class FLAGS NAME SUPER
 unfoldable pub class_line : List (List ℕ) → Read Statement
@@ -116,5 +117,31 @@ body_line words =
     else if is_label (word_at words 0) then label_line words
     else instruction_line words
 
+unfoldable pub line_said : List (List ℕ) → Read Statement
+line_said words = if is_part (word_at words 0) then part_line words else body_line words
+
+-- ---- texts
+
+-- `ldc string` and `ldc_w string`
+abbrev pub loads_text : List (List ℕ) → Bool
+loads_text words = (is_word words 0 (codes "ldc") || is_word words 0 (codes "ldc_w")) && is_word words 1 (codes "string")
+
+-- a field's descriptor and `string`
+abbrev pub gives_text : List (List ℕ) → Bool
+gives_text words = is_word words 0 (codes "field") && is_word words 4 (codes "string")
+
+-- the place of the one word that is to be a text, or the place behind the last one
+abbrev pub text_place : List (List ℕ) → ℕ
+text_place words = if loads_text words then 2 else if gives_text words then 5 else length words
+
+-- a text stands where none is expected
+unfoldable pub has_stray_text : List (List ℕ) → Bool
+has_stray_text words = list_any begins_text (take (text_place words) words) || list_any begins_text (drop (text_place words + 1) words)
+
+-- what was said is refused, with the lesser one of two reasons
+abbrev pub refused_too : ℕ → Read Statement → Read Statement
+refused_too reason (Ok s) = Err reason
+refused_too reason (Err e) = Err (min e reason)
+
 abbrev pub statement_of : List (List ℕ) → Read Statement
-statement_of words = if is_part (word_at words 0) then part_line words else body_line words
+statement_of words = if has_stray_text words then refused_too 2 (line_said words) else line_said words

@@ -1,17 +1,15 @@
 //! The lines of a source, each with its number from 1 on.
 
 ghost use Rattle.std.specs.Prelude.{◌≡◌, ◌∷◌, ◌++◌, [], IfOk, OnOk, if◌then◌else◌};
-ghost use Rattle.vx_source.specs.Reading.{Gives};
+ghost use Rattle.vx_source_words.specs.Reading.{Gives};
 ghost use Rattle.vx_source.specs.Lines.{is_skipped, first_word_of, ends_body, statement_in, said_of, line_of, source_of};
 
-use crate::fault::LineFault;
-use crate::numbers::byte_at;
 use crate::operands::is_text;
 use crate::saying::{is_part, statement_of};
 use crate::statement::Statement;
-use crate::words::{blank_place, front, tokens, unindented};
 use std::alloc::{AllocError, Global};
 use vx_list::Items;
+use vx_source_words::{LineFault, blank_place, byte_at, front, tokens, unindented};
 use vx_words::next_line;
 
 /// What a line says, or the least reason for which it is refused.

@@ -3,18 +3,18 @@
 ghost use Rattle.std.specs.Prelude.{◌≡◌, ◌+◌, ◌-◌, ◌≤◌, ◌<◌, ◌==◌, ◌&&◌, length, drop, map, pos, true, false, position, int_le, ◌+ℤ◌, IfOk, IsTrue};
 ghost use Rattle.std.specs.List.{list_all};
 ghost use Rattle.std.specs.Str.{bytes_eq};
-ghost use Rattle.vx_source.specs.Reading.{Gives, check};
-ghost use Rattle.vx_source.specs.Numbers.{is_within, value, number_of};
-ghost use Rattle.vx_source.specs.Operands.{ranged, u2_of, int_of, long_of, number_operand, local_operand, increment_operand, literal, constant_operand, long_operand, class_operand, jump_operand, member, member_operand, call_operand, kind_of, array_operand, dimensions_operand, table_operand, colon, key_word, is_case, key_of, has_key, case_of, lookup_operand, pool_operand, shaped_operand, operand_of, wide_operand_of};
+ghost use Rattle.vx_source_words.specs.Reading.{Gives, check};
+ghost use Rattle.vx_source_words.specs.Numbers.{is_within, value, number_of};
+ghost use Rattle.vx_source.specs.Operands.{ranged, version_of, int_of, long_of, number_operand, local_operand, increment_operand, literal, constant_operand, long_operand, class_operand, jump_operand, member, member_operand, call_operand, kind_of, array_operand, dimensions_operand, table_operand, colon, key_word, is_case, key_of, has_key, case_of, lookup_operand, pool_operand, shaped_operand, operand_of, wide_operand_of};
 
-use crate::fault::{LineFault, refused};
-use crate::numbers::{Number, is_within, number_of, spelled, value};
 use crate::statement::{Case, Lookup, Member, Operand, Table};
-use crate::texts::{behind, text_of};
-use crate::words::{front, is_word, word_at};
 use std::alloc::{AllocError, Global};
 use vx_list::Items;
 use vx_opcode::{Shape, shape_behind};
+use vx_source_words::{
+    INVOKESPECIAL, INVOKESTATIC, LDC_W, LDC2_W, LineFault, NEW, Number, behind, front, is_within,
+    is_word, number_of, refused, spelled, text_of, value, word_at,
+};
 use vx_value::Name;
 
 /// A number in a range from `-low` to `high`.
@@ -29,11 +29,15 @@ fn ranged(low: u64, high: u64, word: &[u8]) -> Result<Number, LineFault>
     Ok(number)
 }
 
-#[tactic(auto, unfolding(crate::specs::Operands::u2_of))]
-pub fn u2_of(word: &[u8]) -> Result<u16, LineFault>
-    ensures { Gives result (u2_of word.now) }
+/// A major version, from 45 to 52.
+#[tactic(auto, unfolding(crate::specs::Operands::version_of))]
+pub fn version_of(word: &[u8]) -> Result<u16, LineFault>
+    ensures { Gives result (version_of word.now) }
 {
-    let number = ranged(0, 0xffff, word)?;
+    let number = ranged(0, 52, word)?;
+    if number.magnitude < 45 {
+        return refused(3);
+    }
     Ok(number.magnitude as u16)
 }
 
@@ -388,7 +392,7 @@ fn cases_of(alloc: Global, words: &[Name]) -> Result<Vec<Case>, AllocError>
 }
 
 /// The words from a place on, as they stand.
-fn others(words: &[Name], place: usize) -> &[Name]
+pub fn others(words: &[Name], place: usize) -> &[Name]
     ensures { result.now ≡ drop place words.now }
 {
     &words[place.min(words.len())..]
@@ -417,16 +421,16 @@ fn lookup_operand(alloc: Global, words: &[Name]) -> Result<Operand, LineFault>
 fn pool_operand(alloc: Global, opcode: u8, words: &[Name]) -> Result<Operand, LineFault>
     ensures { Gives result (pool_operand opcode words.now) }
 {
-    if opcode == 0x13 {
+    if opcode == LDC_W {
         return constant_operand(alloc, words);
     }
-    if opcode == 0x14 {
+    if opcode == LDC2_W {
         return long_operand(words);
     }
-    if opcode == 0xb7 || opcode == 0xb8 {
+    if opcode == INVOKESPECIAL || opcode == INVOKESTATIC {
         return call_operand(alloc, words);
     }
-    if opcode >= 0xbb {
+    if opcode >= NEW {
         return class_operand(alloc, words);
     }
     member_operand(alloc, words)

@@ -1,21 +1,24 @@
 //! What a line says, by its first word.
 
-ghost use Rattle.std.specs.Prelude.{◌≡◌, IfOk, codes, if◌then◌else◌};
-ghost use Rattle.vx_source.specs.Reading.{Gives};
-ghost use Rattle.vx_source.specs.Numbers.{are_four_hex, four_hex};
-ghost use Rattle.vx_source.specs.Tokens.{word_at};
+ghost use Rattle.std.specs.Prelude.{◌≡◌, take, IfOk, codes, if◌then◌else◌};
+ghost use Rattle.std.specs.List.{list_any};
+ghost use Rattle.vx_source_words.specs.Reading.{Read, Gives};
+ghost use Rattle.vx_source_words.specs.Numbers.{are_four_hex, four_hex};
+ghost use Rattle.vx_source_words.specs.Tokens.{word_at, begins_text};
 ghost use Rattle.vx_source.specs.Operands.{is_word};
-ghost use Rattle.vx_source.specs.Statements.{version_line, class_line, implements_line, is_member, value_of, field_line, room_of, method_line, end_line, catch_line, is_label, label_line, instruction_line, wide_line, is_part, part_line, body_line, statement_of};
+ghost use Rattle.vx_source.specs.Statements.{version_line, class_line, implements_line, is_member, value_of, field_line, room_of, method_line, end_line, catch_line, is_label, label_line, instruction_line, wide_line, is_part, part_line, body_line, line_said, loads_text, gives_text, text_place, has_stray_text, refused_too, statement_of};
 
-use crate::fault::{LineFault, refused};
-use crate::mnemonics::opcode_of;
-use crate::numbers::{are_four_hex, byte_at, four_hex, is_within, spelled};
-use crate::operands::{int_of, is_text, literal, long_of, operand_of, u2_of, wide_operand_of};
+use crate::operands::{
+    int_of, is_text, literal, long_of, operand_of, others, version_of, wide_operand_of,
+};
 use crate::statement::{
     CatchLine, ClassLine, FieldLine, Instruction, MethodLine, Room, Statement, Value,
 };
-use crate::words::{front, is_word, word_at};
 use std::alloc::{AllocError, Global};
+use vx_source_words::{
+    LineFault, are_four_hex, begins_text, byte_at, four_hex, front, is_within, is_word, opcode_of,
+    refused, spelled, word_at,
+};
 use vx_value::Name;
 
 /// The name that a word is.
@@ -45,7 +48,7 @@ fn version_line(words: &[Name]) -> Result<Statement, LineFault>
     if words.len() != 2 {
         return refused(2);
     }
-    Ok(Statement::Version(u2_of(word_at(words, 1))?))
+    Ok(Statement::Version(version_of(word_at(words, 1))?))
 }
 
 #[tactic(auto, unfolding(crate::specs::Statements::class_line))]
@@ -288,12 +291,81 @@ fn body_line(alloc: Global, words: &[Name]) -> Result<Statement, LineFault>
     instruction_line(alloc, words)
 }
 
-/// What the words of a line say.
-pub fn statement_of(alloc: Global, words: &[Name]) -> Result<Statement, LineFault>
-    ensures { Gives result (statement_of words.now) }
+#[tactic(auto, unfolding(crate::specs::Statements::line_said))]
+fn line_said(alloc: Global, words: &[Name]) -> Result<Statement, LineFault>
+    ensures { Gives result (line_said words.now) }
 {
     if is_part(word_at(words, 0)) {
         return part_line(alloc, words);
     }
     body_line(alloc, words)
+}
+
+fn loads_text(words: &[Name]) -> bool
+    ensures { result ≡ loads_text words.now }
+{
+    (is_word(words, 0, b"ldc") || is_word(words, 0, b"ldc_w")) && is_word(words, 1, b"string")
+}
+
+fn gives_text(words: &[Name]) -> bool
+    ensures { result ≡ gives_text words.now }
+{
+    is_word(words, 0, b"field") && is_word(words, 4, b"string")
+}
+
+/// The place of the one word that is to be a text, or the place behind the last one.
+fn text_place(words: &[Name]) -> usize
+    ensures { result ≡ text_place words.now }
+{
+    if loads_text(words) {
+        2
+    } else if gives_text(words) {
+        5
+    } else {
+        words.len()
+    }
+}
+
+fn has_text(words: &[Name]) -> bool
+    ensures { result ≡ list_any begins_text words.now }
+{
+    words.iter().any(|word| begins_text(word.bytes()))
+}
+
+/// The words before a place.
+fn words_before(words: &[Name], place: usize) -> &[Name]
+    ensures { result.now ≡ take place words.now }
+{
+    &words[..place.min(words.len())]
+}
+
+/// Whether a text stands where none is expected.
+#[tactic(auto, unfolding(crate::specs::Statements::has_stray_text))]
+fn has_stray_text(words: &[Name]) -> bool
+    ensures { result ≡ has_stray_text words.now }
+{
+    let place = text_place(words);
+    has_text(words_before(words, place)) || has_text(others(words, place.saturating_add(1)))
+}
+
+/// What was said is refused, with the lesser one of two reasons.
+fn refused_too(reason: u8, said: Result<Statement, LineFault>) -> Result<Statement, LineFault>
+    ensures { (read : Read Statement) → Gives said read → Gives result (refused_too reason read) }
+{
+    match said {
+        Ok(_) => refused(reason),
+        Err(LineFault::Refused(other)) => refused(other.min(reason)),
+        Err(LineFault::NoMemory) => Err(LineFault::NoMemory),
+    }
+}
+
+/// What the words of a line say. A text where none is expected is reason 2.
+pub fn statement_of(alloc: Global, words: &[Name]) -> Result<Statement, LineFault>
+    ensures { Gives result (statement_of words.now) }
+{
+    let said = line_said(alloc, words);
+    if has_stray_text(words) {
+        return refused_too(2, said);
+    }
+    said
 }

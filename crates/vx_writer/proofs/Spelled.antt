@@ -1,10 +1,9 @@
 -- The one spelling of a class spells it.
-use Rattle.std.specs.Prelude.{◌≡◌, ℕ, zero, suc, ◌+◌, ◌<◌, ◌^◌, List, [], ◌∷◌, length, filter, is_some, Bool, true, false, not, ◌&&◌, ◌||◌, Option, Some, None, codes, refl}
+use Rattle.std.specs.Prelude.{◌≡◌, ℕ, zero, suc, ◌+◌, ◌*◌, ◌<◌, ◌^◌, List, [], ◌∷◌, ◌++◌, length, filter, is_some, Bool, true, false, not, ◌&&◌, ◌||◌, Option, Some, None, codes, refl}
 use Rattle.std.specs.List.{flat_map, slice_get, position_or_len, AllByRecursion}
 use Rattle.std.proofs.Common.{ap, subst, ◌∙◌, arith, cond, length-append}
 use Rattle.std.proofs.lemmas.Bool.{lt-ltb}
 use Rattle.std.proofs.lemmas.List.Concat.{flat_map-cons}
-use Rattle.vx_class.specs.File.{File}
 use Rattle.vx_pool.specs.declared.pool.Entry.{Entry}
 use Rattle.vx_pool.specs.declared.pool.Entry.TheVariants as entry
 use Rattle.vx_pool.specs.declared.pool.Pool.{Pool}
@@ -13,10 +12,11 @@ use Rattle.vx_class.specs.declared.class_file.Field.{Field}
 use Rattle.vx_class.specs.declared.class_file.Method.{Method}
 use Rattle.vx_class.specs.declared.class_file.Code.{Code}
 use Rattle.vx_code.specs.Lookups.{text, utf8}
-use Rattle.vx_class.specs.Members.{has, INTERFACE, STATIC, is_given, is_text_of}
-use Rattle.vx_class.specs.Spelling.{u2, Attribute, code_bytes, IsAttribute, AreAttributes, One, IsOneAmong, constant_of, IsConstant, is_constant, IsCode, is_code, FieldSpells, MethodSpells, AllSpell, Spells}
-use Rattle.vx_class.specs.File.{File}
-use Rattle.vx_writer.specs.Written.{is_text_entry, least_place, constant_attributes, field_bytes, code_attribute, code_attributes, method_bytes, head_bytes, members_bytes, spelling}
+use Rattle.vx_class.specs.declared.class_file.Catch.{Catch}
+use Rattle.vx_class.specs.Members.{has, INTERFACE, STATIC, is_given, is_text_of, slots_of, takes_code}
+use Rattle.vx_class.specs.Spelling.{u2, u4, Attribute, catch_bytes, code_bytes, IsAttribute, AreAttributes, One, IsOneAmong, constant_of, IsConstant, is_constant, IsCode, is_code, FieldSpells, MethodSpells, AllSpell, Spells}
+use Rattle.vx_class.specs.File.{File, Holds, CodeIs, CodeHolds, EachBehind, MethodHolds}
+use Rattle.vx_writer.specs.Written.{HasName, MayHaveConstant, MayHaveCode, IsNamedField, IsNamedMethod, IsNamed, is_text_entry, least_place, constant_attributes, field_bytes, code_attribute, code_attributes, method_bytes, head_bytes, members_bytes, spelling}
 
 -- ---- the least place of a text
 
@@ -103,32 +103,51 @@ one_there pool a h = record { few = omega arith; each = (h, tt) }
 abbrev ConstantSpells : Pool → Bool → ℕ → List Attribute → Type 0
 ConstantSpells pool static n attributes = AreAttributes pool attributes × IsOneAmong (is_constant pool static) IsConstant attributes (constant_of n)
 
-constant_spelled : (pool : Pool) (static : Bool) (n : ℕ) (attributes : List Attribute) → AreAttributes pool attributes → IsOneAmong (is_constant pool static) IsConstant attributes (constant_of n)
-    → ConstantSpells pool static n (constant_attributes pool n)
-constant_spelled pool static zero attributes are one = (none_there pool, tt)
-constant_spelled pool static (suc n) attributes are one =
-    let found = some_mine (IsAttribute pool) (is_constant pool static) IsConstant attributes (suc n) are.each one in
-    let is_static = and_first static (is_text_of pool found.0.name (codes "ConstantValue")) found.1 in
-    let place = least_is pool (codes "ConstantValue") found.0.name (and_second static (is_text_of pool found.0.name (codes "ConstantValue")) found.1) in
-    let mine = and_both static (is_text_of pool (least_place pool (codes "ConstantValue")) (codes "ConstantValue")) is_static place in (
+-- the least place of a name that the pool has
+least_named : (pool : Pool) (expected : List ℕ) → HasName pool expected → is_text_of pool (least_place pool expected) expected ≡ true
+least_named pool expected h = least_is pool expected h.0 h.1
+
+constant_spelled : (pool : Pool) (static : Bool) (n : ℕ) → MayHaveConstant pool static n → ConstantSpells pool static n (constant_attributes pool n)
+constant_spelled pool static zero h = (none_there pool, tt)
+constant_spelled pool static (suc n) h =
+    let place = least_named pool (codes "ConstantValue") h.1 in
+    let mine = and_both static (is_text_of pool (least_place pool (codes "ConstantValue")) (codes "ConstantValue")) h.0 place in (
       one_there pool (record { name = least_place pool (codes "ConstantValue"); content = u2 (suc n) }) (is_named pool (least_place pool (codes "ConstantValue")) (codes "ConstantValue") place, omega arith),
       alone (is_constant pool static) IsConstant (record { name = least_place pool (codes "ConstantValue"); content = u2 (suc n) }) (suc n) mine refl,
     )
 
-field_spelled : (pool : Pool) (interface : Bool) (f : Field) (bytes : List ℕ) → FieldSpells pool interface f bytes → FieldSpells pool interface f (field_bytes pool f)
-field_spelled pool interface f bytes h =
-    let constant = constant_spelled pool (interface || has f.flags STATIC) f.constant h.0 h.2 h.3 in
+-- the attributes of a field whose bytes are there
+constant_named : (pool : Pool) (static : Bool) (n : ℕ) (attributes : List Attribute) → AreAttributes pool attributes → IsOneAmong (is_constant pool static) IsConstant attributes (constant_of n)
+    → MayHaveConstant pool static n
+constant_named pool static zero attributes are one = tt
+constant_named pool static (suc n) attributes are one =
+    let found = some_mine (IsAttribute pool) (is_constant pool static) IsConstant attributes (suc n) are.each one in (
+      and_first static (is_text_of pool found.0.name (codes "ConstantValue")) found.1,
+      (found.0.name, and_second static (is_text_of pool found.0.name (codes "ConstantValue")) found.1),
+    )
+
+field_spelled : (pool : Pool) (interface : Bool) (f : Field) → IsNamedField pool interface f → FieldSpells pool interface f (field_bytes pool f)
+field_spelled pool interface f h =
+    let constant = constant_spelled pool (interface || has f.flags STATIC) f.constant h in
     (constant_attributes pool f.constant, refl, constant.0, constant.1)
 
-fields_spelled : (pool : Pool) (interface : Bool) (fs : List Field) (bytes : List ℕ) → AllSpell (FieldSpells pool interface) fs bytes → AllSpell (FieldSpells pool interface) fs (flat_map (field_bytes pool) fs)
-fields_spelled pool interface [] bytes h = refl
-fields_spelled pool interface (f ∷ fs) bytes h = (
+fields_spelled : (pool : Pool) (interface : Bool) (fs : List Field) → AllByRecursion (IsNamedField pool interface) fs → AllSpell (FieldSpells pool interface) fs (flat_map (field_bytes pool) fs)
+fields_spelled pool interface [] h = refl
+fields_spelled pool interface (f ∷ fs) h = (
   field_bytes pool f,
   flat_map (field_bytes pool) fs,
   flat_map-cons (field_bytes pool) f fs,
-  field_spelled pool interface f h.0 h.3,
-  fields_spelled pool interface fs h.1 h.4,
+  field_spelled pool interface f h.0,
+  fields_spelled pool interface fs h.1,
 )
+
+fields_named : (pool : Pool) (interface : Bool) (fs : List Field) (bytes : List ℕ) → AllSpell (FieldSpells pool interface) fs bytes → AllByRecursion (IsNamedField pool interface) fs
+fields_named pool interface [] bytes h = tt
+fields_named pool interface (f ∷ fs) bytes h =
+    let field = h.3 in
+    (constant_named pool (interface || has f.flags STATIC) f.constant field.0 field.2 field.3, fields_named pool interface fs h.1 h.4)
+
+-- ---- code
 
 -- code with no attributes of its own takes no more bytes than with some
 bare_is_short : (code : Code) (skipped : List Attribute) (content : List ℕ) (n : ℕ) → content ≡ code_bytes code skipped → length content < n → length (code_bytes code []) < n
@@ -137,49 +156,104 @@ bare_is_short code skipped content n e lt =
     let long = simp (length-append {A = ℕ}) at whole in
     simp (length-append {A = ℕ}) (omega (arith, long))
 
+row_length : (row : Catch) → length (catch_bytes row) ≡ 8
+row_length row = refl
+
+rows_length : (rows : List Catch) → length (flat_map catch_bytes rows) ≡ 8 * length rows
+rows_length [] = refl
+rows_length (row ∷ rows) =
+    let one = row_length row in
+    let others = rows_length rows in
+    let whole = ap (length {A = ℕ}) (flat_map-cons catch_bytes row rows) ∙ length-append (catch_bytes row) (flat_map catch_bytes rows) in
+    omega (arith, one, others, whole)
+
+-- code that meets the checks is short enough for an attribute
+few_is_short : (code : Code) → length code.bytes < 65536 → length code.catches < 256 ^ 2 → length (code_bytes code []) < 256 ^ 4
+few_is_short code few few_rows =
+    let rows = rows_length code.catches in
+    simp (length-append {A = ℕ}) (omega (arith, few, few_rows, rows))
+
+abbrev IsShortCode : Option Code → Type 0
+IsShortCode None = Unit {0}
+IsShortCode (Some code) = length (code_bytes code []) < 256 ^ 4
+
 abbrev CodeSpells : Pool → Option Code → List Attribute → Type 0
 CodeSpells pool code attributes = AreAttributes pool attributes × IsOneAmong (is_code pool) (IsCode pool) attributes code
 
-code_spelled : (pool : Pool) (code : Option Code) (attributes : List Attribute) → AreAttributes pool attributes → IsOneAmong (is_code pool) (IsCode pool) attributes code
-    → CodeSpells pool code (code_attributes pool code)
+code_spelled : (pool : Pool) (code : Option Code) → MayHaveCode pool code → IsShortCode code → CodeSpells pool code (code_attributes pool code)
 unfolding code_attribute
-code_spelled pool None attributes are one = (none_there pool, tt)
-code_spelled pool (Some code) attributes are one =
-    let found = some_mine (IsAttribute pool) (is_code pool) (IsCode pool) attributes code are.each one in
-    let place = least_is pool (codes "Code") found.0.name found.1 in
-    let short = bare_is_short code found.2.0 found.0.content (256 ^ 4) found.2.2 found.3.1 in (
+code_spelled pool None h short = (none_there pool, tt)
+code_spelled pool (Some code) h short =
+    let place = least_named pool (codes "Code") h in (
       one_there pool (code_attribute pool code) (is_named pool (least_place pool (codes "Code")) (codes "Code") place, short),
       alone (is_code pool) (IsCode pool) (code_attribute pool code) code place ([], none_there pool, refl),
     )
 
-method_spelled : (pool : Pool) (m : Method) (bytes : List ℕ) → MethodSpells pool m bytes → MethodSpells pool m (method_bytes pool m)
-method_spelled pool m bytes h = let code = code_spelled pool m.code h.0 h.2 h.3 in (code_attributes pool m.code, refl, code.0, code.1)
+-- the attributes of a method whose bytes are there
+code_named : (pool : Pool) (code : Option Code) (attributes : List Attribute) → AreAttributes pool attributes → IsOneAmong (is_code pool) (IsCode pool) attributes code
+    → MayHaveCode pool code × IsShortCode code
+code_named pool None attributes are one = (tt, tt)
+code_named pool (Some code) attributes are one =
+    let found = some_mine (IsAttribute pool) (is_code pool) (IsCode pool) attributes code are.each one in
+    ((found.0.name, found.1), bare_is_short code found.2.0 found.0.content (256 ^ 4) found.2.2 found.3.1)
 
-methods_spelled : (pool : Pool) (ms : List Method) (bytes : List ℕ) → AllSpell (MethodSpells pool) ms bytes → AllSpell (MethodSpells pool) ms (flat_map (method_bytes pool) ms)
-methods_spelled pool [] bytes h = refl
-methods_spelled pool (m ∷ ms) bytes h = (
+method_spelled : (pool : Pool) (m : Method) → IsNamedMethod pool m → IsShortCode m.code → MethodSpells pool m (method_bytes pool m)
+method_spelled pool m h short = let code = code_spelled pool m.code h short in (code_attributes pool m.code, refl, code.0, code.1)
+
+abbrev IsShort : Method → Type 0
+IsShort m = IsShortCode m.code
+
+methods_spelled : (pool : Pool) (ms : List Method) → AllByRecursion (IsNamedMethod pool) ms → AllByRecursion IsShort ms → AllSpell (MethodSpells pool) ms (flat_map (method_bytes pool) ms)
+methods_spelled pool [] h short = refl
+methods_spelled pool (m ∷ ms) h short = (
   method_bytes pool m,
   flat_map (method_bytes pool) ms,
   flat_map-cons (method_bytes pool) m ms,
-  method_spelled pool m h.0 h.3,
-  methods_spelled pool ms h.1 h.4,
+  method_spelled pool m h.0 short.0,
+  methods_spelled pool ms h.1 short.1,
 )
+
+methods_named : (pool : Pool) (ms : List Method) (bytes : List ℕ) → AllSpell (MethodSpells pool) ms bytes → AllByRecursion (IsNamedMethod pool) ms × AllByRecursion IsShort ms
+methods_named pool [] bytes h = (tt, tt)
+methods_named pool (m ∷ ms) bytes h =
+    let method = h.3 in
+    let code = code_named pool m.code method.0 method.2 method.3 in
+    let others = methods_named pool ms h.1 h.4 in
+    ((code.0, others.0), (code.1, others.1))
+
+-- methods that meet the checks have short code
+code_is_short : (pool : Pool) (major slots : ℕ) (takes : Bool) (code : Option Code) → CodeIs pool major slots takes code → IsShortCode code
+code_is_short pool major slots takes None h = tt
+code_is_short pool major slots takes (Some code) h = let code_holds = h.1 in few_is_short code code_holds.few code_holds.few_rows
+
+methods_are_short : (pool : Pool) (major : ℕ) (front ms : List Method) → EachBehind (MethodHolds pool major) front ms → AllByRecursion IsShort ms
+methods_are_short pool major front [] h = tt
+methods_are_short pool major front (m ∷ ms) h =
+    let first = h.0 in
+    (code_is_short pool major (slots_of m.flags first.name first.descriptor) (takes_code m.flags first.name) m.code first.code, methods_are_short pool major (front ++ m ∷ []) ms h.1)
 
 -- ---- the class
 
--- where bytes spell a class, its one spelling spells it
-spelling_spells : (bytes : List ℕ) (c : ClassFile) → Spells bytes c → Spells (spelling c) c
+-- where the pool has the names of its attributes, the one spelling of a class spells it
+spelling_spells : (c : ClassFile) → IsNamed c → AllByRecursion IsShort c.methods → Spells (spelling c) c
 unfolding head_bytes members_bytes
-spelling_spells bytes c h = record {
+spelling_spells c named short = record {
   fields = flat_map (field_bytes c.pool) c.fields;
   methods = flat_map (method_bytes c.pool) c.methods;
   skipped = [];
   are_skipped = none_there c.pool;
-  are_fields = fields_spelled c.pool (has c.flags INTERFACE) c.fields h.fields h.are_fields;
-  are_methods = methods_spelled c.pool c.methods h.methods h.are_methods;
+  are_fields = fields_spelled c.pool (has c.flags INTERFACE) c.fields named.fields;
+  are_methods = methods_spelled c.pool c.methods named.methods short;
   parts = refl;
 }
 
 -- where a file holds a class, its one spelling holds it
 pub spelling_holds : (file : List ℕ) (c : ClassFile) → File file c → File (spelling c) c
-spelling_holds file c h = record { spelled = spelling_spells file c h.spelled; holds = h.holds }
+spelling_holds file c h =
+    let fields = fields_named c.pool (has c.flags INTERFACE) c.fields h.spelled.fields h.spelled.are_fields in
+    let methods = methods_named c.pool c.methods h.spelled.methods h.spelled.are_methods in
+    record { spelled = spelling_spells c (record { fields = fields; methods = methods.0 }) methods.1; holds = h.holds }
+
+-- where a class meets every check, and its pool has the names of its attributes, its one spelling holds it
+pub holds_spelled : (c : ClassFile) → Holds c → IsNamed c → File (spelling c) c
+holds_spelled c h named = record { spelled = spelling_spells c named (methods_are_short c.pool c.major [] c.methods h.methods); holds = h }

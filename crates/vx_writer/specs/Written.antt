@@ -1,6 +1,6 @@
 -- The one spelling of a class: its bytes with no attribute that a reading passes over, where each attribute is named by the least pool entry that spells its name.
-use Rattle.std.specs.Prelude.{ℕ, zero, suc, List, [], ◌∷◌, ◌++◌, length, position, unwrap_or, Bool, false, Option, Some, None, codes}
-use Rattle.std.specs.List.{flat_map}
+use Rattle.std.specs.Prelude.{◌≡◌, ℕ, zero, suc, List, [], ◌∷◌, ◌++◌, length, position, unwrap_or, Bool, true, false, ◌||◌, Option, Some, None, codes}
+use Rattle.std.specs.List.{flat_map, AllByRecursion}
 use Rattle.std.specs.Str.{bytes_eq}
 use Rattle.vx_pool.specs.declared.pool.Entry.{Entry}
 use Rattle.vx_pool.specs.declared.pool.Entry.TheVariants as entry
@@ -10,6 +10,7 @@ use Rattle.vx_class.specs.declared.class_file.ClassFile.{ClassFile}
 use Rattle.vx_class.specs.declared.class_file.Field.{Field}
 use Rattle.vx_class.specs.declared.class_file.Method.{Method}
 use Rattle.vx_class.specs.declared.class_file.Code.{Code}
+use Rattle.vx_class.specs.Members.{has, INTERFACE, STATIC, is_text_of}
 use Rattle.vx_class.specs.Spelling.{u2, u4, MAGIC, Attribute, attributes_bytes, code_bytes, member_bytes}
 
 -- ---- names of attributes
@@ -21,6 +22,32 @@ is_text_entry expected _ = false
 -- the least index at which the pool has a text
 abbrev pub least_place : Pool → List ℕ → ℕ
 least_place pool text = unwrap_or (position (is_text_entry text) pool.entries) 0
+
+-- ---- what a class needs so that it has a spelling
+
+-- the pool has a text
+abbrev pub HasName : Pool → List ℕ → Type 0
+HasName pool expected = (i : ℕ) × (is_text_of pool i expected ≡ true)
+
+-- a field that has a constant is static, and the name of the attribute is there
+abbrev pub MayHaveConstant : Pool → Bool → ℕ → Type 0
+MayHaveConstant pool static zero = Unit {0}
+MayHaveConstant pool static (suc n) = (static ≡ true) × HasName pool (codes "ConstantValue")
+
+abbrev pub MayHaveCode : Pool → Option Code → Type 0
+MayHaveCode pool None = Unit {0}
+MayHaveCode pool (Some code) = HasName pool (codes "Code")
+
+abbrev pub IsNamedField : Pool → Bool → Field → Type 0
+IsNamedField pool interface f = MayHaveConstant pool (interface || has f.flags STATIC) f.constant
+
+abbrev pub IsNamedMethod : Pool → Method → Type 0
+IsNamedMethod pool m = MayHaveCode pool m.code
+
+-- the pool of a class has the names of all attributes that its members need
+pub record IsNamed (c : ClassFile) : Type 0 where
+  pub fields : AllByRecursion (IsNamedField c.pool (has c.flags INTERFACE)) c.fields
+  pub methods : AllByRecursion (IsNamedMethod c.pool) c.methods
 
 -- ---- members
 

@@ -3,9 +3,8 @@
 ghost use Rattle.std.specs.Prelude.{◌≡◌, ◌++◌, ℕ, List, OnOk, IfOk};
 ghost use Rattle.std.specs.List.{flat_map};
 ghost use Rattle.vx_class.specs.Spelling.{u2};
-ghost use Rattle.vx_class.specs.File.{File};
-ghost use Rattle.vx_class.specs.File.{File};
-ghost use Rattle.vx_writer.specs.Written.{head_bytes, members_bytes, spelling};
+ghost use Rattle.vx_class.specs.File.{File, Holds};
+ghost use Rattle.vx_writer.specs.Written.{IsNamed, head_bytes, members_bytes, spelling};
 
 use crate::members::{put_fields, put_methods};
 use crate::numbers::{put_count, put_u2, put_u4};
@@ -55,11 +54,13 @@ fn put_members(alloc: Global, out: &mut Vec<u8>, class: &ClassFile) -> Result<()
 /// The bytes of a class: its parts one after the other, with no attribute that a reading passes over, and with each
 /// attribute named by the least pool entry that spells its name. A count that its number has no room for is written by
 /// its lowest bytes; no class that was read has such a count.
-#[tactic(auto, using(crate::proofs::Spelled::spelling_holds))]
+#[tactic(auto, using(crate::proofs::Spelled::spelling_holds, crate::proofs::Spelled::holds_spelled))]
 pub fn write_class(alloc: Global, class: &ClassFile) -> Result<Vec<u8>, AllocError>
     ensures exact { IfOk result (λ bytes. bytes.items ≡ spelling class.now) }
     // Where a file holds the class, the bytes that are written hold it too.
     ensures again { (file : List ℕ) → File file class.now → IfOk result (λ bytes. File bytes.items class.now) }
+    // Where a class meets every check, and its pool has the names of its attributes, the bytes hold it.
+    ensures held { Holds class.now → IsNamed class.now → IfOk result (λ bytes. File bytes.items class.now) }
 {
     let mut out = Vec::new(alloc);
     put_head(&mut out, class)?;

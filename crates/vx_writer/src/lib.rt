@@ -8,4 +8,4 @@ mod numbers;
 mod pool;
 
 pub use class::write_class;
-pub use numbers::{put, put_count, put_length, put_u1, put_u2, put_u4};
+pub use numbers::{put, put_count, put_length, put_u1, put_u4};

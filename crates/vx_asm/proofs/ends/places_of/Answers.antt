@@ -1,6 +1,6 @@
 use Rattle.vx_asm.proofs.Walks.{places_go_on, places_done}
 use Rattle.vx_asm.proofs.ends.places_of.Goals as goal
-use Rattle.vx_class_parts.proofs.Loops.{none_left}
+use Rattle.vx_code_parts.proofs.Loops.{none_left}
 
 pub loop-draft-preserved : goal.loop-draft-preserved
 loop-draft-preserved c = record {

@@ -3,7 +3,7 @@ use Rattle.std.proofs.lemmas.Result.{err_from_is_err_and}
 use Rattle.vx_asm.proofs.Short.{items_behind}
 use Rattle.vx_asm.proofs.Walks.{walk_goes_on, walk_ends, walk_done}
 use Rattle.vx_asm.proofs.source.walk.Goals as goal
-use Rattle.vx_class_parts.proofs.Loops.{none_left}
+use Rattle.vx_code_parts.proofs.Loops.{none_left}
 
 pub returns-in_err-next : goal.returns-in_err-next
 returns-in_err-next c =

@@ -1,6 +1,0 @@
-use Rattle.std.proofs.Common.{◌≡◌, ◌+◌, drop, false}
-use Rattle.vx_source.specs.Texts.{quote_place}
-use Rattle.vx_source.proofs.texts.quote_place.Given as goal
-
-abbrev pub invariant-loop-place : goal.invariant-loop-place
-invariant-loop-place l = quote_place l.escaped (drop l.place l.text) + l.place ≡ quote_place false l.text
