@@ -1,0 +1,4 @@
+pub mod Fitted
+pub mod Zipped
+pub mod OneReport
+pub mod Alike
