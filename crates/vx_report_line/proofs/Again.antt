@@ -18,7 +18,8 @@ use Rattle.vx_words.specs.Names.{is_name}
 use Rattle.vx_report_line.specs.Forms.{is_text, is_code, is_named, is_end, is_root, is_line, IsOnly}
 use Rattle.vx_words.specs.Hex.{hex_value}
 use Rattle.vx_report_line.specs.Parsing.{reading, behind, cut, leading, escaped_byte, first_byte, unspelled, text_in, negative_in, positive_in, code_in, kind_in, unsupported_in, end_in, node_line_in, root_in, piece_in, end_line_in, attempts_in, head_in, count_in, name_in, limit_in, rounds_in, setting_in, front_in, last_in, printed_in, line_in}
-use Rattle.vx_report_line.proofs.Numbers.{by_test, both_true, number_in_of, wide}
+use Rattle.vx_words.proofs.Decimals.{wide}
+use Rattle.vx_report_line.proofs.Numbers.{by_test, both_true, number_in_of}
 
 nat_same : (i : ℕ) → nat_eq i i ≡ true
 nat_same i = grind (arith, nat_tests)

@@ -5,6 +5,7 @@ use Rattle.std.proofs.lemmas.Fmt.{decimal_is_IsNumeral_wide}
 use Rattle.std.specs.Str.Parse.{digits_value}
 use Rattle.std.specs.Str.{bytes_eq}
 use Rattle.std.proofs.lemmas.Slice.Eq.{bytes_eq-Decides}
+use Rattle.vx_words.proofs.Decimals.{wide}
 use Rattle.vx_report_line.specs.Parsing.{◌>>=◌, only_if, below, decimal_in, number_in}
 
 pub by_test : {P : Type 0} (b : Bool) → (b ≡ true → P) → (b ≡ false → P) → P
@@ -90,11 +91,8 @@ pub narrow_over : (less bound : ℕ) (word : List ℕ) (n : ℕ) → less ≤ n 
 unfolding number_in
 narrow_over less bound word n h e = rw ((below_is bound (decimal_in word) n e).0) (not_below less n h)
 
--- numbers of at most 128 bits have fewer than 64 digits
-pub wide : (n : ℕ) → n < 2 ^ 128 → n < 10 ^ 64
-wide n h = omega (arith, h)
-
 -- what a number reads that is compared with its print
-pub number_in_when : (word : List ℕ) (found : Option ℕ) → MatchOption found ((n : ℕ) → n < 2 ^ 128 → word ≢ decimal n) (λ n. (word ≡ decimal n) × (n < 2 ^ 128)) → found ≡ number_in (2 ^ 128) word
-number_in_when word None h = sym (number_in_none _ word h)
-number_in_when word (Some n) (is, small) = rw is (sym (number_in_of _ n small (wide n small)))
+pub number_in_when : (bound : ℕ) (word : List ℕ) (found : Option ℕ) → bound ≤ 2 ^ 128
+    → MatchOption found ((n : ℕ) → n < bound → word ≢ decimal n) (λ n. (word ≡ decimal n) × (n < bound)) → found ≡ number_in bound word
+number_in_when bound word None few h = sym (number_in_none bound word h)
+number_in_when bound word (Some n) few (is, small) = rw is (sym (number_in_of bound n small (wide n (omega (arith, few, small)))))

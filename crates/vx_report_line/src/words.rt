@@ -5,7 +5,7 @@ ghost use Rattle.vx_report_line.specs.Parsing.{behind, cut, number_in, leading, 
 
 use std::alloc::{AllocError, Global};
 use vx_value::Name;
-use vx_words::{hex_value, is_plain, printed_number};
+use vx_words::{hex_value, is_plain, printed_u64, printed_u128};
 
 /// What stands behind a word.
 pub fn behind<'a>(word: &[u8], text: &'a [u8]) -> Option<&'a [u8]>
@@ -30,19 +30,14 @@ pub fn cut(text: &[u8]) -> Option<(&[u8], &[u8])>
 pub fn wide_number(word: &[u8]) -> Option<u128>
     ensures { result ≡ number_in (2 ^ 128) word.now }
 {
-    printed_number(word)
+    printed_u128(word)
 }
 
 /// The number of at most 64 bits whose decimal digits a word is.
 pub fn number(word: &[u8]) -> Option<u64>
     ensures { result ≡ number_in (2 ^ 64) word.now }
 {
-    let n = wide_number(word)?;
-    if n <= u64::MAX as u128 {
-        Some(n as u64)
-    } else {
-        None
-    }
+    printed_u64(word)
 }
 
 /// The number below a bound whose decimal digits a word is.

@@ -1,5 +1,7 @@
 -- A number that is capped at each digit is the capped number.
-use Rattle.std.proofs.Common.{◌≡◌, ℕ, ◌+◌, ◌-◌, ◌*◌, ◌^◌, ◌<◌, suc, List, [], ◌∷◌, min, drop, length, sym, ap, ◌∙◌, arith, add-one, drop-cons, get_or}
+use Rattle.std.proofs.lemmas.Fmt.{decimal_is_IsNumeral_wide}
+use Rattle.std.specs.Str.Parse.{digits_value}
+use Rattle.std.proofs.Common.{decimal, ◌≡◌, ℕ, ◌+◌, ◌-◌, ◌*◌, ◌^◌, ◌<◌, suc, List, [], ◌∷◌, min, drop, length, sym, ap, ◌∙◌, arith, add-one, drop-cons, get_or}
 use Rattle.vx_words.specs.Decimal.{number_from}
 
 pub capped_digit : (cap n d : ℕ) → min cap (10 * min cap n + d) ≡ min cap (10 * n + d)
@@ -23,3 +25,10 @@ next_digit cap n m i word total lt next so_far =
 -- numbers of at most 128 bits have fewer than 64 digits
 pub wide : (n : ℕ) → n < 2 ^ 128 → n < 10 ^ 64
 wide n h = omega (arith, h)
+
+pub below_wide : (n : ℕ) → n < 2 ^ 64 → n < 2 ^ 128
+below_wide n h = omega (arith, h)
+
+-- numbers that are printed alike are equal
+pub same_printed : (m n : ℕ) → m < 2 ^ 128 → n < 2 ^ 128 → decimal m ≡ decimal n → m ≡ n
+same_printed m n h k e = sym (decimal_is_IsNumeral_wide m (wide m h)).1 ∙ ap (digits_value 10) e ∙ (decimal_is_IsNumeral_wide n (wide n k)).1

@@ -13,7 +13,7 @@ pub fn put_number<I: Integer>(out: &mut Vec<u8>, n: I) -> Result<(), AllocError>
 }
 
 /// The number of at most 128 bits whose decimal digits a word is, without sign or leading zero.
-pub fn printed_number(word: &[u8]) -> Option<u128>
+pub fn printed_u128(word: &[u8]) -> Option<u128>
     ensures { MatchOption result ((n : ℕ) → n < 2 ^ 128 → word.now ≢ decimal n) (λ n. (word.now ≡ decimal n) × (n < 2 ^ 128)) }
 {
     let Ok(text) = str::from_utf8(word) else {
@@ -25,6 +25,18 @@ pub fn printed_number(word: &[u8]) -> Option<u128>
     let mut buffer = Buffer::new();
     if buffer.format(n).as_bytes() == word {
         Some(n)
+    } else {
+        None
+    }
+}
+
+/// The number of at most 64 bits whose decimal digits a word is, without sign or leading zero.
+pub fn printed_u64(word: &[u8]) -> Option<u64>
+    ensures { MatchOption result ((n : ℕ) → n < 2 ^ 64 → word.now ≢ decimal n) (λ n. (word.now ≡ decimal n) × (n < 2 ^ 64)) }
+{
+    let n = printed_u128(word)?;
+    if n <= u64::MAX as u128 {
+        Some(n as u64)
     } else {
         None
     }

@@ -3,7 +3,7 @@ use Rattle.std.proofs.lemmas.Fmt.{parse-decimal_wide, IsAscii-decimal_wide}
 use Rattle.std.proofs.lemmas.Str.{IsUtf8-from_ascii}
 use Rattle.std.proofs.lemmas.Slice.Eq.{bytes_eq-Decides}
 use Rattle.vx_words.proofs.Decimals.{wide}
-use Rattle.vx_words.proofs.printed.printed_number.Goals as goal
+use Rattle.vx_words.proofs.printed.printed_u128.Goals as goal
 
 pub returns-in_default : goal.returns-in_default
 returns-in_default c = λ n h e. c.in_default.ensures.cases.0 (rw e (IsUtf8-from_ascii (decimal n) (IsAscii-decimal_wide n (wide n h))))
