@@ -1,7 +1,7 @@
 //! The classes of a program, from those of class files.
 
 ghost use Rattle.std.specs.Prelude.{◌≡◌, ◌+◌, ◌*◌, ◌<◌, ◌^◌, ◌++◌, length, map, option_map, unwrap_or, IfOk};
-ghost use Rattle.vx_link.specs.Faults.{interface_names, super_name};
+ghost use Rattle.vx_link.specs.Faults.{interface_names, name_of, super_name};
 ghost use Rattle.vx_link.specs.Linked.{class_id, method_ids, field_ids, own_clinit, linked_class};
 
 use crate::class_numbers::ClassNumbers;

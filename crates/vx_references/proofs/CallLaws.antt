@@ -1,5 +1,5 @@
 -- What the name of println of an int comes to in a program.
-use Rattle.std.proofs.Common.{◌≡◌, ℕ, Bool, true, false, refl, ◌∙◌, ap, Option, Some, None}
+use Rattle.std.proofs.Common.{◌≡◌, ℕ, Bool, true, false, refl, ◌∙◌, ap, Some}
 use Rattle.std.specs.Prelude.{option_map, ◌&&◌}
 use Rattle.vx_class.specs.Members.{STATIC}
 use Rattle.vx_java.specs.Calls.{call_instance, call_resolved, if_method, on_class, clone_array, wrong_kind}

@@ -1,5 +1,5 @@
 -- How the row of an instruction of a field goes on, step by step.
-use Rattle.std.proofs.Common.{◌≡◌, ℕ, Bool, true, false, refl, sym, ◌∙◌, ap, Option, Some, None}
+use Rattle.std.proofs.Common.{◌≡◌, ℕ, Bool, true, false, refl, sym, ◌∙◌, ap, Some, None}
 use Rattle.std.specs.Prelude.{is_some, option_map, ◌&&◌}
 use Rattle.vx_desc.specs.Descriptors.{field_type}
 use Rattle.vx_desc.specs.declared.java_type.JavaType.{JavaType}
