@@ -1,4 +1,5 @@
-//! What `run` reads: the model, the folder, its class files. Each stage is proved against its part of the plan.
+//! Reading files, for every command: one file within its room, and for `run` the class files of a folder. Each stage is
+//! proved against its part of the plan.
 
 ghost use Rattle.std.specs.Prelude.{◌≡◌, ◌<◌, ◌≤◌, ◌^◌, ℕ, All, List, length, map, string_bytes, IfOk, IfErr, MatchResult, Ok, [], ◌⊎◌};
 ghost use Rattle.vx_class.specs.File.{Holds};
@@ -15,7 +16,7 @@ use vx_class::{ClassFault, ClassFile, read_class};
 use vx_io::{FileFault, Files};
 use vx_value::Name;
 
-/// The most bytes of a model or a class file.
+/// The most bytes of a model, a class file or a source.
 pub const MOST_BYTES: u64 = 1_048_576;
 
 /// The most class files of a folder.
