@@ -1,5 +1,5 @@
 -- Class files by the places of their names.
-use Rattle.std.proofs.Common.{◌≡◌, ℕ, List, ◌++◌, ap, sym, ◌∙◌, Some, None, position, option_map, option_and_then, slice_get, length, bytes_eq, ◌+◌}
+use Rattle.std.proofs.Common.{◌≡◌, ℕ, List, ◌++◌, ap, sym, ◌∙◌, Some, None, option_map, option_and_then, slice_get, length, bytes_eq, ◌+◌}
 use Rattle.std.specs.Option.{option_or}
 use Rattle.std.proofs.lemmas.List.{map-append}
 use Rattle.vx_class.specs.declared.class_file.ClassFile.{ClassFile}

@@ -1,4 +1,4 @@
-use Rattle.std.proofs.Common.{◌≡◌, ◌++◌, ◌-◌, drop, map, option_map}
+use Rattle.std.proofs.Common.{◌≡◌, ◌++◌, drop, map, option_map}
 use Rattle.vx_link.specs.Hierarchy.{chain_within}
 use Rattle.vx_link.specs.Linked.{cell_count}
 use Rattle.vx_linker.proofs.layout.cells_above.Given as goal
