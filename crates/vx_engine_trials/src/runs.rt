@@ -104,7 +104,12 @@ fn agree_at(
 ) -> Result<bool, AllocError> {
     let config = Config::new(
         alloc,
-        &[number & 1 != 0, number & 2 != 0, number & 4 != 0, number & 8 != 0],
+        &[
+            number & 1 != 0,
+            number & 2 != 0,
+            number & 4 != 0,
+            number & 8 != 0,
+        ],
     )?;
     let said = project_text(alloc, report, &config)?;
     let expected = project_text(alloc, other, &config)?;

@@ -1,8 +1,8 @@
 use crate::cases::{CASES, Case, DIFFERENT_VALUES};
 use crate::last_key::LastKey;
 use crate::runs::{agree, report_of};
-use std::process::Abort;
 use std::alloc::Global;
+use std::process::Abort;
 use std::test::Fail;
 use vx_report_reader::read_report;
 use vx_sched::LeastKey;
@@ -37,7 +37,11 @@ fn is_same_with_last_keys(rt: &impl Abort, alloc: Global, case: &Case) -> Result
 fn what_runs_come_to_depends_on_no_order(rt: HostRuntime) -> Result<(), Fail> {
     for case in CASES {
         assert!(rt; is_reported(&rt, rt.alloc(), &case)?, "{:?}", case.report);
-        assert!(rt; is_same_with_last_keys(&rt, rt.alloc(), &case)?, "{:?}", case.report);
+        assert!(rt;
+            is_same_with_last_keys(&rt, rt.alloc(), &case)?,
+            "{:?}",
+            case.report
+        );
     }
     Ok(())
 }

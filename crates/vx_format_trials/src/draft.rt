@@ -125,7 +125,13 @@ fn writes_the_code_of_a_body(rt: HostRuntime) {
     let source = read_source(alloc, BODY).expect(&rt, "memory");
     let labels = labels_of(alloc, source.lines.as_slice()).expect(&rt, "memory");
     let (mut pool, mut drafts) = (Vec::new(alloc), Vec::new(alloc));
-    let put = put_drafts(alloc, source.lines.as_slice(), &labels, &mut pool, &mut drafts);
+    let put = put_drafts(
+        alloc,
+        source.lines.as_slice(),
+        &labels,
+        &mut pool,
+        &mut drafts,
+    );
     assert!(rt; put.is_ok() && are_labels(&labels));
     assert!(rt; matches!(are_drafts(alloc, &drafts), Ok(true)));
 }
@@ -143,9 +149,11 @@ fn are_lawful_names() -> bool {
 }
 
 fn are_lawful_methods(alloc: Global) -> Result<bool, AllocError> {
-    Ok(is_lawful_method(alloc, b"f", b"()V")?
-        && is_lawful_initialiser(alloc, b"<clinit>", b"()V")?
-        && is_lawful_code(alloc, 0x0009, b"f", b"(J)V", Some(2))?)
+    Ok(
+        is_lawful_method(alloc, b"f", b"()V")?
+            && is_lawful_initialiser(alloc, b"<clinit>", b"()V")?
+            && is_lawful_code(alloc, 0x0009, b"f", b"(J)V", Some(2))?,
+    )
 }
 
 #[test]

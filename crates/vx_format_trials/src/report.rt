@@ -86,9 +86,7 @@ fn writes_each_line(rt: HostRuntime) {
 /// Whether a report says what one run comes to where the option is on.
 fn is_read_where_on(report: &Report, on: &Config) -> bool {
     let is_piece = report.holds(3, on) && !report.holds(2, on);
-    is_piece
-        && matches!(report.end_of(on), Some(End::Return))
-        && report.attempts_of(on) == Some(4)
+    is_piece && matches!(report.end_of(on), Some(End::Return)) && report.attempts_of(on) == Some(4)
 }
 
 /// Whether a report has this text for the run of a configuration.

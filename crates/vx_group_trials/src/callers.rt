@@ -107,9 +107,11 @@ fn callers_joined<S: Space>(
 /// What trials of the tree show over a space with an option.
 pub(crate) fn are_right<S: Space>(alloc: Global, space: &mut S) -> Result<bool, SpaceFault> {
     let on = first_option(space)?;
-    Ok(swept(alloc, space, on)?
-        && ids_held(alloc, space, on)?
-        && popped(alloc, space, &mut Callers::new(alloc), on)?
-        && rejoined(alloc, space, &mut Callers::new(alloc))?
-        && callers_joined(alloc, space, &mut Callers::new(alloc))?)
+    Ok(
+        swept(alloc, space, on)?
+            && ids_held(alloc, space, on)?
+            && popped(alloc, space, &mut Callers::new(alloc), on)?
+            && rejoined(alloc, space, &mut Callers::new(alloc))?
+            && callers_joined(alloc, space, &mut Callers::new(alloc))?,
+    )
 }

@@ -55,8 +55,10 @@ fn keyed<S: Space>(alloc: Global, space: &S, path: S::Id) -> Result<bool, SpaceF
     requires { IsKnown (S.sets space.now) path }
 {
     let key = called_key(alloc, space, path)?;
-    Ok(is_of_parts(alloc, &key, &[part_of_start(0), part_of_start(1)])?
-        && !is_of_parts(alloc, &key, &[part_of_start(1), part_of_start(0)])?)
+    Ok(
+        is_of_parts(alloc, &key, &[part_of_start(0), part_of_start(1)])?
+            && !is_of_parts(alloc, &key, &[part_of_start(1), part_of_start(0)])?,
+    )
 }
 
 /// Whether a key is that of some parts.

@@ -34,9 +34,11 @@ fn a_chain_is_ordered(rt: HostRuntime) -> Result<(), Fail> {
 }
 
 fn has_a_circle_of_two(alloc: Global, parents: &[Items<usize>]) -> Result<bool, AllocError> {
-    Ok(!is_ordered(alloc, parents)?
-        && is_own_ancestor(alloc, parents, 1)?
-        && !is_own_ancestor(alloc, parents, 2)?)
+    Ok(
+        !is_ordered(alloc, parents)?
+            && is_own_ancestor(alloc, parents, 1)?
+            && !is_own_ancestor(alloc, parents, 2)?,
+    )
 }
 
 #[test]

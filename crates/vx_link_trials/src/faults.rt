@@ -180,7 +180,10 @@ fn has_fault(
 fn folders_link_or_have_a_fault(rt: HostRuntime) -> Result<(), Fail> {
     for (first, second, options, expected) in FOLDERS {
         let classes = two_classes(rt.alloc(), first, second)?;
-        assert!(rt; has_fault(rt.alloc(), classes, options, expected)?, "{expected:?}");
+        assert!(rt;
+            has_fault(rt.alloc(), classes, options, expected)?,
+            "{expected:?}"
+        );
     }
     Ok(())
 }

@@ -7,9 +7,11 @@ fn add(alloc: Global, names: &mut NameTable, name: &[u8]) -> Result<bool, AllocE
 
 /// Adds two names, and the first again, which is there already.
 fn are_added_once(alloc: Global, names: &mut NameTable) -> Result<bool, AllocError> {
-    Ok(add(alloc, names, b"A")?
-        && add(alloc, names, b"java/lang/Object")?
-        && !add(alloc, names, b"A")?)
+    Ok(
+        add(alloc, names, b"A")?
+            && add(alloc, names, b"java/lang/Object")?
+            && !add(alloc, names, b"A")?,
+    )
 }
 
 #[test]
