@@ -1,43 +1,47 @@
 //! Frames of one method in the two halves of the configurations.
 
-ghost use Rattle.std.specs.Prelude.{◌<◌};
-
 use crate::conds::sides;
-use std::alloc::Global;
-use std::process::Abort;
-use std::test::Fail;
+use std::alloc::{AllocError, Global};
 use vx_cond::Projects;
 use vx_frame::Frame;
-use vx_space::Space;
+use vx_space::{Space, SpaceFault};
 use vx_value::{KeyPart, Kind, MethodId};
 
-/// Two frames of one shape make one, whose parts have the shape again.
-#[tactic(auto, using(vx_frame::proofs::FrameLaws::frame_words))]
-pub(crate) fn frames_joined<S: Space>(
-    rt: &impl Abort,
-    alloc: Global,
-    space: &mut S,
-) -> Result<(), Fail>
-    requires { 0 < (S.sets space.old).options }
-{
-    let (on, off) = sides(space)?;
-    let method = MethodId(3);
-    let first = Frame::new(alloc, space, Kind::Call, method, 2, on)?;
-    let second = Frame::new(alloc, space, Kind::Call, method, 2, off)?;
+/// The method of the frames.
+const METHOD: MethodId = MethodId(3);
+
+/// A frame that begins has the part of its method's start.
+fn started<S: Space>(alloc: Global, space: &S) -> Result<bool, AllocError> {
+    let frame = Frame::new(alloc, space, Kind::Call, METHOD, 2, space.always())?;
     let part = KeyPart {
-        method,
+        method: METHOD,
         position: 0,
         depth: 0,
         kind: Kind::Call,
     };
-    assert_eq!(rt; first.part(), part);
+    Ok(frame.part() == part)
+}
+
+/// Two frames of one shape make one, whose parts have the shape again.
+#[tactic(auto, using(vx_frame::proofs::FrameLaws::frame_words))]
+fn frames_joined<S: Space>(alloc: Global, space: &mut S) -> Result<bool, SpaceFault> {
+    let (on, off) = sides(space)?;
+    let first = Frame::new(alloc, space, Kind::Call, METHOD, 2, on)?;
+    let second = Frame::new(alloc, space, Kind::Call, METHOD, 2, off)?;
     let whole = first.join(space, &second)?;
-    assert!(rt; whole.scope() == space.always());
-    assert_eq!(rt; whole.locals.len(), 2);
     let inner = whole.restrict(space, off)?;
-    assert!(rt; inner.scope() == off);
+    let is_part = inner.scope() == off;
+    Ok(is_part && whole.scope() == space.always() && is_frame_of_six_ids(alloc, &whole)?)
+}
+
+/// Whether a frame has two locals, and holds the ids of these, of their scopes and of its rows.
+fn is_frame_of_six_ids<S: Space>(alloc: Global, frame: &Frame<S>) -> Result<bool, AllocError> {
     let mut ids = Vec::new(alloc);
-    Projects::ids_out(&whole, &mut ids)?;
-    assert_eq!(rt; ids.len(), 6);
-    Ok(())
+    Projects::ids_out(frame, &mut ids)?;
+    Ok(frame.locals.len() == 2 && ids.len() == 6)
+}
+
+/// What trials of frames show over a space with an option.
+pub(crate) fn are_right<S: Space>(alloc: Global, space: &mut S) -> Result<bool, SpaceFault> {
+    Ok(started(alloc, space)? && frames_joined(alloc, space)?)
 }

@@ -7,8 +7,6 @@ mod conds;
 #[cfg(test)]
 mod diagrams;
 #[cfg(test)]
-mod equality;
-#[cfg(test)]
 mod frames;
 #[cfg(test)]
 mod keys;
@@ -16,6 +14,8 @@ mod keys;
 mod masks;
 #[cfg(test)]
 mod numbers;
+#[cfg(test)]
+mod options;
 #[cfg(test)]
 mod rows;
 #[cfg(test)]

@@ -1,30 +1,41 @@
-//! Options and members of sets.
+//! Options and members of the second option's set.
 
-ghost use Rattle.std.specs.Prelude.{◌<◌};
+ghost use Rattle.vx_space.specs.Sets.{IsKnown};
 
-use std::alloc::Global;
-use std::process::Abort;
-use std::test::Fail;
+use crate::options::option_or_never;
+use std::alloc::{AllocError, Global};
 use vx_bdd_tools::{one_of, support};
-use vx_space::Space;
+use vx_space::{Space, SpaceFault};
 
-/// The set of the second option depends on that option alone.
-pub(crate) fn supported<S: Space>(rt: &impl Abort, alloc: Global, space: &mut S) -> Result<(), Fail>
-    requires { 1 < (S.sets space.old).options }
+/// The set depends on that option alone.
+fn supported<S: Space>(alloc: Global, space: &S, second: S::Id) -> Result<bool, AllocError>
+    requires { IsKnown (S.sets space.now) second }
 {
-    let second = space.option(1)?;
     let options = support(alloc, space, second)?;
-    assert!(rt; options.as_slice() == [1].as_slice());
-    Ok(())
+    Ok(options.as_slice() == [1].as_slice())
 }
 
-/// Never has no member, and the set of the second option has one.
-pub(crate) fn chosen<S: Space>(rt: &impl Abort, alloc: Global, space: &mut S) -> Result<(), Fail>
-    requires { 1 < (S.sets space.old).options }
+/// The set has a member, in which that option alone is on.
+fn chosen<S: Space>(alloc: Global, space: &S, second: S::Id) -> Result<bool, AllocError>
+    requires { IsKnown (S.sets space.now) second }
 {
-    let second = space.option(1)?;
-    assert!(rt; one_of(alloc, space, space.never())?.is_none());
-    let member = one_of(alloc, space, second)?;
-    assert_eq!(rt; member.map(|c| c.is_on(1)), Some(true));
-    Ok(())
+    match one_of(alloc, space, second)? {
+        Some(c) => Ok(!c.is_on(0) && c.is_on(1) && c.get(2).is_none()),
+        None => Ok(false),
+    }
+}
+
+/// Never has no member.
+fn never_chosen<S: Space>(alloc: Global, space: &S) -> Result<bool, AllocError> {
+    Ok(one_of(alloc, space, space.never())?.is_none())
+}
+
+/// What trials of sets show over a space of two options.
+pub(crate) fn are_right<S: Space>(alloc: Global, space: &mut S) -> Result<bool, SpaceFault> {
+    let second = option_or_never(space, 1)?;
+    Ok(
+        supported(alloc, space, second)?
+            && chosen(alloc, space, second)?
+            && never_chosen(alloc, space)?,
+    )
 }

@@ -1,24 +1,25 @@
-use std::process::Abort;
-use std::test::Fail;
 use vx_value::TextTable;
 
-fn put_and_read(rt: &impl Abort, table: &mut TextTable, units: &[u16]) -> Result<u64, Fail> {
-    let number = table.put(units)?;
-    assert!(rt; table.text(number) == units);
-    Ok(number)
+/// The number of a text that is put and read again.
+fn put_and_read(table: &mut TextTable, units: &[u16]) -> Option<u64> {
+    let Ok(number) = table.put(units) else {
+        return None;
+    };
+    if table.text(number) == units {
+        Some(number)
+    } else {
+        None
+    }
 }
 
 #[test]
-fn a_text_has_one_number(rt: HostRuntime) -> Result<(), Fail> {
+fn a_text_has_one_number(rt: HostRuntime) {
     let mut table = TextTable::new(rt.alloc());
-    assert_eq!(rt; put_and_read(&rt, &mut table, &[97, 98])?, 0);
-    assert_eq!(rt; put_and_read(&rt, &mut table, &[])?, 1);
-    assert_eq!(rt;
-        put_and_read(&rt, &mut table, &[0xd83d, 0xde00, 0xffff])?,
-        2
-    );
-    assert_eq!(rt; put_and_read(&rt, &mut table, &[])?, 1);
-    assert_eq!(rt; put_and_read(&rt, &mut table, &[97, 98])?, 0);
-    assert_eq!(rt; table.len(), 3);
-    Ok(())
+    let first = put_and_read(&mut table, &[97, 98]);
+    let empty = put_and_read(&mut table, &[]);
+    let pair = put_and_read(&mut table, &[0xd83d, 0xde00, 0xffff]);
+    assert!(rt; first == Some(0) && empty == Some(1) && pair == Some(2));
+    let empty = put_and_read(&mut table, &[]);
+    let first = put_and_read(&mut table, &[97, 98]);
+    assert!(rt; first == Some(0) && empty == Some(1) && table.len() == 3);
 }

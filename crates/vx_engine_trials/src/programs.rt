@@ -26,15 +26,22 @@ pub(crate) struct Example {
     pub model: Model,
 }
 
+/// The class that a source names.
+fn class(alloc: Global, source: &[u8]) -> Result<ClassFile, Fail>
+    ensures { IfOk result Holds }
+{
+    let Ok(bytes) = assemble(alloc, source) else {
+        return Err(Fail::new("the source names no class"));
+    };
+    Ok(read_class(alloc, bytes.as_slice())?)
+}
+
 /// The folder of the one class that a source names.
 fn folder(alloc: Global, source: &[u8]) -> Result<Vec<ClassFile>, Fail>
     ensures few { IfOk result (λ classes. length classes.items ≡ 1) }
     ensures read { IfOk result (λ classes. All Holds classes.items) }
 {
-    let Ok(bytes) = assemble(alloc, source) else {
-        return Err(Fail::new("the source names no class"));
-    };
-    let class = read_class(alloc, bytes.as_slice())?;
+    let class = class(alloc, source)?;
     let mut classes = Vec::new(alloc);
     classes.push(class)?;
     Ok(classes)

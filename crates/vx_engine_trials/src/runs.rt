@@ -7,13 +7,13 @@ ghost use Rattle.vx_model.specs.Models.{IsModel};
 
 use crate::cases::Case;
 use crate::programs::{Example, linked, names_of};
-use std::alloc::Global;
+use std::alloc::{AllocError, Global};
 use std::process::Abort;
 use std::test::Fail;
 use vx_bdd::BddSpace;
 use vx_engine::run_with;
 use vx_model::allowed;
-use vx_report::project_text;
+use vx_report::{Report, project_text};
 use vx_report_reader::read_report;
 use vx_reporting::report_findings;
 use vx_sched::Picker;
@@ -45,6 +45,42 @@ fn report_in<S: Space, K: Picker>(
     Ok(text)
 }
 
+/// The text of the report of a case over the space of masks.
+fn report_over_masks<K: Picker>(
+    rt: &impl Abort,
+    alloc: Global,
+    case: &Case,
+    example: &Example,
+    picker: &mut K,
+) -> Result<Vec<u8>, Fail>
+    requires bounded { IsBounded example.now.program }
+    requires fields { has_options (length example.now.model.options) example.now.program.fields ≡ true }
+    requires lawful { IsModel example.now.model }
+{
+    let options = example.model.options.len();
+    assert!(rt; options <= 6);
+    let mut masks = MaskSpace::new(options as u32);
+    report_in(rt, alloc, case, example, &mut masks, picker)
+}
+
+/// The text of the report of a case over the space of diagrams.
+fn report_over_diagrams<K: Picker>(
+    rt: &impl Abort,
+    alloc: Global,
+    case: &Case,
+    example: &Example,
+    picker: &mut K,
+) -> Result<Vec<u8>, Fail>
+    requires bounded { IsBounded example.now.program }
+    requires fields { has_options (length example.now.model.options) example.now.program.fields ≡ true }
+    requires lawful { IsModel example.now.model }
+{
+    let options = example.model.options.len();
+    assert!(rt; options <= 64);
+    let mut diagrams = BddSpace::new(alloc, options as u32)?;
+    report_in(rt, alloc, case, example, &mut diagrams, picker)
+}
+
 /// The text of the report of a case, which is the same over both spaces.
 pub(crate) fn report_of<K: Picker>(
     rt: &impl Abort,
@@ -53,26 +89,46 @@ pub(crate) fn report_of<K: Picker>(
     picker: &mut K,
 ) -> Result<Vec<u8>, Fail> {
     let example = linked(alloc, case)?;
-    let options = example.model.options.len();
-    assert!(rt; options <= 6);
-    let mut masks = MaskSpace::new(options as u32);
-    let mut diagrams = BddSpace::new(alloc, options as u32)?;
-    let text = report_in(rt, alloc, case, &example, &mut masks, picker)?;
-    let again = report_in(rt, alloc, case, &example, &mut diagrams, picker)?;
+    let text = report_over_masks(rt, alloc, case, &example, picker)?;
+    let again = report_over_diagrams(rt, alloc, case, &example, picker)?;
     assert!(rt; again.as_slice() == text.as_slice());
     Ok(text)
 }
 
-/// Two reports say the same of each configuration of at most four options.
-pub(crate) fn agree(rt: &impl Abort, alloc: Global, text: &[u8], other: &[u8]) -> Result<(), Fail> {
+/// Whether two reports hold a configuration of four options, and say the same of it.
+fn agree_at(
+    alloc: Global,
+    report: &Report,
+    other: &Report,
+    number: u32,
+) -> Result<bool, AllocError> {
+    let config = Config::new(
+        alloc,
+        &[
+            number & 1 != 0,
+            number & 2 != 0,
+            number & 4 != 0,
+            number & 8 != 0,
+        ],
+    )?;
+    let said = project_text(alloc, report, &config)?;
+    let expected = project_text(alloc, other, &config)?;
+    Ok(said.is_some() && said == expected)
+}
+
+/// Whether two reports say the same of each configuration of at most four options.
+fn agree_on_all(alloc: Global, report: &Report, other: &Report) -> Result<bool, AllocError> {
+    for number in 0..16 {
+        if !agree_at(alloc, report, other, number)? {
+            return Ok(false);
+        }
+    }
+    Ok(true)
+}
+
+/// Whether two texts are reports that say the same of each configuration of at most four options.
+pub(crate) fn agree(alloc: Global, text: &[u8], other: &[u8]) -> Result<bool, Fail> {
     let report = read_report(alloc, text)?;
     let other = read_report(alloc, other)?;
-    for number in 0..16 {
-        let values = [1, 2, 4, 8].map(|bit: u32| number & bit != 0);
-        let config = Config::new(alloc, &values)?;
-        let said = project_text(alloc, &report, &config)?;
-        let expected = project_text(alloc, &other, &config)?;
-        assert!(rt; said.is_some() && said == expected);
-    }
-    Ok(())
+    Ok(agree_on_all(alloc, &report, &other)?)
 }

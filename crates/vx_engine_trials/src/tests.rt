@@ -1,35 +1,47 @@
-use crate::cases::{CASES, DIFFERENT_VALUES};
+use crate::cases::{CASES, Case, DIFFERENT_VALUES};
 use crate::last_key::LastKey;
 use crate::runs::{agree, report_of};
+use std::alloc::Global;
+use std::process::Abort;
 use std::test::Fail;
 use vx_report_reader::read_report;
 use vx_sched::LeastKey;
 
+/// Whether the first keys give the report of a case.
+fn is_reported(rt: &impl Abort, alloc: Global, case: &Case) -> Result<bool, Fail> {
+    let text = report_of(rt, alloc, case, &mut LeastKey)?;
+    Ok(text.as_slice() == case.report)
+}
+
 #[test]
 fn branches_meet_as_soon_as_they_can(rt: HostRuntime) -> Result<(), Fail> {
-    let alloc = rt.alloc();
-    let text = report_of(&rt, alloc, &DIFFERENT_VALUES, &mut LeastKey)?;
-    assert!(rt; text.as_slice() == DIFFERENT_VALUES.report);
+    assert!(rt; is_reported(&rt, rt.alloc(), &DIFFERENT_VALUES)?);
     Ok(())
 }
 
 #[test]
 fn branches_meet_as_late_as_they_can(rt: HostRuntime) -> Result<(), Fail> {
-    let alloc = rt.alloc();
-    let text = report_of(&rt, alloc, &DIFFERENT_VALUES, &mut LastKey)?;
-    assert_eq!(rt; read_report(alloc, text.as_slice())?.rounds, 17);
-    agree(&rt, alloc, text.as_slice(), DIFFERENT_VALUES.report)?;
+    let text = report_of(&rt, rt.alloc(), &DIFFERENT_VALUES, &mut LastKey)?;
+    assert!(rt; agree(rt.alloc(), text.as_slice(), DIFFERENT_VALUES.report)?);
+    assert!(rt; read_report(rt.alloc(), text.as_slice())?.rounds == 17);
     Ok(())
+}
+
+/// Whether the last keys give a report that says the same as that of a case.
+fn is_same_with_last_keys(rt: &impl Abort, alloc: Global, case: &Case) -> Result<bool, Fail> {
+    let text = report_of(rt, alloc, case, &mut LastKey)?;
+    agree(alloc, text.as_slice(), case.report)
 }
 
 #[test]
 fn what_runs_come_to_depends_on_no_order(rt: HostRuntime) -> Result<(), Fail> {
-    let alloc = rt.alloc();
     for case in CASES {
-        let first = report_of(&rt, alloc, &case, &mut LeastKey)?;
-        let last = report_of(&rt, alloc, &case, &mut LastKey)?;
-        assert!(rt; first.as_slice() == case.report, "{first:?}");
-        agree(&rt, alloc, last.as_slice(), case.report)?;
+        assert!(rt; is_reported(&rt, rt.alloc(), &case)?, "{:?}", case.report);
+        assert!(rt;
+            is_same_with_last_keys(&rt, rt.alloc(), &case)?,
+            "{:?}",
+            case.report
+        );
     }
     Ok(())
 }

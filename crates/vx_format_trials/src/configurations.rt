@@ -1,37 +1,20 @@
-use std::test::Fail;
-use vx_list::Items;
-use vx_model::{Expr, Form, Model, OptionField, allowed};
+use std::alloc::Global;
+use vx_model::{allowed, read_model};
 use vx_space::MaskSpace;
-use vx_value::Name;
+
+/// The mask of what a model of two options allows.
+fn allowed_by(alloc: Global, text: &[u8]) -> Option<u64> {
+    let Ok(model) = read_model(alloc, text) else {
+        return None;
+    };
+    if model.options.len() != 2 {
+        return None;
+    }
+    allowed(&mut MaskSpace::new(2), &model).ok()
+}
 
 #[test]
-fn allows_where_the_first_is_off_or_the_second_on(rt: HostRuntime) -> Result<(), Fail> {
-    let alloc = rt.alloc();
-    let first = Expr {
-        form: Form::Named(0),
-    };
-    let second = Expr {
-        form: Form::Named(1),
-    };
-    let rule = Expr {
-        form: Form::Implies(Box::new(alloc, first)?, Box::new(alloc, second)?),
-    };
-    let mut options = Vec::new(alloc);
-    options.push(OptionField {
-        name: Name::of(alloc, b"A")?,
-        place: None,
-    })?;
-    options.push(OptionField {
-        name: Name::of(alloc, b"B")?,
-        place: None,
-    })?;
-    let mut rules = Vec::new(alloc);
-    rules.push(rule)?;
-    let model = Model {
-        options: Items::of(options),
-        rules: Items::of(rules),
-    };
-    let mut space = MaskSpace::new(2);
-    assert_eq!(rt; allowed(&mut space, &model)?, 13);
-    Ok(())
+fn allows_where_the_first_is_off_or_the_second_on(rt: HostRuntime) {
+    let text = b"option A\noption B\nrule A -> B\n";
+    assert_eq!(rt; allowed_by(rt.alloc(), text), Some(13));
 }

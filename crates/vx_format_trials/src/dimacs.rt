@@ -1,84 +1,98 @@
 //! Rows of the format, with what they give.
 
 use std::alloc::Global;
-use std::test::Fail;
 use vx_dimacs::read_dimacs;
-use vx_model::{Form, ModelFault};
+use vx_model::{Form, Model, ModelFault};
 
-#[test]
-fn reads_two_variables_and_a_clause(rt: HostRuntime) -> Result<(), Fail> {
-    let model = read_dimacs(rt.alloc(), b"c 1 A Main A\nc 2 B\np cnf 2 1\n-1 2 0\n")?;
-    assert_eq!(rt; model.options.len(), 2);
-    let option = model.options.get(0).ok_or("an option")?;
-    assert_eq!(rt; option.name.bytes(), b"A".as_slice());
-    assert!(rt; option.place.is_some());
-    assert_eq!(rt; model.rules.len(), 1);
-    let rule = model.rules.get(0).ok_or("a rule")?;
-    assert!(rt; matches!(&rule.form, Form::Or(_)));
-    Ok(())
+/// Whether a model has so many options and rules, and at a place an option of this name.
+fn has(model: &Model, options: usize, rules: usize, place: usize, name: &[u8]) -> bool {
+    let is_named = match model.options.get(place) {
+        Some(option) => option.name.bytes() == name,
+        None => false,
+    };
+    is_named && model.options.len() == options && model.rules.len() == rules
+}
+
+/// Whether the first option has a field.
+fn is_placed(model: &Model) -> bool {
+    match model.options.get(0) {
+        Some(option) => option.place.is_some(),
+        None => false,
+    }
+}
+
+/// Whether a rule is a clause of several literals.
+fn is_clause(model: &Model, place: usize) -> bool {
+    match model.rules.get(place) {
+        Some(rule) => matches!(&rule.form, Form::Or(_)),
+        None => false,
+    }
+}
+
+/// The option that a rule is.
+fn named(model: &Model, place: usize) -> Option<u32> {
+    let rule = model.rules.get(place)?;
+    match &rule.form {
+        Form::Named(number) => Some(*number),
+        _ => None,
+    }
 }
 
 #[test]
-fn reads_the_forms_of_tools(rt: HostRuntime) -> Result<(), Fail> {
-    let alloc = rt.alloc();
+fn reads_two_variables_and_a_clause(rt: HostRuntime) {
+    let text = b"c 1 A Main A\nc 2 B\np cnf 2 1\n-1 2 0\n";
+    let model = read_dimacs(rt.alloc(), text).expect(&rt, "a model");
+    assert!(rt; has(&model, 2, 1, 0, b"A") && is_placed(&model) && is_clause(&model, 0));
+}
+
+#[test]
+fn reads_the_forms_of_tools(rt: HostRuntime) {
     // Comments with names first, comments that are none, a name past the last variable, clauses over lines, no last
     // line feed.
     let text = b"c 1 ROOT\nc 2 CONFIG_A\nc 65 X\nc 3\nc made by a tool\np cnf 3 2\n1\n0 -2\n3 0";
-    let model = read_dimacs(alloc, text)?;
-    assert_eq!(rt; model.options.len(), 3);
-    let last = model.options.get(2).ok_or("an option")?;
-    assert_eq!(rt; last.name.bytes(), b"v3".as_slice());
-    assert_eq!(rt; model.rules.len(), 2);
-    let rule = model.rules.get(0).ok_or("a rule")?;
-    assert!(rt; matches!(&rule.form, Form::Named(0)));
-    Ok(())
+    let model = read_dimacs(rt.alloc(), text).expect(&rt, "a model");
+    assert!(rt; has(&model, 3, 2, 2, b"v3") && named(&model, 0) == Some(0));
 }
 
 #[test]
-fn reads_empty_lines_and_comments_between_clauses(rt: HostRuntime) -> Result<(), Fail> {
+fn reads_empty_lines_and_comments_between_clauses(rt: HostRuntime) {
     let text =
         b"c 1 A\r\nc 2 two words\r\nc 2$ X\r\n\r\np cnf 2 2\r\n\r\n1 -2\r\nc between\r\n 0\r\n\t2 0\r\n\r\n";
-    let model = read_dimacs(rt.alloc(), text)?;
-    assert_eq!(rt; model.options.len(), 2);
-    let last = model.options.get(1).ok_or("an option")?;
-    assert_eq!(rt; last.name.bytes(), b"v2".as_slice());
-    assert_eq!(rt; model.rules.len(), 2);
-    let rule = model.rules.get(0).ok_or("a rule")?;
-    assert!(rt; matches!(&rule.form, Form::Or(_)));
-    let rule = model.rules.get(1).ok_or("a rule")?;
-    assert!(rt; matches!(&rule.form, Form::Named(1)));
-    Ok(())
+    let model = read_dimacs(rt.alloc(), text).expect(&rt, "a model");
+    assert!(rt; has(&model, 2, 2, 1, b"v2") && is_clause(&model, 0) && named(&model, 1) == Some(1));
 }
 
 #[test]
-fn reads_64_variables_and_clauses_on_a_line(rt: HostRuntime) -> Result<(), Fail> {
-    let model = read_dimacs(rt.alloc(), b"p cnf 64 3\n1 0 -2 0 3 64 0\n")?;
-    assert_eq!(rt; model.options.len(), 64);
-    let last = model.options.get(63).ok_or("an option")?;
-    assert_eq!(rt; last.name.bytes(), b"v64".as_slice());
-    assert_eq!(rt; model.rules.len(), 3);
-    Ok(())
+fn reads_64_variables_and_clauses_on_a_line(rt: HostRuntime) {
+    let text = b"p cnf 64 3\n1 0 -2 0 3 64 0\n";
+    let model = read_dimacs(rt.alloc(), text).expect(&rt, "a model");
+    assert!(rt; has(&model, 64, 3, 63, b"v64"));
 }
 
-fn fault(alloc: Global, text: &[u8]) -> Option<ModelFault> {
-    read_dimacs(alloc, text).err()
-}
+/// Texts, with the line and the reason for which each is refused.
+const REFUSED: [(&[u8], u64, u8); 10] = [
+    (b"p cnf 65 0", 1, 6),
+    (b"p cnf 65 x", 1, 6),
+    (b"", 1, 7),
+    (b"1 0\np cnf 1 1\n", 1, 7),
+    (b"x\np cnf 1 1\n", 1, 8),
+    (b"c 1 A\nc 1 B\np cnf 1 0\n", 2, 3),
+    (b"p cnf 1 1\n2 0\n", 2, 8),
+    (b"p cnf 1 1\n1 0\n-0\n", 3, 9),
+    (b"p cnf 1 1\n1\n", 3, 9),
+    (b"p cnf 1 0\np cnf 1 0\n", 2, 7),
+];
 
-fn bad(line: u64, reason: u8) -> Option<ModelFault> {
-    Some(ModelFault::Line { line, reason })
+fn refusal(alloc: Global, text: &[u8]) -> (u64, u8) {
+    match read_dimacs(alloc, text) {
+        Err(ModelFault::Line { line, reason }) => (line, reason),
+        _ => (0, 0),
+    }
 }
 
 #[test]
 fn refuses_bad_lines(rt: HostRuntime) {
-    let alloc = rt.alloc();
-    assert_eq!(rt; fault(alloc, b"p cnf 65 0"), bad(1, 6));
-    assert_eq!(rt; fault(alloc, b"p cnf 65 x"), bad(1, 6));
-    assert_eq!(rt; fault(alloc, b""), bad(1, 7));
-    assert_eq!(rt; fault(alloc, b"1 0\np cnf 1 1\n"), bad(1, 7));
-    assert_eq!(rt; fault(alloc, b"x\np cnf 1 1\n"), bad(1, 8));
-    assert_eq!(rt; fault(alloc, b"c 1 A\nc 1 B\np cnf 1 0\n"), bad(2, 3));
-    assert_eq!(rt; fault(alloc, b"p cnf 1 1\n2 0\n"), bad(2, 8));
-    assert_eq!(rt; fault(alloc, b"p cnf 1 1\n1 0\n-0\n"), bad(3, 9));
-    assert_eq!(rt; fault(alloc, b"p cnf 1 1\n1\n"), bad(3, 9));
-    assert_eq!(rt; fault(alloc, b"p cnf 1 0\np cnf 1 0\n"), bad(2, 7));
+    for (text, line, reason) in REFUSED {
+        assert_eq!(rt; refusal(rt.alloc(), text), (line, reason));
+    }
 }

@@ -1,6 +1,5 @@
-use std::alloc::Global;
-use std::test::*;
-use vx_report::{project_text, write_report};
+use std::alloc::{AllocError, Global};
+use vx_report::{Report, project_text, write_report};
 use vx_report_reader::{ReportFault, read_report};
 use vx_space::Config;
 
@@ -12,26 +11,38 @@ const PLAIN: &[u8] =
 const WITH_ATTEMPTS: &[u8] =
     b"varexj report 2\noptions 1\noption A\nlimit 100\nrounds 13\nnode 2 0 0 1\nnode 3 0 1 0\nout 2 1\\0a\nout 3 2\\0a\nend 1 return\nattempts 2 9\nattempts 3 10\ndone\n";
 
+/// Whether a report has the numbers of the first text.
+fn is_plain(report: &Report) -> bool {
+    let are_numbers = report.version == 1 && report.limit == 100 && report.rounds == 4;
+    are_numbers && report.options.len() == 1 && report.nodes.len() == 2 && report.ends.len() == 1
+}
+
+/// Whether a report is written as the second text.
+fn is_written(alloc: Global, report: &Report) -> Result<bool, AllocError> {
+    let written = write_report(alloc, report)?;
+    Ok(written.as_slice() == WITH_ATTEMPTS)
+}
+
+/// Whether a report has for the run with the option on what the second text says of it.
+fn is_projected(alloc: Global, report: &Report) -> Result<bool, AllocError> {
+    let on = Config::new(alloc, &[true])?;
+    match project_text(alloc, report, &on)? {
+        Some(text) => Ok(text.as_slice() == b"out 1\\0a\nend return\nattempts 9\n".as_slice()),
+        None => Ok(false),
+    }
+}
+
 #[test]
-fn reads_each_version(rt: HostRuntime) -> Result<(), Fail> {
-    let plain = read_report(rt.alloc(), PLAIN)?;
-    assert_eq!(rt; (plain.version, plain.limit, plain.rounds), (1, 100, 4));
-    assert_eq!(rt;
-        (plain.options.len(), plain.nodes.len(), plain.ends.len()),
-        (1, 2, 1)
-    );
-    let report = read_report(rt.alloc(), WITH_ATTEMPTS)?;
-    let on = Config::new(rt.alloc(), &[true])?;
-    let Some(text) = project_text(rt.alloc(), &report, &on)? else {
-        panic!(rt; "the report holds the configuration");
-    };
-    assert_eq!(rt;
-        text.as_slice(),
-        b"out 1\\0a\nend return\nattempts 9\n".as_slice()
-    );
-    let written = write_report(rt.alloc(), &report)?;
-    assert_eq!(rt; written.as_slice(), WITH_ATTEMPTS);
-    Ok(())
+fn reads_the_first_version(rt: HostRuntime) {
+    let report = read_report(rt.alloc(), PLAIN).expect(&rt, "a report");
+    assert!(rt; is_plain(&report));
+}
+
+#[test]
+fn reads_the_second_version(rt: HostRuntime) {
+    let report = read_report(rt.alloc(), WITH_ATTEMPTS).expect(&rt, "a report");
+    assert!(rt; matches!(is_written(rt.alloc(), &report), Ok(true)));
+    assert!(rt; matches!(is_projected(rt.alloc(), &report), Ok(true)));
 }
 
 /// The first bad line of a text.
@@ -42,19 +53,30 @@ fn bad_line(alloc: Global, text: &[u8]) -> Option<u64> {
     }
 }
 
+/// Texts, with the first bad line of each: nothing, too many options, a node of equal parts, another numbering, and
+/// a line behind the last.
+const BAD: [(&[u8], u64); 5] = [
+    (b"", 1),
+    (b"varexj report 1\noptions 65\n", 2),
+    (
+        b"varexj report 1\noptions 1\noption A\nlimit 100\nrounds 4\nnode 2 0 1 1\n",
+        6,
+    ),
+    (
+        b"varexj report 1\noptions 1\noption A\nlimit 100\nrounds 4\nnode 2 0 0 1\nnode 3 0 1 0\nout 3 0\\0a\n",
+        8,
+    ),
+    (
+        b"varexj report 1\noptions 0\nlimit 1\nrounds 0\nend 1 unfinished\ndone\n\n",
+        7,
+    ),
+];
+
 #[test]
-fn names_the_first_bad_line(rt: HostRuntime) -> Result<(), Fail> {
-    let alloc = rt.alloc();
-    assert_eq!(rt; bad_line(alloc, b""), Some(1));
-    assert_eq!(rt; bad_line(alloc, &PLAIN[..15]), Some(1));
-    assert_eq!(rt; bad_line(alloc, &PLAIN[..PLAIN.len() - 5]), Some(11));
-    assert_eq!(rt; bad_line(alloc, b"varexj report 1\noptions 65\n"), Some(2));
-    let equal_parts = b"varexj report 1\noptions 1\noption A\nlimit 100\nrounds 4\nnode 2 0 1 1\n";
-    assert_eq!(rt; bad_line(alloc, equal_parts), Some(6));
-    let other_numbering =
-        b"varexj report 1\noptions 1\noption A\nlimit 100\nrounds 4\nnode 2 0 0 1\nnode 3 0 1 0\nout 3 0\\0a\n";
-    assert_eq!(rt; bad_line(alloc, other_numbering), Some(8));
-    let behind_done = b"varexj report 1\noptions 0\nlimit 1\nrounds 0\nend 1 unfinished\ndone\n\n";
-    assert_eq!(rt; bad_line(alloc, behind_done), Some(7));
-    Ok(())
+fn names_the_first_bad_line(rt: HostRuntime) {
+    assert!(rt; bad_line(rt.alloc(), &PLAIN[..15]) == Some(1));
+    assert!(rt; bad_line(rt.alloc(), &PLAIN[..PLAIN.len() - 5]) == Some(11));
+    for (text, line) in BAD {
+        assert_eq!(rt; bad_line(rt.alloc(), text), Some(line));
+    }
 }

@@ -1,12 +1,13 @@
 //! Groups of one frame and of two, which the trials begin with.
 
-ghost use Rattle.std.specs.Prelude.{◌≡◌, ◌∷◌, ◌<◌, List, Bool, IfOk};
+ghost use Rattle.std.specs.Prelude.{◌≡◌, ◌∷◌, List, Bool, IfOk};
 ghost use Rattle.vx_space.specs.Sets.{IsKnown};
 ghost use Rattle.vx_frame.specs.Frame.{shape_of};
 ghost use Rattle.vx_group.specs.Callers.{Keeps};
 ghost use Rattle.vx_group.specs.Group.{IsGroupIn, path_of, shapes_of, attempts_at};
 ghost use Rattle.vx_group_trials.specs.Halves.{first_shape, IsSingle, AreHalves};
 
+use crate::options::first_option;
 use std::alloc::Global;
 use vx_cond::Cond;
 use vx_frame::Frame;
@@ -75,10 +76,9 @@ pub(crate) fn halves<S: Space>(
     alloc: Global,
     space: &mut S,
 ) -> Result<(Group<S>, Group<S>), SpaceFault>
-    requires { 0 < (S.sets space.old).options }
     ensures { IfOk result (λ r. AreHalves (S.sets space.new) r.0 r.1) }
 {
-    let on = space.option(0)?;
+    let on = first_option(space)?;
     let whole = group_of(alloc, space, MethodId(0), space.always())?;
     let parts = whole.split(space, on)?;
     Ok(parts)

@@ -6,6 +6,8 @@ mod callers;
 #[cfg(test)]
 mod groups;
 #[cfg(test)]
+mod options;
+#[cfg(test)]
 mod tests;
 #[cfg(test)]
 mod tops;

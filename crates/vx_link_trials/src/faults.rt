@@ -1,5 +1,3 @@
-ghost use Rattle.std.specs.Prelude.{◌<◌, ◌^◌, length};
-
 use std::alloc::{AllocError, Global};
 use std::test::Fail;
 use vx_class::{ClassFile, Code, Method};
@@ -7,9 +5,8 @@ use vx_core::core;
 use vx_link::LinkFault;
 use vx_linker::linkable;
 use vx_list::Items;
-use vx_model::{FieldPlace, Model, OptionField};
+use vx_model::{Model, read_model};
 use vx_pool::{Entry, Pool, Utf8};
-use vx_value::Name;
 
 const PUBLIC: u16 = 0x0001;
 
@@ -17,17 +14,63 @@ const FINAL: u16 = 0x0010;
 
 const PUBLIC_STATIC: u16 = 0x0009;
 
-fn text(alloc: Global, bytes: &[u8]) -> Result<Entry, AllocError>
-    requires { length bytes.now < 2 ^ 16 }
-{
-    Ok(Entry::Utf8(Utf8::of(Vec::from_slice(alloc, bytes)?)))
+/// A class of a folder: its name, its superclass (none where it is empty), and its flags.
+type Part = (&'static [u8], &'static [u8], u16);
+
+const OTHER: Part = (b"Other", b"", PUBLIC);
+
+/// Two classes beside the core classes, a model, and the fault with what it names where `Main` is run.
+const FOLDERS: [(Part, Part, &[u8], (&[u8], &[u8])); 7] = [
+    ((b"Main", b"Other", PUBLIC), OTHER, b"", (b"none", b"")),
+    (
+        (b"Main", b"", PUBLIC),
+        (b"Main", b"", PUBLIC),
+        b"",
+        (b"twice", b"Main"),
+    ),
+    (
+        (b"Main", b"Gone", PUBLIC),
+        OTHER,
+        b"",
+        (b"no super", b"Main"),
+    ),
+    (
+        (b"Main", b"Last", PUBLIC),
+        (b"Last", b"", FINAL),
+        b"",
+        (b"final super", b"Main"),
+    ),
+    (
+        (b"P", b"Q", PUBLIC),
+        (b"Q", b"P", PUBLIC),
+        b"",
+        (b"cycle", b"P"),
+    ),
+    (
+        (b"Main", b"", PUBLIC),
+        OTHER,
+        b"option A Main Z",
+        (b"no option", b"A"),
+    ),
+    ((b"Another", b"", PUBLIC), OTHER, b"", (b"no main", b"")),
+];
+
+/// An entry of a text, whose length a class file can hold.
+fn text(alloc: Global, bytes: &[u8]) -> Result<Entry, AllocError> {
+    let bytes = Vec::from_slice(alloc, bytes)?;
+    if bytes.len() < 65_536 {
+        Ok(Entry::Utf8(Utf8::of(bytes)))
+    } else {
+        Err(AllocError)
+    }
 }
 
-fn pool(alloc: Global, name: &[u8], superclass: &[u8]) -> Result<Pool, AllocError>
-    requires name { length name.now < 2 ^ 16 }
-    requires superclass { length superclass.now < 2 ^ 16 }
-{
-    let mut entries = Vec::new(alloc);
+fn fill(
+    alloc: Global,
+    entries: &mut Vec<Entry>,
+    name: &[u8],
+    superclass: &[u8],
+) -> Result<(), AllocError> {
     entries.push(Entry::Unusable)?;
     entries.push(Entry::Class(2))?;
     entries.push(text(alloc, name)?)?;
@@ -35,20 +78,30 @@ fn pool(alloc: Global, name: &[u8], superclass: &[u8]) -> Result<Pool, AllocErro
     entries.push(text(alloc, superclass)?)?;
     entries.push(text(alloc, b"main")?)?;
     entries.push(text(alloc, b"([Ljava/lang/String;)V")?)?;
+    Ok(())
+}
+
+fn pool(alloc: Global, name: &[u8], superclass: &[u8]) -> Result<Pool, AllocError> {
+    let mut entries = Vec::new(alloc);
+    fill(alloc, &mut entries, name, superclass)?;
     Ok(Pool {
         entries: Items::of(entries),
     })
 }
 
-fn main_method(alloc: Global) -> Result<Items<Method>, AllocError> {
-    let mut bytes = Vec::new(alloc);
-    bytes.push(0xb1)?;
-    let code = Code {
+/// The code that only returns.
+fn code(alloc: Global) -> Result<Code, AllocError> {
+    let bytes = Vec::from_slice(alloc, &[0xb1])?;
+    Ok(Code {
         max_stack: 0,
         max_locals: 1,
         bytes: Items::of(bytes),
         catches: Items::of(Vec::new(alloc)),
-    };
+    })
+}
+
+fn main_method(alloc: Global) -> Result<Items<Method>, AllocError> {
+    let code = code(alloc)?;
     let mut methods = Vec::new(alloc);
     methods.push(Method {
         flags: PUBLIC_STATIC,
@@ -59,144 +112,78 @@ fn main_method(alloc: Global) -> Result<Items<Method>, AllocError> {
     Ok(Items::of(methods))
 }
 
-/// A class with a `main`; no superclass where its name is empty.
-fn class(alloc: Global, name: &[u8], superclass: &[u8], flags: u16) -> Result<ClassFile, AllocError>
-    requires name { length name.now < 2 ^ 16 }
-    requires superclass { length superclass.now < 2 ^ 16 }
-{
+/// A class with a `main`.
+fn class(alloc: Global, part: Part) -> Result<ClassFile, AllocError> {
+    let (name, superclass, flags) = part;
+    let pool = pool(alloc, name, superclass)?;
+    let methods = main_method(alloc)?;
     Ok(ClassFile {
         minor: 0,
         major: 51,
-        pool: pool(alloc, name, superclass)?,
+        pool,
         flags,
         this_class: 1,
         super_class: if superclass.is_empty() { 0 } else { 3 },
         interfaces: Items::of(Vec::new(alloc)),
         fields: Items::of(Vec::new(alloc)),
-        methods: main_method(alloc)?,
+        methods,
     })
 }
 
-/// The fault of two classes beside the core classes, where `Main` is run.
+fn two_classes(alloc: Global, first: Part, second: Part) -> Result<Vec<ClassFile>, AllocError> {
+    let mut classes = Vec::new(alloc);
+    classes.push(class(alloc, first)?)?;
+    classes.push(class(alloc, second)?)?;
+    Ok(classes)
+}
+
+/// The fault of classes beside the core classes, where `Main` is run.
 fn fault_of(
-    rt: &HostRuntime,
-    first: ClassFile,
-    second: ClassFile,
-    options: Vec<OptionField>,
-) -> Result<Option<LinkFault>, Fail> {
-    let mut classes = Vec::new(rt.alloc());
-    classes.push(first)?;
-    classes.push(second)?;
-    let model = Model {
-        options: Items::of(options),
-        rules: Items::of(Vec::new(rt.alloc())),
+    alloc: Global,
+    classes: Vec<ClassFile>,
+    model: &Model,
+) -> Result<Option<LinkFault>, AllocError> {
+    let core = core(alloc)?;
+    Ok(linkable(alloc, classes, core, model, b"Main").err())
+}
+
+/// The words for a fault, and what it names.
+fn told(fault: &Option<LinkFault>) -> (&[u8], &[u8]) {
+    match fault {
+        Some(LinkFault::Twice { class }) => (b"twice", class.bytes()),
+        Some(LinkFault::NoSuper { class }) => (b"no super", class.bytes()),
+        Some(LinkFault::FinalSuper { class }) => (b"final super", class.bytes()),
+        Some(LinkFault::Cycle { class }) => (b"cycle", class.bytes()),
+        Some(LinkFault::NoOption { option }) => (b"no option", option.bytes()),
+        Some(LinkFault::NoMain) => (b"no main", b""),
+        Some(LinkFault::NoMemory) => (b"no memory", b""),
+        None => (b"none", b""),
+    }
+}
+
+/// Whether two classes have this fault.
+fn has_fault(
+    alloc: Global,
+    classes: Vec<ClassFile>,
+    options: &[u8],
+    expected: (&[u8], &[u8]),
+) -> Result<bool, AllocError> {
+    let Ok(model) = read_model(alloc, options) else {
+        return Ok(false);
     };
-    Ok(linkable(rt.alloc(), classes, core(rt.alloc())?, &model, b"Main").err())
+    let fault = fault_of(alloc, classes, &model)?;
+    let (words, named) = told(&fault);
+    Ok(words == expected.0 && named == expected.1)
 }
 
-fn is_twice(fault: &Option<LinkFault>, name: &[u8]) -> bool {
-    match fault {
-        Some(LinkFault::Twice { class }) => class.bytes() == name,
-        _ => false,
+#[test]
+fn folders_link_or_have_a_fault(rt: HostRuntime) -> Result<(), Fail> {
+    for (first, second, options, expected) in FOLDERS {
+        let classes = two_classes(rt.alloc(), first, second)?;
+        assert!(rt;
+            has_fault(rt.alloc(), classes, options, expected)?,
+            "{expected:?}"
+        );
     }
-}
-
-fn is_no_super(fault: &Option<LinkFault>, name: &[u8]) -> bool {
-    match fault {
-        Some(LinkFault::NoSuper { class }) => class.bytes() == name,
-        _ => false,
-    }
-}
-
-fn is_final_super(fault: &Option<LinkFault>, name: &[u8]) -> bool {
-    match fault {
-        Some(LinkFault::FinalSuper { class }) => class.bytes() == name,
-        _ => false,
-    }
-}
-
-fn is_cycle(fault: &Option<LinkFault>, name: &[u8]) -> bool {
-    match fault {
-        Some(LinkFault::Cycle { class }) => class.bytes() == name,
-        _ => false,
-    }
-}
-
-fn is_no_option(fault: &Option<LinkFault>, name: &[u8]) -> bool {
-    match fault {
-        Some(LinkFault::NoOption { option }) => option.bytes() == name,
-        _ => false,
-    }
-}
-
-fn other(rt: &HostRuntime) -> Result<ClassFile, AllocError> {
-    class(rt.alloc(), b"Other", b"", PUBLIC)
-}
-
-#[test]
-fn classes_without_a_fault_link(rt: HostRuntime) -> Result<(), Fail> {
-    let main = class(rt.alloc(), b"Main", b"Other", PUBLIC)?;
-    let fault = fault_of(&rt, main, other(&rt)?, Vec::new(rt.alloc()))?;
-    assert!(&rt; fault.is_none());
-    Ok(())
-}
-
-#[test]
-fn a_class_that_is_there_twice(rt: HostRuntime) -> Result<(), Fail> {
-    let main = class(rt.alloc(), b"Main", b"", PUBLIC)?;
-    let again = class(rt.alloc(), b"Main", b"", PUBLIC)?;
-    let fault = fault_of(&rt, main, again, Vec::new(rt.alloc()))?;
-    assert!(&rt; is_twice(&fault, b"Main"));
-    Ok(())
-}
-
-#[test]
-fn a_superclass_that_is_not_there(rt: HostRuntime) -> Result<(), Fail> {
-    let main = class(rt.alloc(), b"Main", b"Gone", PUBLIC)?;
-    let fault = fault_of(&rt, main, other(&rt)?, Vec::new(rt.alloc()))?;
-    assert!(&rt; is_no_super(&fault, b"Main"));
-    Ok(())
-}
-
-#[test]
-fn a_final_superclass(rt: HostRuntime) -> Result<(), Fail> {
-    let main = class(rt.alloc(), b"Main", b"Last", PUBLIC)?;
-    let last = class(rt.alloc(), b"Last", b"", FINAL)?;
-    let fault = fault_of(&rt, main, last, Vec::new(rt.alloc()))?;
-    assert!(&rt; is_final_super(&fault, b"Main"));
-    Ok(())
-}
-
-#[test]
-fn a_class_above_itself(rt: HostRuntime) -> Result<(), Fail> {
-    let p = class(rt.alloc(), b"P", b"Q", PUBLIC)?;
-    let q = class(rt.alloc(), b"Q", b"P", PUBLIC)?;
-    let fault = fault_of(&rt, p, q, Vec::new(rt.alloc()))?;
-    assert!(&rt; is_cycle(&fault, b"P"));
-    Ok(())
-}
-
-#[test]
-fn an_option_without_its_field(rt: HostRuntime) -> Result<(), Fail> {
-    let main = class(rt.alloc(), b"Main", b"", PUBLIC)?;
-    let option = OptionField {
-        name: Name::of(rt.alloc(), b"A")?,
-        place: Some(FieldPlace {
-            class: Name::of(rt.alloc(), b"Main")?,
-            field: Name::of(rt.alloc(), b"Z")?,
-        }),
-    };
-    let mut options = Vec::new(rt.alloc());
-    options.push(option)?;
-    let fault = fault_of(&rt, main, other(&rt)?, options)?;
-    assert!(&rt; is_no_option(&fault, b"A"));
-    Ok(())
-}
-
-#[test]
-fn no_main_to_run(rt: HostRuntime) -> Result<(), Fail> {
-    let another = class(rt.alloc(), b"Another", b"", PUBLIC)?;
-    let fault = fault_of(&rt, another, other(&rt)?, Vec::new(rt.alloc()))?;
-    assert!(&rt; matches!(fault, Some(LinkFault::NoMain)));
     Ok(())
 }

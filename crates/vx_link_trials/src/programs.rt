@@ -1,6 +1,7 @@
 ghost use Rattle.std.specs.Prelude.{◌≡◌, All, IfOk, length};
 ghost use Rattle.vx_class.specs.File.{Holds};
 
+use std::alloc::Global;
 use std::test::Fail;
 use vx_class::{ClassFile, read_class};
 use vx_core::core;
@@ -18,24 +19,24 @@ const MAIN: &[u8] =
     b"\xca\xfe\xba\xbe\x00\x00\x003\x00\x0c\x01\x00\x04Main\x07\x00\x01\x01\x00\x04Base\x07\x00\x03\x01\x00\x01X\x01\x00\x01Z\x01\x00\x01c\x01\x00\x01I\x01\x00\x04main\x01\x00\x16([Ljava/lang/String;)V\x01\x00\x04Code\x00!\x00\x02\x00\x04\x00\x00\x00\x02\x00\x09\x00\x05\x00\x06\x00\x00\x00\x00\x00\x07\x00\x08\x00\x00\x00\x01\x00\x09\x00\x09\x00\x0a\x00\x01\x00\x0b\x00\x00\x00\x0d\x00\x00\x00\x01\x00\x00\x00\x01\xb1\x00\x00\x00\x00\x00\x00";
 
 /// The two classes in ascending path.
-fn folder(rt: &HostRuntime) -> Result<Vec<ClassFile>, Fail>
+fn folder(alloc: Global) -> Result<Vec<ClassFile>, Fail>
     ensures few { IfOk result (λ classes. length classes.items ≡ 2) }
     ensures read { IfOk result (λ classes. All Holds classes.items) }
 {
-    let base = read_class(rt.alloc(), BASE)?;
-    let main = read_class(rt.alloc(), MAIN)?;
-    let mut classes = Vec::new(rt.alloc());
+    let base = read_class(alloc, BASE)?;
+    let main = read_class(alloc, MAIN)?;
+    let mut classes = Vec::new(alloc);
     classes.push(base)?;
     classes.push(main)?;
     Ok(classes)
 }
 
 /// The program of the folder, whose option `X` is the field of `Main`.
-fn program(rt: &HostRuntime) -> Result<Program, Fail> {
-    let classes = folder(rt)?;
-    let core = core(rt.alloc())?;
-    let model = read_model(rt.alloc(), b"option X Main X\noption Y\n")?;
-    Ok(link(rt.alloc(), classes, core, &model, b"Main")?)
+fn program(alloc: Global) -> Result<Program, Fail> {
+    let classes = folder(alloc)?;
+    let core = core(alloc)?;
+    let model = read_model(alloc, b"option X Main X\noption Y\n")?;
+    Ok(link(alloc, classes, core, &model, b"Main")?)
 }
 
 fn cell_of(program: &Program, number: usize) -> Option<u32> {
@@ -45,38 +46,35 @@ fn cell_of(program: &Program, number: usize) -> Option<u32> {
     }
 }
 
-#[test]
-fn main_stands_behind_the_initialiser_of_the_class_before(rt: HostRuntime) -> Result<(), Fail> {
-    let program = program(&rt)?;
-    assert!(&rt; program.main == MethodId(1));
-    Ok(())
+/// Whether the cells of a superclass come first.
+fn are_cells(program: &Program) -> bool {
+    cell_of(program, 0) == Some(0)
+        && cell_of(program, 1) == Some(0)
+        && cell_of(program, 2) == Some(1)
+        && cell_of(program, 3) == Some(0)
+        && cell_of(program, 4) == Some(2)
 }
 
-#[test]
-fn cells_of_a_superclass_come_first(rt: HostRuntime) -> Result<(), Fail> {
-    let program = program(&rt)?;
-    assert!(&rt; cell_of(&program, 0) == Some(0));
-    assert!(&rt; cell_of(&program, 1) == Some(0));
-    assert!(&rt; cell_of(&program, 2) == Some(1));
-    assert!(&rt; cell_of(&program, 3) == Some(0));
-    assert!(&rt; cell_of(&program, 4) == Some(2));
-    Ok(())
+/// Whether the first option has its field, and the second none.
+fn are_options(program: &Program) -> bool {
+    program.options.as_slice() == [Some(FieldId(3)), None].as_slice()
 }
 
-#[test]
-fn an_option_has_its_field(rt: HostRuntime) -> Result<(), Fail> {
-    let program = program(&rt)?;
-    let options = program.options.as_slice();
-    assert!(&rt; options == [Some(FieldId(3)), None].as_slice());
-    Ok(())
-}
-
-#[test]
-fn the_core_classes_stand_behind_those_of_the_folder(rt: HostRuntime) -> Result<(), Fail> {
-    let program = program(&rt)?;
+/// Whether the core classes stand behind those of the folder.
+fn are_core_classes_last(program: &Program) -> bool {
     match program.classes.get(0) {
-        Some(base) => assert!(&rt; base.superclass == Some(ClassId(2))),
-        None => assert!(&rt; false),
+        Some(base) => base.superclass == Some(ClassId(2)),
+        None => false,
     }
+}
+
+/// The method `main` stands behind the initialiser of the class before.
+#[test]
+fn a_folder_is_linked_in_its_order(rt: HostRuntime) -> Result<(), Fail> {
+    let program = program(rt.alloc())?;
+    assert!(rt; program.main == MethodId(1));
+    assert!(rt; are_cells(&program));
+    assert!(rt; are_options(&program));
+    assert!(rt; are_core_classes_last(&program));
     Ok(())
 }

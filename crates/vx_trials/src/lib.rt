@@ -4,6 +4,7 @@
 #[cfg(test)]
 mod tests {
     use std::alloc::{AllocError, Global};
+    use std::process::Abort;
     use std::test::Fail;
     use vx_asm::assemble;
     use vx_cli::varex;
@@ -336,21 +337,34 @@ mod tests {
         ),
     ];
 
-    fn kept(alloc: Global) -> Result<Vec<(String, Vec<u8>)>, AllocError> {
-        let mut kept = Vec::new(alloc);
+    /// The files of the classes and the models.
+    fn put_files(alloc: Global, kept: &mut Vec<(String, Vec<u8>)>) -> Result<(), AllocError> {
         for (path, bytes) in FILES {
-            let file = (
-                String::from_str(alloc, path)?,
-                Vec::from_slice(alloc, bytes)?,
-            );
-            kept.push(file)?;
+            put_file(alloc, kept, path, bytes)?;
         }
         for (path, source) in SOURCES {
             // The class of a source that is refused is missing, and then its cases fail.
             if let Ok(class) = assemble(alloc, source.as_bytes()) {
-                kept.push((String::from_str(alloc, path)?, class))?;
+                put_file(alloc, kept, path, &class)?;
             }
         }
+        Ok(())
+    }
+
+    fn put_file(
+        alloc: Global,
+        kept: &mut Vec<(String, Vec<u8>)>,
+        path: &str,
+        bytes: &[u8],
+    ) -> Result<(), AllocError> {
+        let path = String::from_str(alloc, path)?;
+        kept.push((path, Vec::from_slice(alloc, bytes)?))?;
+        Ok(())
+    }
+
+    fn kept(alloc: Global) -> Result<Vec<(String, Vec<u8>)>, AllocError> {
+        let mut kept = Vec::new(alloc);
+        put_files(alloc, &mut kept)?;
         Ok(kept)
     }
 
@@ -362,101 +376,127 @@ mod tests {
         Ok(words)
     }
 
-    #[test]
-    fn reports_and_refusals(rt: HostRuntime) -> Result<(), Fail> {
-        let alloc = rt.alloc();
-        let held = kept(alloc)?;
-        assert!(rt; are_distinct(held.as_slice()));
-        let mut files = SteadyFiles::new(alloc, held)?;
-        for (text, code, written, line) in CASES {
-            let mut out = SteadySink::new(alloc)?;
-            let mut err = SteadySink::new(alloc)?;
-            let words = words(alloc, text)?;
-            let status = varex(alloc, &words, &mut files, &mut out, &mut err);
-            assert_eq!(rt; status.code(), code, "{text}");
-            assert!(rt; out.written() == written.as_bytes(), "{text}");
-            assert!(rt; err.written() == line.as_bytes(), "{text}");
+    /// What a command comes to: its code, and what is written.
+    #[derive(Drop)]
+    struct Answer {
+        code: u8,
+        out: SteadySink,
+        err: SteadySink,
+    }
+
+    fn answer(rt: &impl Abort, alloc: Global, files: &mut SteadyFiles, text: &str) -> Answer {
+        let words = words(alloc, text).expect(rt, "memory");
+        let mut out = SteadySink::new(alloc).expect(rt, "memory");
+        let mut err = SteadySink::new(alloc).expect(rt, "memory");
+        let status = varex(alloc, &words, files, &mut out, &mut err);
+        Answer {
+            code: status.code(),
+            out,
+            err,
         }
-        Ok(())
+    }
+
+    /// Whether a command comes to this code, and to this on `out` and on `err`.
+    fn comes(
+        rt: &impl Abort,
+        alloc: Global,
+        files: &mut SteadyFiles,
+        case: (&str, u8, &str, &str),
+    ) -> bool {
+        let (text, code, written, line) = case;
+        let answer = answer(rt, alloc, files, text);
+        answer.code == code
+            && answer.out.written() == written.as_bytes()
+            && answer.err.written() == line.as_bytes()
     }
 
     #[test]
-    fn faults_of_files_and_sinks(rt: HostRuntime) -> Result<(), Fail> {
-        let alloc = rt.alloc();
-        for (text, files_fail, out_fail, err_fail, code, written, line) in FAULTS {
-            let held = kept(alloc)?;
-            assert!(rt; are_distinct(held.as_slice()));
-            let words = words(alloc, text)?;
-            let mut files = MemoryFiles::new(alloc, held, vec![in alloc; files_fail]?)?;
-            let mut out = MemorySink::new(alloc, 10, vec![in alloc; out_fail]?)?;
-            let mut err = MemorySink::new(alloc, 10, vec![in alloc; err_fail]?)?;
-            let status = varex(alloc, &words, &mut files, &mut out, &mut err);
-            assert_eq!(rt; status.code(), code, "{line}");
-            assert!(rt; out.written() == written.as_bytes(), "{line}");
-            assert!(rt; err.written() == line.as_bytes(), "{line}");
+    fn reports_and_refusals(rt: HostRuntime) {
+        let held = kept(rt.alloc()).expect(&rt, "memory");
+        assert!(rt; are_distinct(held.as_slice()));
+        let mut files = SteadyFiles::new(rt.alloc(), held).expect(&rt, "memory");
+        for case in CASES {
+            assert!(rt; comes(&rt, rt.alloc(), &mut files, case), "{case:?}");
         }
-        Ok(())
     }
 
-    #[test]
-    fn the_smallest_class(rt: HostRuntime) -> Result<(), Fail> {
-        let alloc = rt.alloc();
-        let source = Vec::from_slice(alloc, b"class 0021 Main java/lang/Object\n")?;
-        let held = vec![in alloc; (String::from_str(alloc, "s")?, source)]?;
+    /// The files of which the call of this number fails.
+    fn failing_files(rt: &impl Abort, alloc: Global, call: u64) -> MemoryFiles {
+        let held = kept(alloc).expect(rt, "memory");
         assert!(rt; are_distinct(held.as_slice()));
-        let mut files = SteadyFiles::new(alloc, held)?;
-        let mut out = SteadySink::new(alloc)?;
-        let mut err = SteadySink::new(alloc)?;
-        let words = words(alloc, "asm s")?;
+        let fails = Vec::from_slice(alloc, &[call]).expect(rt, "memory");
+        MemoryFiles::new(alloc, held, fails).expect(rt, "memory")
+    }
+
+    /// A sink that takes at most 10 bytes at a time, of which the call of this number fails.
+    fn failing_sink(rt: &impl Abort, alloc: Global, call: u64) -> MemorySink {
+        let fails = Vec::from_slice(alloc, &[call]).expect(rt, "memory");
+        MemorySink::new(alloc, 10, fails).expect(rt, "memory")
+    }
+
+    /// Whether a command over failing files and sinks comes to this code, and to this on `out` and on `err`.
+    fn comes_through(
+        rt: &impl Abort,
+        alloc: Global,
+        case: (&str, u64, u64, u64, u8, &str, &str),
+    ) -> bool {
+        let (text, files_fail, out_fail, err_fail, code, written, line) = case;
+        let words = words(alloc, text).expect(rt, "memory");
+        let mut files = failing_files(rt, alloc, files_fail);
+        let mut out = failing_sink(rt, alloc, out_fail);
+        let mut err = failing_sink(rt, alloc, err_fail);
         let status = varex(alloc, &words, &mut files, &mut out, &mut err);
-        assert_eq!(rt; status.code(), 0);
-        assert!(rt; out.written() == SMALLEST_CLASS);
-        Ok(())
+        status.code() == code
+            && out.written() == written.as_bytes()
+            && err.written() == line.as_bytes()
+    }
+
+    #[test]
+    fn faults_of_files_and_sinks(rt: HostRuntime) {
+        for case in FAULTS {
+            assert!(rt; comes_through(&rt, rt.alloc(), case), "{case:?}");
+        }
+    }
+
+    /// One file.
+    fn one_file(rt: &impl Abort, alloc: Global, path: &str, bytes: &[u8]) -> SteadyFiles {
+        let mut held = Vec::new(alloc);
+        put_file(alloc, &mut held, path, bytes).expect(rt, "memory");
+        assert!(rt; are_distinct(held.as_slice()));
+        SteadyFiles::new(alloc, held).expect(rt, "memory")
+    }
+
+    #[test]
+    fn the_smallest_class(rt: HostRuntime) {
+        let source = b"class 0021 Main java/lang/Object\n";
+        let mut files = one_file(&rt, rt.alloc(), "s", source);
+        let answer = answer(&rt, rt.alloc(), &mut files, "asm s");
+        assert!(rt; answer.code == 0 && answer.out.written() == SMALLEST_CLASS);
     }
 
     #[test]
     fn a_model_one_byte_too_large(rt: HostRuntime) -> Result<(), Fail> {
-        let alloc = rt.alloc();
-        let mut large = Vec::new(alloc);
-        large.resize(1_048_577, b'#')?;
-        let held = vec![in alloc; (String::from_str(alloc, "m")?, large)]?;
-        assert!(rt; are_distinct(held.as_slice()));
-        let mut files = SteadyFiles::new(alloc, held)?;
-        let mut out = SteadySink::new(alloc)?;
-        let mut err = SteadySink::new(alloc)?;
-        let words = words(alloc, "run f m Main 100 1")?;
-        let status = varex(alloc, &words, &mut files, &mut out, &mut err);
-        assert_eq!(rt; status.code(), 13);
-        assert!(rt; out.written().is_empty());
-        assert!(rt; err.written() == b"too large m 1048576\n".as_slice());
+        let large = vec![in rt.alloc(); b'#'; 1_048_577]?;
+        let mut files = one_file(&rt, rt.alloc(), "m", &large);
+        let case = ("run f m Main 100 1", 13, "", "too large m 1048576\n");
+        assert!(rt; comes(&rt, rt.alloc(), &mut files, case));
         Ok(())
     }
 
+    /// Where a model has 64 options, the report begins with the first and ends with the last.
     #[test]
-    fn a_model_of_64_options(rt: HostRuntime) -> Result<(), Fail> {
+    fn a_model_of_64_options(rt: HostRuntime) {
         let alloc = rt.alloc();
-        let model = Vec::from_slice(alloc, b"p cnf 64 1\n1 0\n")?;
-        let class = Vec::from_slice(alloc, PRINTS_NUMBER)?;
-        let held = vec![in alloc;
-            (String::from_str(alloc, "m.cnf")?, model),
-            (String::from_str(alloc, "f/Main.class")?, class),
-        ]?;
+        let mut held = Vec::new(alloc);
+        put_file(alloc, &mut held, "m.cnf", b"p cnf 64 1\n1 0\n").expect(&rt, "memory");
+        put_file(alloc, &mut held, "f/Main.class", PRINTS_NUMBER).expect(&rt, "memory");
         assert!(rt; are_distinct(held.as_slice()));
-        let mut files = SteadyFiles::new(alloc, held)?;
-        let mut out = SteadySink::new(alloc)?;
-        let mut err = SteadySink::new(alloc)?;
-        let words = words(alloc, "run f m.cnf Main 100 1")?;
-        let status = varex(alloc, &words, &mut files, &mut out, &mut err);
-        assert_eq!(rt; status.code(), 0);
-        assert!(rt;
-            out.written()
-                .starts_with(b"varexj report 1\noptions 64\noption v1\n")
-        );
-        assert!(rt;
-            out.written().ends_with(
-                b"option v64\nlimit 100\nrounds 4\nnode 2 0 0 1\nout 2 2\\0a\nend 2 return\ndone\n"
-            )
-        );
-        Ok(())
+        let mut files = SteadyFiles::new(alloc, held).expect(&rt, "memory");
+        let answer = answer(&rt, alloc, &mut files, "run f m.cnf Main 100 1");
+        let written = answer.out.written();
+        let front = b"varexj report 1\noptions 64\noption v1\n";
+        let back =
+            b"option v64\nlimit 100\nrounds 4\nnode 2 0 0 1\nout 2 2\\0a\nend 2 return\ndone\n";
+        assert!(rt; answer.code == 0 && written.starts_with(front) && written.ends_with(back));
     }
 }
