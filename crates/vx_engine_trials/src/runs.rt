@@ -52,7 +52,7 @@ pub(crate) fn report_of<K: Picker>(
     case: &Case,
     picker: &mut K,
 ) -> Result<Vec<u8>, Fail> {
-    let example = linked(alloc, case)?;
+    let example = linked(alloc, case.source, case.model)?;
     let options = example.model.options.len();
     assert!(rt; options <= 6);
     let mut masks = MaskSpace::new(options as u32);
