@@ -17,19 +17,16 @@ use Rattle.vx_outcome.specs.Outcome.{condition_of}
 use Rattle.vx_outcome.specs.declared.outcome.Outcome.{Outcome}
 use Rattle.vx_outcome.specs.declared.outcome.Outcome.TheVariants as shared
 use Rattle.vx_group_states.specs.Sites.{here}
-use Rattle.vx_group_states.specs.Stands.{AreOutcomes, CameTo, StandsIn, state_at}
+use Rattle.vx_group_states.specs.Stands.{CameTo, StandsIn, state_at}
 use Rattle.vx_group_states.specs.declared.site.Site.{Site}
-use Rattle.vx_group_states.proofs.OutcomeStates.{condition_known}
 use Rattle.vx_group_states.proofs.StateLaws.{top_held, top_shaped}
-use Rattle.vx_attempt.specs.Carrying.{AreConditionsKnown, HasCall, HaveCalls}
+use Rattle.vx_standing.specs.Attempted.{AreConditionsKnown}
+use Rattle.vx_attempt.specs.Carrying.{HasCall, HaveCalls}
 use Rattle.vx_attempt.proofs.Carrying.{CameTo-rest, first_at}
+use Rattle.vx_standing.proofs.Conditions.{conditions_known}
 use Rattle.vx_attempt.proofs.NativeRows.{StaysIn, row_stays}
 
 -- ---- what is known of the conditions
-
-pub conditions_known : {S I : Type 0} (p : Program) (old new : Sets I) (heap : HeapView S I) (tree : List (Option (Caller S I))) (group : GroupView S I) (xs : List (Outcome S I)) → AreOutcomes p old new heap tree group xs → AreConditionsKnown new xs
-conditions_known p old new heap tree group [] h = tt
-conditions_known p old new heap tree group (x ∷ xs) h = (condition_known p old new heap tree group x h.0, conditions_known p old new heap tree group xs h.1)
 
 pub outcomes_known : {S I : Type 0} (p : Program) (old new : Sets I) (heap : HeapView S I) (tree : List (Option (Caller S I))) (group : GroupView S I) (what : List Bool → PlainOutcome) (set : List Bool → Bool) (xs : List (Outcome S I)) → CameTo p old new heap tree group what set xs → AreConditionsKnown new xs
 outcomes_known p old new heap tree group what set xs h = conditions_known p old new heap tree group xs h.continue

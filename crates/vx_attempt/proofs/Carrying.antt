@@ -32,7 +32,8 @@ use Rattle.vx_group_states.specs.Stands.{AreOutcomes, CameTo, Continues, IsMessa
 use Rattle.vx_group_states.specs.declared.site.Site.{Site}
 use Rattle.vx_group_states.proofs.OutcomeStates.{CameTo-append, CameTo-extends, CameTo-none, CameTo-one, CameTo-same, CameTo-through}
 use Rattle.vx_group_states.proofs.StateLaws.{both_first}
-use Rattle.vx_attempt.specs.Carrying.{AreCarriedOut, AreConditionsKnown, HasCall, HasUnbuilt, HaveCalls}
+use Rattle.vx_attempt.specs.Carrying.{AreCarriedOut, HasCall, HasUnbuilt, HaveCalls}
+use Rattle.vx_standing.specs.Attempted.{AreConditionsKnown}
 
 module _ {S I : Type 0} (p : Program) (start sets : Sets I) (before after : HeapView S I) (m : HasMoreTexts before after) (v : IsHeap sets before) (tree : List (Option (Caller S I))) (group : GroupView S I) where
   Continues-texts : (next : GroupView S I) → Continues p start sets before tree group next → Continues p start sets after tree group next

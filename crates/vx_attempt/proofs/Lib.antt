@@ -1,4 +1,3 @@
-pub mod Alone
 pub mod Carrying
 pub mod NativeRows
 pub mod Calls

@@ -38,9 +38,9 @@ use Rattle.vx_group_states.specs.declared.site.Site.{Site}
 use Rattle.vx_group_states.proofs.OutcomeStates.{CameTo-same}
 use Rattle.vx_group_states.proofs.StateLaws.{both_first, both_second, top_held, top_shaped}
 use Rattle.vx_value.specs.declared.ids.ClassId.{ClassId}
-use Rattle.vx_attempt.specs.Attempted.{IsAttempted, IsUnbuiltThere, MayAttempt, carried_out_row}
+use Rattle.vx_standing.specs.Attempted.{IsAttempted, IsUnbuiltThere, MayAttempt, carried_out_row}
 use Rattle.vx_attempt.specs.Carrying.{AreCarriedOut, HasUnbuilt}
-use Rattle.vx_attempt.proofs.Alone.{state_alone}
+use Rattle.vx_standing.proofs.Alone.{state_alone}
 use Rattle.vx_fields.proofs.Pools.{below}
 
 -- ---- the instruction where it stands

@@ -1,6 +1,6 @@
 -- Native methods that are carried out where a family left them.
-use Rattle.std.specs.Prelude.{◌≡◌, Bool, true, false, List, [], ◌∷◌, Option, map}
-use Rattle.vx_space.specs.Sets.{AreKnown, Sets}
+use Rattle.std.specs.Prelude.{◌≡◌, Bool, true, false, List, [], ◌∷◌, Option}
+use Rattle.vx_space.specs.Sets.{Sets}
 use Rattle.vx_group.specs.declared.callers.Caller.{Caller}
 use Rattle.vx_group.specs.Group.{GroupView, path_of}
 use Rattle.vx_heap.specs.Heap.{HeapView}
@@ -10,15 +10,10 @@ use Rattle.vx_java.specs.Machine.{Outcome as PlainOutcome}
 use Rattle.vx_java.specs.Step.{outcome_carried_out}
 use Rattle.vx_java.specs.declared.operation.Operation.{Operation}
 use Rattle.vx_link.specs.declared.program.Program.{Program}
-use Rattle.vx_outcome.specs.Outcome.{condition_of}
 use Rattle.vx_outcome.specs.declared.outcome.Outcome.{Outcome}
 use Rattle.vx_outcome.specs.declared.outcome.Outcome.TheVariants as shared
 use Rattle.vx_group_states.specs.Stands.{CameTo}
 use Rattle.vx_group_states.specs.declared.site.Site.{Site}
-
--- the conditions of the outcomes are known
-abbrev pub AreConditionsKnown : {S I : Type 0} → Sets I → List (Outcome S I) → Type 0
-AreConditionsKnown sets outcomes = AreKnown sets (map condition_of outcomes)
 
 -- the group of a native method to which some configuration comes stands at the call
 abbrev pub HasCall : {S I : Type 0} → Site → Sets I → HeapView S I → Outcome S I → Type 0

@@ -1,3 +1,2 @@
-pub mod Attempted
 pub mod Carrying
 pub mod Families

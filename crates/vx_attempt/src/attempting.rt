@@ -6,7 +6,7 @@ ghost use Rattle.vx_link.specs.Parts.{method_at};
 ghost use Rattle.vx_families.specs.Attempts.{IsAttemptBy, IsGiven, MeetsUnbuilt};
 ghost use Rattle.vx_families.specs.Built.{is_built_operation};
 ghost use Rattle.vx_invoke.specs.Named.{pool_of};
-ghost use Rattle.vx_attempt.specs.Attempted.{IsAttempted, IsUnbuiltThere, MayAttempt};
+ghost use Rattle.vx_standing.specs.Attempted.{IsAttempted, IsUnbuiltThere, MayAttempt};
 ghost use Rattle.vx_attempt.specs.Families.{is_of};
 ghost use Rattle.vx_value.specs.declared.key.Kind.TheVariants.{Call};
 

@@ -8,7 +8,8 @@ ghost use Rattle.vx_heap.specs.Heap.{IsHeap};
 ghost use Rattle.vx_families.specs.Built.{is_println_method};
 ghost use Rattle.vx_link.specs.Parts.{method_at};
 ghost use Rattle.vx_outcome.specs.declared.outcome.Outcome.TheVariants.{Begin, Native};
-ghost use Rattle.vx_attempt.specs.Carrying.{AreCarriedOut, AreConditionsKnown, HasCall, HasUnbuilt, HaveCalls};
+ghost use Rattle.vx_attempt.specs.Carrying.{AreCarriedOut, HasCall, HasUnbuilt, HaveCalls};
+ghost use Rattle.vx_standing.specs.Attempted.{AreConditionsKnown};
 ghost use Rattle.vx_families.specs.Texts.{HasMoreTexts};
 
 use std::alloc::{AllocError, Global};

@@ -3,7 +3,7 @@ use Rattle.std.proofs.Common.{◌≡◌, ◌≤◌, ℕ, Bool, true, List, Resul
 use Rattle.std.specs.Prelude.{All}
 use Rattle.vx_class.specs.File.{Holds}
 use Rattle.vx_class.specs.declared.class_file.ClassFile.{ClassFile}
-use Rattle.vx_engine.specs.Findings.{AreAllowed, AreFindings, FindingsView, report_by}
+use Rattle.vx_lockstep.specs.Findings.{AreAllowed, AreFindings, FindingsView, report_by}
 use Rattle.vx_families.specs.Bounds.{IsBounded}
 use Rattle.vx_heap.specs.Heap.{has_options}
 use Rattle.vx_java.specs.Report.{lock_report}
@@ -15,7 +15,7 @@ use Rattle.vx_program_bounds.specs.Law.{LinkedAreBounded}
 use Rattle.vx_model.specs.Models.{is_allowed}
 use Rattle.vx_model.specs.declared.model.Model.{Model}
 use Rattle.vx_reporting.specs.Reported.{IsReported}
-use Rattle.vx_rounds.specs.Rounds.{MeetsUnbuilt}
+use Rattle.vx_standing.specs.Rounds.{MeetsUnbuilt}
 use Rattle.vx_space.specs.Sets.{Sets}
 use Rattle.vx_cli.specs.Job.{IsReportOf, main_path, names_of, or_bad_link, program_in, slashed}
 use Rattle.vx_cli.specs.Run.{IsRefusedRun}

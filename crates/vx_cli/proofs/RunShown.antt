@@ -14,7 +14,7 @@ use Rattle.vx_model.specs.Text.{BadLine}
 use Rattle.vx_link.specs.Linked.{linked_program}
 use Rattle.vx_link.specs.declared.fault.LinkFault.{LinkFault}
 use Rattle.vx_link.specs.declared.program.Program.{Program}
-use Rattle.vx_rounds.specs.Rounds.{MeetsUnbuilt}
+use Rattle.vx_standing.specs.Rounds.{MeetsUnbuilt}
 use Rattle.vx_cli.specs.declared.status.Status.{Status}
 use Rattle.vx_cli.specs.declared.status.Status.TheVariants.{Done, NoMemory, ReadFault, WriteFault, BadModel, NoConfiguration, BadClass, BadLink, TooLarge, NotYet}
 use Rattle.vx_cli.specs.Causes.{HasClasses, IsReached, IsModelOf, IsGoodModel, IsNotTaken, IsNotLinked, AreAll, class_bytes, AreClasses, RunCause, Shows, IsShown, IsGood, NothingFails}

@@ -3,4 +3,4 @@
 
 pub mod running;
 
-pub use running::{Findings, run_with};
+pub use running::run_with;

@@ -2,46 +2,24 @@
 
 ghost use Rattle.std.specs.Prelude.{◌≡◌, ◌≢◌, ◌<◌, ◌≤◌, Err, IfOk, List, ℕ, true};
 ghost use Rattle.vx_space.specs.Sets.{IsKnown};
-ghost use Rattle.vx_engine.specs.Findings.{AreAllowed, AreFindings, report_by};
+ghost use Rattle.vx_lockstep.specs.Findings.{AreAllowed, AreFindings, report_by};
 ghost use Rattle.vx_families.specs.Bounds.{IsBounded};
 ghost use Rattle.vx_heap.specs.Heap.{has_options};
 ghost use Rattle.vx_java.specs.Report.{lock_report};
 ghost use Rattle.vx_java.specs.Step.{Config};
-ghost use Rattle.vx_rounds.specs.Rounds.{MeetsUnbuilt};
-ghost use Rattle.vx_rounds.specs.State.{most_attempts};
+ghost use Rattle.vx_standing.specs.Rounds.{MeetsUnbuilt};
+ghost use Rattle.vx_standing.specs.State.{most_attempts};
 ghost use Rattle.vx_sched.specs.Picks.{IsFirstKey};
 ghost use Rattle.vx_value.specs.declared.key.KeyPart.{KeyPart};
 
 use std::alloc::Global;
-use std::marker::Model;
 use vx_families::AttemptFault;
-use vx_findings::{Piece, Shared};
 use vx_link::Program;
-use vx_rounds::{start, step_group};
+use vx_lockstep::Findings;
+use vx_rounds::step_group;
 use vx_sched::{Picker, keys_of};
 use vx_space::Space;
-use vx_value::End;
-
-/// What all runs have come to.
-#[derive(Drop)]
-pub struct Findings<S: Space> {
-    /// How many rounds were made.
-    pub rounds: u128,
-    /// The texts in the order in which they were written.
-    pub found: Vec<Shared<Piece, S>>,
-    /// The ends, ascending.
-    pub ends: Vec<Shared<End, S>>,
-    /// The numbers of attempts, ascending.
-    pub spent: Vec<Shared<u64, S>>,
-}
-
-impl<S: Space> Model for Findings<S> {
-    ghost use Rattle.vx_engine.specs.Findings.{FindingsView};
-
-    ghost Value = { FindingsView S S.Id };
-
-    ghost view = { λ f. record { rounds = f.rounds; found = f.found.items; ends = f.ends.items; spent = f.spent.items } };
-}
+use vx_starting::start;
 
 /// Runs a program in all of some configurations at once, each with at most `limit` attempts, where the picker says which
 /// group makes the next attempt. Afterwards only the ids of the findings are sure to be known. `NotYet` comes only where

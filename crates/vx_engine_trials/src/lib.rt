@@ -11,6 +11,8 @@ mod last_key;
 #[cfg(test)]
 mod least_key;
 #[cfg(test)]
+mod long_run;
+#[cfg(test)]
 mod programs;
 #[cfg(test)]
 mod runs;

@@ -6,7 +6,6 @@ ghost use Rattle.vx_families.specs.Bounds.{IsBounded};
 ghost use Rattle.vx_heap.specs.Heap.{has_options};
 ghost use Rattle.vx_model.specs.Models.{IsModel};
 
-use crate::cases::Case;
 use std::alloc::{AllocError, Global};
 use std::test::Fail;
 use vx_asm::assemble;
@@ -47,15 +46,15 @@ fn folder(alloc: Global, source: &[u8]) -> Result<Vec<ClassFile>, Fail>
     Ok(classes)
 }
 
-/// The program of a case, linked with the core classes.
-pub(crate) fn linked(alloc: Global, case: &Case) -> Result<Example, Fail>
+/// The program of a source and a model, linked with the core classes.
+pub(crate) fn linked(alloc: Global, source: &[u8], model: &[u8]) -> Result<Example, Fail>
     ensures bounded { IfOk result (λ example. IsBounded example.program) }
     ensures options { IfOk result (λ example. has_options (length example.model.options) example.program.fields ≡ true) }
     ensures lawful { IfOk result (λ example. IsModel example.model) }
 {
-    let classes = folder(alloc, case.source)?;
+    let classes = folder(alloc, source)?;
     let core = core(alloc)?;
-    let model = read_model(alloc, case.model)?;
+    let model = read_model(alloc, model)?;
     linked_are_bounded();
     let program = link(alloc, classes, core, &model, b"Main")?;
     Ok(Example { program, model })

@@ -88,7 +88,7 @@ pub(crate) fn report_of<K: Picker>(
     case: &Case,
     picker: &mut K,
 ) -> Result<Vec<u8>, Fail> {
-    let example = linked(alloc, case)?;
+    let example = linked(alloc, case.source, case.model)?;
     let text = report_over_masks(rt, alloc, case, &example, picker)?;
     let again = report_over_diagrams(rt, alloc, case, &example, picker)?;
     assert!(rt; again.as_slice() == text.as_slice());

@@ -7,8 +7,8 @@ use Rattle.vx_space.specs.Sets.{AreKnown, Sets}
 use Rattle.vx_bdd_tools.specs.declared.node.Node.{Node}
 use Rattle.vx_bdd_tools.specs.Listing.{IsListing}
 use Rattle.vx_bdd_tools.specs.Numbering.{HoldAll}
-use Rattle.vx_engine.proofs.Apart.{none_holds}
-use Rattle.vx_engine.specs.Findings.{AreAllowed, AreFindings, FindingsView, report_by, shared_by}
+use Rattle.vx_lockstep.proofs.Apart.{none_holds}
+use Rattle.vx_lockstep.specs.Findings.{AreAllowed, AreFindings, FindingsView, report_by, shared_by}
 use Rattle.vx_findings.specs.declared.shared.Shared.{Shared}
 use Rattle.vx_findings.specs.declared.piece.Piece as written
 use Rattle.vx_java.specs.Report.{attempts_shown, lock_report, projection_of}
@@ -19,7 +19,7 @@ use Rattle.vx_report.specs.Projection.{attempts_in, project}
 use Rattle.vx_report.specs.Text.{report_text}
 use Rattle.vx_report.specs.declared.report.Report.{Report}
 use Rattle.vx_report_reader.specs.Rules.{roots_of}
-use Rattle.vx_rounds.specs.State.{shared_ids}
+use Rattle.vx_standing.specs.State.{shared_ids}
 use Rattle.vx_reporting.specs.Listed.{attempts_line, end_line, lines_with, piece_line, report_with}
 use Rattle.vx_reporting.specs.Reported.{IsReported, SaysLockstep, attempts_of, end_of, piece_of}
 use Rattle.vx_reporting.proofs.Matching.{Hold, all_append, attempts_same, drop_more, end_same, held_nowhere, hold_behind, hold_first, hold_none, mapped_same, numbers_of, output_same, parts_of}

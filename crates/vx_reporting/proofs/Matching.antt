@@ -15,7 +15,7 @@ use Rattle.vx_java.specs.Report.{bytes_of as bytes_of_piece}
 use Rattle.vx_java.specs.Step.{Config, RunResult}
 use Rattle.vx_report.specs.declared.report.Piece.{Piece}
 use Rattle.vx_report.specs.Projection.{attempts_in, bytes_of}
-use Rattle.vx_rounds.specs.State.{come_to, output_at, shared_ids}
+use Rattle.vx_standing.specs.State.{come_to, output_at, shared_ids}
 use Rattle.vx_value.specs.declared.end.End.{End}
 use Rattle.vx_value.specs.declared.end.Stream.{Stream}
 use Rattle.vx_reporting.specs.Listed.{attempts_line, end_line, lines_with, piece_line}

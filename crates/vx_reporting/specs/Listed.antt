@@ -1,7 +1,7 @@
 -- The lines of a report for values with their sets: each value with the number of its set's node.
 use Rattle.std.specs.Prelude.{ℕ, List, [], ◌∷◌, drop, if◌then◌else◌, length, ◌==◌, ◌+◌}
 use Rattle.vx_bdd_tools.specs.declared.node.Node.{Node}
-use Rattle.vx_engine.specs.Findings.{FindingsView}
+use Rattle.vx_lockstep.specs.Findings.{FindingsView}
 use Rattle.vx_findings.specs.declared.piece.Piece as written
 use Rattle.vx_findings.specs.declared.shared.Shared.{Shared}
 use Rattle.vx_list.specs.Places.{item_or}

@@ -4,7 +4,7 @@ use Rattle.std.specs.List.{list_all}
 use Rattle.vx_bdd_tools.specs.declared.node.Node.{Node}
 use Rattle.vx_bdd_tools.specs.Nodes.{holds}
 use Rattle.vx_bdd_tools.specs.Numbering.{IsNumbered}
-use Rattle.vx_engine.specs.Findings.{AreAllowed}
+use Rattle.vx_lockstep.specs.Findings.{AreAllowed}
 use Rattle.vx_java.specs.Lockstep as lockstep
 use Rattle.vx_java.specs.Report.{LockReport, lock_report, projection_of}
 use Rattle.vx_java.specs.Step.{Config, run}

@@ -1,11 +1,11 @@
 //! The report of what all runs have come to.
 
 ghost use Rattle.std.specs.Prelude.{◌≡◌, ◌++◌, ℕ, Bool, IfOk, List, [], drop, length, if◌then◌else◌, ◌==◌};
-ghost use Rattle.vx_engine.specs.Findings.{AreAllowed, AreFindings, report_by};
+ghost use Rattle.vx_lockstep.specs.Findings.{AreAllowed, AreFindings, report_by};
 ghost use Rattle.vx_java.specs.Report.{lock_report};
 ghost use Rattle.vx_java.specs.Step.{Config};
 ghost use Rattle.vx_link.specs.declared.program.Program.{Program};
-ghost use Rattle.vx_rounds.specs.State.{shared_ids};
+ghost use Rattle.vx_standing.specs.State.{shared_ids};
 ghost use Rattle.vx_space.specs.Sets.{AreKnown};
 ghost use Rattle.vx_reporting.specs.Listed.{report_with};
 ghost use Rattle.vx_reporting.specs.Reported.{IsReported};
@@ -13,11 +13,11 @@ ghost use Rattle.vx_reporting.specs.Reported.{IsReported};
 use crate::lines::{attempts_of, ends_of, pieces_of};
 use std::alloc::{AllocError, Global};
 use vx_bdd_tools::{NodeList, listing};
-use vx_engine::Findings;
 use vx_list::Items;
+use vx_lockstep::Findings;
 use vx_report::{Report, write_report};
-use vx_rounds::sets_out;
 use vx_space::Space;
+use vx_standing::sets_out;
 use vx_value::Name;
 
 /// The sets of the findings that a report of a version shows: those of texts, of ends, and in version 2 of numbers of

@@ -3,7 +3,7 @@ use Rattle.std.proofs.lemmas.List.{length-map}
 use Rattle.vx_model.specs.Models.{is_allowed}
 use Rattle.vx_cli.proofs.Ran.{program_bounded, program_options, refused_unbuilt, reported_run}
 use Rattle.vx_cli.proofs.run.report_of.Goals as goal
-use Rattle.vx_engine.proofs.Known.{found_known}
+use Rattle.vx_lockstep.proofs.Known.{found_known}
 
 pub run_with-requires-clause-bounded : goal.run_with-requires-clause-bounded
 run_with-requires-clause-bounded c = program_bounded c.args.words.main.now c.args.modeled.model c.args.found.classes.items c.in_ok-program.program c.linked_are_bounded.ensures c.requires.few c.requires.read c.in_ok-program.ensures

@@ -1,8 +1,8 @@
 use Rattle.std.proofs.Common.{◌≡◌, Err, sym, ap, ◌∙◌}
 use Rattle.std.specs.Prelude.{Result}
 use Rattle.std.proofs.lemmas.Result.{err_from_is_err_and}
-use Rattle.vx_engine.proofs.Falling.{attempts_fall, round_steps}
-use Rattle.vx_engine.proofs.Underway.{ended, goes_on, is_last, picked_below, picked_first, reported, started, stuck}
+use Rattle.vx_lockstep.proofs.Falling.{attempts_fall, round_steps}
+use Rattle.vx_lockstep.proofs.Underway.{ended, goes_on, is_last, picked_below, picked_first, reported, started, stuck}
 use Rattle.vx_families.specs.declared.fault.AttemptFault.{AttemptFault}
 use Rattle.vx_families.specs.declared.fault.AttemptFault.TheVariants.{NotYet}
 use Rattle.vx_engine.proofs.running.run_with.Goals as goal

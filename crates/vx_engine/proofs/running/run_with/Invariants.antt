@@ -1,6 +1,6 @@
 use Rattle.std.proofs.Common.{ℕ, List}
-use Rattle.vx_engine.proofs.Underway.{IsUnderway}
-use Rattle.vx_rounds.specs.State.{attempts_left}
+use Rattle.vx_lockstep.proofs.Underway.{IsUnderway}
+use Rattle.vx_standing.specs.State.{attempts_left}
 use Rattle.vx_sched.specs.Picks.{IsFirstKey}
 use Rattle.vx_value.specs.declared.key.KeyPart.{KeyPart}
 use Rattle.vx_engine.proofs.running.run_with.Given as goal

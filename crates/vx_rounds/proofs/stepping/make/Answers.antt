@@ -1,9 +1,9 @@
 use Rattle.std.specs.Ordering.{nat_cmp}
 use Rattle.vx_space.proofs.Spaces.{Extends-trans}
 use Rattle.vx_cond.proofs.CondLaws.{IsCond-extends}
-use Rattle.vx_attempt.proofs.Calls.{conditions_known}
-use Rattle.vx_rounds.proofs.Grown.{IsUnderway-grown}
-use Rattle.vx_rounds.proofs.Making.{IsMade-placed, IsUnbuiltThere-met, attempt_of, made_bound, made_divide, made_placeable, unwritten_made, vacant_made}
+use Rattle.vx_standing.proofs.Conditions.{conditions_known}
+use Rattle.vx_turns.proofs.Grown.{IsUnderway-grown}
+use Rattle.vx_turns.proofs.Making.{IsMade-placed, IsUnbuiltThere-met, attempt_of, made_bound, made_divide, made_placeable, unwritten_made, vacant_made}
 use Rattle.vx_rounds.proofs.stepping.make.Goals as goal
 
 pub have_places-requires : goal.have_places-requires
@@ -17,22 +17,18 @@ returns-then-not-have_places-clause-not_yet g c =
     let unplaced = rw c.deref.ensures.value at (c.have_places.ensures.no c.if-not-have_places.true) in
     λ _. IsUnbuiltThere-met c.args.program.now (g.S.Space.sets c.args.space.now) (g.S.Space.sets c.attempt.new.space) (g.met.S.Space.lawful c.attempt.new.space) c.args.heap.now c.attempt.new.heap c.args.group c.in_ok-outcomes.outcomes.items.items c.requires.single a unplaced
 
-pub place_all-requires-clause-bounded : goal.place_all-requires-clause-bounded
-place_all-requires-clause-bounded g c = c.requires.given.bounded
-
-pub place_all-requires-clause-heap : goal.place_all-requires-clause-heap
-place_all-requires-clause-heap g c = (attempt_of c.args.program.now _ _ c.args.heap.now c.attempt.new.heap c.args.group c.in_ok-outcomes.outcomes.items.items c.requires.single c.requires.given c.in_ok-outcomes.ensures.ok).is_heap
-
-pub place_all-requires-clause-underway : goal.place_all-requires-clause-underway
-place_all-requires-clause-underway g c =
+pub place_all-requires-clause-may : goal.place_all-requires-clause-may
+place_all-requires-clause-may g c =
     let a = attempt_of c.args.program.now _ _ c.args.heap.now c.attempt.new.heap c.args.group c.in_ok-outcomes.outcomes.items.items c.requires.single c.requires.given c.in_ok-outcomes.ensures.ok in
-    IsUnderway-grown c.args.program.now c.in_ok-outcomes.ensures.extends c.args.heap.now c.attempt.new.heap c.requires.given.is_heap a.grows c.args.limit c.args.round.now c.requires.underway
-
-pub place_all-requires-clause-attempts : goal.place_all-requires-clause-attempts
-place_all-requires-clause-attempts g c = IsCond-extends nat_cmp c.in_ok-outcomes.ensures.extends c.args.attempts.now c.requires.attempts.is_cond
-
-pub place_all-requires-clause-bound : goal.place_all-requires-clause-bound
-place_all-requires-clause-bound g c = made_bound c.args.program.now c.in_ok-outcomes.ensures.extends c.args.heap.now c.args.limit c.args.group c.args.attempts.now c.requires.given c.requires.attempts
+    record {
+      bounded = c.requires.given.bounded;
+      is_heap = a.is_heap;
+      underway = IsUnderway-grown c.args.program.now c.in_ok-outcomes.ensures.extends c.args.heap.now c.attempt.new.heap c.requires.given.is_heap a.grows c.args.limit c.args.round.now c.requires.underway;
+      is_cond = IsCond-extends nat_cmp c.in_ok-outcomes.ensures.extends c.args.attempts.now c.requires.attempts.is_cond;
+      bound = made_bound c.args.program.now c.in_ok-outcomes.ensures.extends c.args.heap.now c.args.limit c.args.group c.args.attempts.now c.requires.given c.requires.attempts;
+      vacant = vacant_made c.args.program.now c.in_ok-outcomes.ensures.extends c.args.heap.now c.attempt.new.heap c.args.limit c.args.group c.args.attempts.now c.args.round.now c.requires.given c.requires.attempts c.requires.underway c.requires.vacant;
+      unwritten = unwritten_made c.args.program.now c.in_ok-outcomes.ensures.extends c.args.heap.now c.args.limit c.args.group c.args.attempts.now c.args.round.now c.requires.given c.requires.attempts c.requires.underway c.requires.unwritten;
+    }
 
 pub place_all-requires-clause-divide : goal.place_all-requires-clause-divide
 place_all-requires-clause-divide g c =
@@ -46,12 +42,6 @@ place_all-requires-clause-placeable g c =
 
 pub place_all-requires-clause-places : goal.place_all-requires-clause-places
 place_all-requires-clause-places g c = rw c.deref.ensures.value at (c.have_places.ensures.yes c.if-not-have_places.false)
-
-pub place_all-requires-clause-vacant : goal.place_all-requires-clause-vacant
-place_all-requires-clause-vacant g c = vacant_made c.args.program.now c.in_ok-outcomes.ensures.extends c.args.heap.now c.attempt.new.heap c.args.limit c.args.group c.args.attempts.now c.args.round.now c.requires.given c.requires.attempts c.requires.underway c.requires.vacant
-
-pub place_all-requires-clause-unwritten : goal.place_all-requires-clause-unwritten
-place_all-requires-clause-unwritten g c = unwritten_made c.args.program.now c.in_ok-outcomes.ensures.extends c.args.heap.now c.args.limit c.args.group c.args.attempts.now c.args.round.now c.requires.given c.requires.attempts c.requires.underway c.requires.unwritten
 
 pub returns-in_err-place_all-clause-extends : goal.returns-in_err-place_all-clause-extends
 returns-in_err-place_all-clause-extends g c = Extends-trans c.in_ok-outcomes.ensures.extends c.place_all.ensures.extends

@@ -1,12 +1,12 @@
 use Rattle.std.proofs.Common.{sym, ap, ◌∙◌}
 use Rattle.std.proofs.lemmas.Result.{err_from_is_err_and}
-use Rattle.vx_rounds.specs.State.{StateView}
-use Rattle.vx_rounds.proofs.Closing.{closed_nodes, rounds_small}
-use Rattle.vx_rounds.proofs.Going.{IsVacant-inside}
-use Rattle.vx_rounds.proofs.Keeping.{state_known}
-use Rattle.vx_rounds.proofs.Opening.{begun_underway, begun_unwritten, begun_vacant, chosen_is_group, may_spend, spent_count, spent_kind, spent_may}
-use Rattle.vx_rounds.proofs.Putting.{IsUnderway-extends}
-use Rattle.vx_rounds.proofs.Whole.{IsRound-closed, IsStuck-met, IsTurn-made, compacted_state}
+use Rattle.vx_standing.specs.State.{StateView}
+use Rattle.vx_turns.proofs.Closing.{closed_nodes, rounds_small}
+use Rattle.vx_placing.proofs.Going.{IsVacant-inside}
+use Rattle.vx_standing.proofs.Keeping.{state_known}
+use Rattle.vx_turns.proofs.Opening.{begun_underway, begun_unwritten, begun_vacant, chosen_is_group, may_spend, spent_count, spent_kind, spent_may}
+use Rattle.vx_placing.proofs.Putting.{IsUnderway-extends}
+use Rattle.vx_turns.proofs.Whole.{IsRound-closed, IsStuck-met, IsTurn-made, compacted_state}
 use Rattle.vx_rounds.proofs.stepping.step_group.Goals as goal
 
 pub compact-requires : goal.compact-requires

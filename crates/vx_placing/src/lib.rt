@@ -1,0 +1,8 @@
+//! What is under way in a round, and the places that the outcomes of an attempt take in it.
+#![tactic(auto)]
+
+pub mod placing;
+pub mod round;
+
+pub use placing::{have_places, place_all};
+pub use round::{Round, Setting};

@@ -1,0 +1,107 @@
+//! The state of all runs.
+
+ghost use Rattle.std.specs.Prelude.{◌≡◌, ◌++◌, OnOk};
+ghost use Rattle.std.specs.List.{flat_map};
+ghost use Rattle.vx_group.specs.Group.{group_ids};
+ghost use Rattle.vx_standing.specs.State.{shared_ids, state_ids};
+
+use std::alloc::AllocError;
+use std::marker::Model;
+use vx_findings::{Piece, Shared};
+use vx_group::{Callers, Group};
+use vx_heap::Heap;
+use vx_space::Space;
+use vx_value::End;
+
+/// The state of all runs side by side. It doesn't hold its space. That it is a state of runs is said by `IsState`: the start makes
+/// such a state, and each round keeps it.
+#[derive(Drop)]
+pub struct State<S: Space> {
+    /// What all runs share.
+    pub heap: Heap<S>,
+    /// The frames below those on top.
+    pub callers: Callers<S>,
+    /// The groups that go on.
+    pub groups: Vec<Group<S>>,
+    /// How many attempts a run makes at most.
+    pub limit: u64,
+    /// How many rounds were made.
+    pub rounds: u128,
+    /// The texts in the order in which they were written.
+    pub found: Vec<Shared<Piece, S>>,
+    /// The ends, ascending.
+    pub ends: Vec<Shared<End, S>>,
+    /// The numbers of attempts of the runs that have ended, ascending.
+    pub spent: Vec<Shared<u64, S>>,
+}
+
+impl<S: Space> Model for State<S> {
+    ghost use Rattle.vx_standing.specs.State.{StateView};
+
+    ghost Value = { StateView S S.Id };
+
+    ghost view = { λ s. record { heap = s.heap; tree = s.callers; groups = s.groups.items; limit = s.limit; rounds = s.rounds; found = s.found.items; ends = s.ends.items; spent = s.spent.items } };
+}
+
+impl<S: Space> State<S> {
+    /// The groups that go on.
+    pub fn groups(&self) -> &[Group<S>]
+        ensures { result.now ≡ self.now.groups }
+    {
+        self.groups.as_slice()
+    }
+
+    /// How many rounds were made.
+    pub fn rounds(&self) -> u128
+        ensures { result ≡ self.now.rounds }
+    {
+        self.rounds
+    }
+
+    /// What was found, by a move: the texts in the order in which they were written, the ends, and the numbers of attempts.
+    pub fn into_found(
+        self,
+    ) -> (
+        Vec<Shared<Piece, S>>,
+        Vec<Shared<End, S>>,
+        Vec<Shared<u64, S>>,
+    )
+        ensures found { result.0.items ≡ self.found }
+        ensures ends { result.1.items ≡ self.ends }
+        ensures spent { result.2.items ≡ self.spent }
+    {
+        (self.found, self.ends, self.spent)
+    }
+
+    /// Appends just the ids that the state holds.
+    pub fn ids_out(&self, ids: &mut Vec<S::Id>) -> Result<(), AllocError>
+        ensures { OnOk result (ids.new.items ≡ ids.old.items ++ state_ids self.now) }
+    {
+        self.heap.ids_out(ids)?;
+        groups_out(self.groups.as_slice(), ids)?;
+        self.callers.ids_out(ids)?;
+        sets_out(self.found.as_slice(), ids)?;
+        sets_out(self.ends.as_slice(), ids)?;
+        sets_out(self.spent.as_slice(), ids)
+    }
+}
+
+/// Appends the ids that groups hold by themselves.
+fn groups_out<S: Space>(groups: &[Group<S>], ids: &mut Vec<S::Id>) -> Result<(), AllocError>
+    ensures { OnOk result (ids.new.items ≡ ids.old.items ++ flat_map group_ids groups.now) }
+{
+    for group in groups {
+        group.ids_out(ids)?;
+    }
+    Ok(())
+}
+
+/// Appends the sets of values.
+pub fn sets_out<V, S: Space>(list: &[Shared<V, S>], ids: &mut Vec<S::Id>) -> Result<(), AllocError>
+    ensures { OnOk result (ids.new.items ≡ ids.old.items ++ shared_ids list.now) }
+{
+    for shared in list {
+        ids.push(shared.condition)?;
+    }
+    Ok(())
+}

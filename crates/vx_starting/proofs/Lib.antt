@@ -1,0 +1,4 @@
+pub mod Beginning
+pub mod Marking
+pub mod MainGroup
+pub mod Started

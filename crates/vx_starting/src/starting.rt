@@ -1,0 +1,309 @@
+//! The start of all runs.
+
+ghost use Rattle.std.specs.Prelude.{◌≡◌, ◌≢◌, ◌<◌, ◌≤◌, Err, IfOk, IfSome, None, Ok, OnOk, codes, length, option_map, true};
+ghost use Rattle.vx_space.specs.Sets.{Extends, IsKnown};
+ghost use Rattle.vx_families.specs.Bounds.{IsBounded};
+ghost use Rattle.vx_frame.specs.Frame.{IsFrameOf, scope_of, shape_of};
+ghost use Rattle.vx_heap.specs.Heap.{IsHeap, IsHeapFor, has_options};
+ghost use Rattle.vx_java.specs.Ids.{HasClassNumbers, as_class};
+ghost use Rattle.vx_java.specs.Initialisation.{chain_blocked, quiet_chain};
+ghost use Rattle.vx_java.specs.Machine.{place_at};
+ghost use Rattle.vx_java.specs.Operation.{class_word};
+ghost use Rattle.vx_java.specs.Step.{first_inits};
+ghost use Rattle.vx_link.specs.Parts.{class_at};
+ghost use Rattle.vx_standing.specs.Rounds.{IsStart, MeetsUnbuilt};
+ghost use Rattle.vx_starting.specs.Starting.{AreInitialised, EndAtStart, GoOn, IsDone, IsMainGroup, IsMarkedHeap, are_below, main_chain, main_class, main_frame, main_locals, numbers_of};
+ghost use Rattle.vx_standing.specs.State.{most_attempts};
+ghost use Rattle.vx_value.specs.declared.end.End.TheVariants.{Uncaught, Unsupported};
+ghost use Rattle.vx_value.specs.declared.key.Kind.TheVariants.{Call};
+
+use std::alloc::{AllocError, Global};
+use vx_cond::Cond;
+use vx_families::AttemptFault;
+use vx_findings::Shared;
+use vx_frame::Frame;
+use vx_group::{Callers, Group};
+use vx_heap::Heap;
+use vx_initial_heap::first_inits;
+use vx_java::parts::{class_of_method, name_of_class};
+use vx_java::{blocked, init_chain, place, quiet_chain};
+use vx_link::Program;
+use vx_space::{Space, SpaceFault};
+use vx_standing::State;
+use vx_value::{ClassId, End, InitState, Kind, Name, Slot};
+
+/// The most frames that a run may have.
+const FRAME_BOUND: usize = 1024;
+
+/// The number of the word for classes, in an end outside the accepted language.
+const CLASS_WORD: u8 = 6;
+
+/// The first interface that would be initialised before a class of a chain (JVMS 5.5).
+fn blocked_in(program: &Program, chain: &[ClassId]) -> Option<ClassId>
+    requires { HasClassNumbers program.now }
+    ensures { result ≡ option_map as_class (chain_blocked program.now (numbers_of chain.now)) }
+{
+    for class in chain {
+        if let Some(interface) = blocked(program, *class) {
+            return Some(interface);
+        }
+    }
+    None
+}
+
+/// The end of runs outside the accepted language by an interface, at the start of main.
+fn blocked_end(alloc: Global, program: &Program, interface: ClassId) -> Result<End, AllocError>
+    ensures { IfOk result (λ end. end ≡ Unsupported class_word (class_at program.now interface.0).name (place_at program.now program.now.main.0 0)) }
+{
+    let what = Name::of(alloc, name_of_class(program, interface))?;
+    let place = place(alloc, program, program.main, 0)?;
+    Ok(End::Unsupported {
+        word: CLASS_WORD,
+        what,
+        place,
+    })
+}
+
+/// The end of runs with too many frames (JVMS 2.5.2).
+fn overflow_end(alloc: Global) -> Result<End, AllocError>
+    ensures { IfOk result (λ end. end ≡ Uncaught (codes "java/lang/StackOverflowError")) }
+{
+    Ok(End::Uncaught(Name::of(alloc, b"java/lang/StackOverflowError")?))
+}
+
+/// The end of all runs where they end at their start: by an interface that would be initialised before the class of main, or by one
+/// frame too many (JVMS 2.5.2, 5.5).
+fn first_end(
+    alloc: Global,
+    program: &Program,
+    chain: &[ClassId],
+    is_quiet: bool,
+) -> Result<Option<End>, AllocError>
+    requires classes { HasClassNumbers program.now }
+    requires chain { numbers_of chain.now ≡ main_chain program.now }
+    requires quiet { is_quiet ≡ quiet_chain program.now (first_inits program.now) (main_class program.now) }
+    ensures over { IfOk result (λ end. IfSome end (EndAtStart program.now)) }
+    ensures live { result ≡ Ok None → GoOn program.now is_quiet }
+{
+    if let Some(interface) = blocked_in(program, chain) {
+        let end = blocked_end(alloc, program, interface)?;
+        return Ok(Some(end));
+    }
+    if !is_quiet && chain.len() >= FRAME_BOUND {
+        let end = overflow_end(alloc)?;
+        return Ok(Some(end));
+    }
+    Ok(None)
+}
+
+/// The state of runs that all end at their start.
+fn ended_start<S: Space>(
+    alloc: Global,
+    program: &Program,
+    space: &mut S,
+    allowed: S::Id,
+    limit: u64,
+    end: End,
+) -> Result<State<S>, SpaceFault>
+    requires bounded { IsBounded program.now }
+    requires options { has_options (S.sets space.old).options program.now.fields ≡ true }
+    requires known { IsKnown (S.sets space.old) allowed }
+    requires some { allowed ≢ (S.sets space.old).never }
+    requires least { 0 < limit }
+    requires most { limit ≤ most_attempts }
+    requires over { EndAtStart program.now end }
+    ensures extends { Extends (S.sets space.old) (S.sets space.new) }
+    ensures ok { IfOk result (IsStart program.now (S.sets space.new) allowed limit) }
+{
+    let heap = Heap::new(alloc, program, space, allowed)?;
+    let mut ends = Vec::new(alloc);
+    ends.push(Shared {
+        condition: allowed,
+        value: end,
+    })?;
+    let mut spent = Vec::new(alloc);
+    spent.push(Shared {
+        condition: allowed,
+        value: 0,
+    })?;
+    Ok(State {
+        heap,
+        callers: Callers::new(alloc),
+        groups: Vec::new(alloc),
+        limit,
+        rounds: 0,
+        found: Vec::new(alloc),
+        ends,
+        spent,
+    })
+}
+
+/// Initialises classes in all configurations that run, without running anything. After want of memory the heap is given up.
+fn initialise<S: Space>(
+    space: &mut S,
+    heap: &mut Heap<S>,
+    classes: &[ClassId],
+    done: &Cond<InitState, S>,
+) -> Result<(), SpaceFault>
+    requires heap { IsHeap (S.sets space.old) heap.old }
+    requires done { IsDone (S.sets space.old) heap.old.allowed done.now }
+    requires within { are_below (length heap.old.inits) (numbers_of classes.now) ≡ true }
+    ensures extends { Extends (S.sets space.old) (S.sets space.new) }
+    ensures ok { OnOk result (AreInitialised (S.sets space.old) (S.sets space.new) heap.old (numbers_of classes.now) heap.new) }
+{
+    for class in classes {
+        heap.set_init(space, *class, done)?;
+    }
+    Ok(())
+}
+
+/// The heap with which runs begin, with some classes initialised.
+fn marked_heap<S: Space>(
+    alloc: Global,
+    program: &Program,
+    space: &mut S,
+    allowed: S::Id,
+    classes: &[ClassId],
+) -> Result<Heap<S>, SpaceFault>
+    requires bounded { IsBounded program.now }
+    requires options { has_options (S.sets space.old).options program.now.fields ≡ true }
+    requires known { IsKnown (S.sets space.old) allowed }
+    requires within { are_below (length program.now.classes) (numbers_of classes.now) ≡ true }
+    ensures extends { Extends (S.sets space.old) (S.sets space.new) }
+    ensures ok { IfOk result (IsMarkedHeap program.now (S.sets space.new) allowed (numbers_of classes.now)) }
+{
+    let mut heap = Heap::new(alloc, program, space, allowed)?;
+    let done = Cond::one(alloc, space, InitState::Done, allowed)?;
+    initialise(space, &mut heap, classes, &done)?;
+    Ok(heap)
+}
+
+/// How many locals main has.
+fn main_locals(program: &Program) -> u16
+    ensures { result ≡ main_locals program.now }
+{
+    match program.method(program.main) {
+        Some(method) => match &method.code {
+            Some(code) => code.max_locals,
+            None => 0,
+        },
+        None => 0,
+    }
+}
+
+/// The frame of main, with the array in its first local (JVMS 5.2).
+fn main_frame<S: Space>(
+    alloc: Global,
+    program: &Program,
+    space: &S,
+    words: u64,
+    allowed: S::Id,
+) -> Result<Frame<S>, AllocError>
+    requires known { IsKnown (S.sets space.now) allowed }
+    requires some { 0 < main_locals program.now }
+    ensures scope { IfOk result (λ frame. scope_of frame ≡ allowed) }
+    ensures shape { IfOk result (λ frame. shape_of frame ≡ record { part = record { method = program.now.main; position = 0; depth = 0; kind = Call }; locals = main_locals program.now }) }
+    ensures at { IfOk result (IsFrameOf (S.sets space.now) (λ _. main_frame program.now words)) }
+{
+    let mut frame = Frame::new(
+        alloc,
+        space,
+        Kind::Call,
+        program.main,
+        main_locals(program),
+        allowed,
+    )?;
+    let array = Cond::one(alloc, space, Slot::Ref(words), allowed)?;
+    frame.locals.set(0, array);
+    Ok(frame)
+}
+
+/// The group of all runs at the start of main (JVMS 5.2).
+fn main_group<S: Space>(
+    alloc: Global,
+    program: &Program,
+    space: &S,
+    heap: &Heap<S>,
+    allowed: S::Id,
+) -> Result<Group<S>, AllocError>
+    requires known { IsKnown (S.sets space.now) allowed }
+    requires some { 0 < main_locals program.now }
+    requires for_program { IsHeapFor program.now heap.now }
+    requires runs { heap.now.allowed ≡ allowed }
+    ensures { IfOk result (IsMainGroup program.now (S.sets space.now) allowed heap.now) }
+{
+    let frame = main_frame(alloc, program, space, heap.first_words(), allowed)?;
+    let attempts = Cond::one(alloc, space, 0, allowed)?;
+    let group = Group::new(alloc, attempts, frame);
+    Ok(group)
+}
+
+/// The state of runs that all begin with main, where the classes of the chain are initialised without running anything.
+fn quiet_start<S: Space>(
+    alloc: Global,
+    program: &Program,
+    space: &mut S,
+    allowed: S::Id,
+    limit: u64,
+    chain: &[ClassId],
+) -> Result<State<S>, SpaceFault>
+    requires bounded { IsBounded program.now }
+    requires options { has_options (S.sets space.old).options program.now.fields ≡ true }
+    requires known { IsKnown (S.sets space.old) allowed }
+    requires some { allowed ≢ (S.sets space.old).never }
+    requires least { 0 < limit }
+    requires most { limit ≤ most_attempts }
+    requires chain { numbers_of chain.now ≡ main_chain program.now }
+    requires live { GoOn program.now true }
+    ensures extends { Extends (S.sets space.old) (S.sets space.new) }
+    ensures ok { IfOk result (IsStart program.now (S.sets space.new) allowed limit) }
+{
+    let heap = marked_heap(alloc, program, space, allowed, chain)?;
+    let group = main_group(alloc, program, space, &heap, allowed)?;
+    let mut groups = Vec::new(alloc);
+    groups.push(group)?;
+    Ok(State {
+        heap,
+        callers: Callers::new(alloc),
+        groups,
+        limit,
+        rounds: 0,
+        found: Vec::new(alloc),
+        ends: Vec::new(alloc),
+        spent: Vec::new(alloc),
+    })
+}
+
+/// The state with which the runs of some configurations begin, each with at most `limit` attempts (JVMS 5.2). `NotYet`
+/// comes only where such a run begins at what isn't built. After a refusal ids that were known keep their sets.
+pub fn start<S: Space>(
+    alloc: Global,
+    program: &Program,
+    space: &mut S,
+    allowed: S::Id,
+    limit: u64,
+) -> Result<State<S>, AttemptFault>
+    requires bounded { IsBounded program.now }
+    requires options { has_options (S.sets space.old).options program.now.fields ≡ true }
+    requires known { IsKnown (S.sets space.old) allowed }
+    requires some { allowed ≢ (S.sets space.old).never }
+    requires least { 0 < limit }
+    requires most { limit ≤ most_attempts }
+    ensures extends { Extends (S.sets space.old) (S.sets space.new) }
+    ensures ok { IfOk result (IsStart program.now (S.sets space.new) allowed limit) }
+    ensures not_yet { result ≡ Err AttemptFault.NotYet → MeetsUnbuilt program.now ((S.sets space.old).test allowed) limit }
+{
+    let states = first_inits(alloc, program)?;
+    let class = class_of_method(program, program.main);
+    let chain = init_chain(alloc, program, class, states.as_slice())?;
+    let is_quiet = quiet_chain(program, class, states.as_slice());
+    if let Some(end) = first_end(alloc, program, chain.as_slice(), is_quiet)? {
+        let state = ended_start(alloc, program, space, allowed, limit, end)?;
+        return Ok(state);
+    }
+    if is_quiet {
+        let state = quiet_start(alloc, program, space, allowed, limit, chain.as_slice())?;
+        return Ok(state);
+    }
+    Err(AttemptFault::NotYet)
+}

@@ -1,0 +1,94 @@
+//! The steps of a round around its attempt: the compaction, the group that is taken out, its attempt that is counted, and what
+//! changed that is put back.
+
+ghost use Rattle.std.specs.Prelude.{◌≡◌, ◌<◌, ◌+◌, ◌^◌, IfOk, List, OnOk, length, map, suc, true, Bool};
+ghost use Rattle.vx_space.specs.Sets.{AreKnown, Extends, IsCompacted};
+ghost use Rattle.vx_space.specs.Under.{IsNumberUnder};
+ghost use Rattle.vx_group.specs.Group.{IsGroup, attempts_at, path_of};
+ghost use Rattle.vx_group.specs.Sweep.{StandIn};
+ghost use Rattle.vx_standing.specs.State.{state_ids};
+ghost use Rattle.vx_turns.specs.Turns.{IsBegun, IsClosed, IsSpent};
+
+use std::alloc::{AllocError, Global};
+use std::mem;
+use vx_cond::Cond;
+use vx_group::{Callers, Group};
+use vx_placing::Round;
+use vx_space::{Space, SpaceFault};
+use vx_standing::State;
+
+/// Compacts the space on the ids of a state.
+pub fn compact<S: Space>(alloc: Global, space: &mut S, state: &State<S>) -> Result<(), AllocError>
+    requires { AreKnown (S.sets space.old) (state_ids state.now) }
+    ensures compacted { OnOk result (IsCompacted (S.sets space.old) (S.sets space.new) (state_ids state.now)) }
+    ensures based { OnOk result ((S.sets space.new).counts ≡ true → IsNumberUnder (map (S.sets space.old).test (state_ids state.now)) (S.sets space.new).base) }
+{
+    let mut ids = Vec::new(alloc);
+    state.ids_out(&mut ids)?;
+    space.compact(&ids)?;
+    Ok(())
+}
+
+/// Takes the group of a place out, by a move, and all else that changes in a round.
+pub fn begin_round<S: Space>(
+    alloc: Global,
+    state: &mut State<S>,
+    which: usize,
+) -> (Round<S>, Group<S>)
+    requires { which < length state.old.groups }
+    ensures { IsBegun state.old state.new which result.0 result.1 }
+{
+    let group = state.groups.remove(which);
+    let round = Round {
+        callers: mem::replace(&mut state.callers, Callers::new(alloc)),
+        groups: mem::replace(&mut state.groups, Vec::new(alloc)),
+        ends: mem::replace(&mut state.ends, Vec::new(alloc)),
+        spent: mem::replace(&mut state.spent, Vec::new(alloc)),
+        texts: Vec::new(alloc),
+    };
+    (round, group)
+}
+
+/// Counts the attempt for a group. Its numbers of attempts stand beside it too, since the group is given away.
+pub fn spend<S: Space>(
+    space: &mut S,
+    group: Group<S>,
+) -> Result<(Group<S>, Cond<u64, S>), SpaceFault>
+    requires group { IsGroup (S.sets space.old) group }
+    requires below { (c : List Bool) → (S.sets space.old).test (path_of group) c ≡ true → suc (attempts_at (S.sets space.old) group c) < 2 ^ 64 }
+    ensures extends { Extends (S.sets space.old) (S.sets space.new) }
+    ensures spent { IfOk result (λ r. IsSpent (S.sets space.old) (S.sets space.new) group r.0 r.1) }
+{
+    let mut spent = group;
+    spent.spend(space)?;
+    let path = spent.path();
+    let attempts = spent.attempts().restrict(space, path)?;
+    Ok((spent, attempts))
+}
+
+/// Puts what changed in a round back into its state, without the callers that no group has.
+pub fn end_round<S: Space>(
+    alloc: Global,
+    state: &mut State<S>,
+    round: Round<S>,
+) -> Result<(), AllocError>
+    requires callers { StandIn round.callers round.groups.items }
+    requires rounds { state.old.rounds + 1 < 2 ^ 128 }
+    ensures { OnOk result (IsClosed state.old state.new round) }
+{
+    let Round {
+        mut callers,
+        groups,
+        ends,
+        spent,
+        mut texts,
+    } = round;
+    callers.sweep(alloc, &groups)?;
+    state.found.append(&mut texts)?;
+    state.callers = callers;
+    state.groups = groups;
+    state.ends = ends;
+    state.spent = spent;
+    state.rounds += 1;
+    Ok(())
+}
