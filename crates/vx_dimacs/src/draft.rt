@@ -30,7 +30,7 @@ const CLAUSES: Refusal = Refusal::Reason(9);
 
 /// What the lines so far said: the header, the named variables and their names in order, the clauses, and the literals of
 /// a clause that is not ended.
-#[derive(Debug, Drop)]
+#[derive(Drop)]
 pub struct Draft {
     pub header: Option<Header>,
     pub variables: Vec<u32>,

@@ -16,21 +16,21 @@ use vx_value::Name;
 use vx_words::{is_name, next_word};
 
 /// How many variables and clauses there are.
-#[derive(Clone, Copy, Debug, PartialEq, Eq)]
+#[derive(Clone, Copy)]
 pub struct Header {
     pub variables: u32,
     pub clauses: u32,
 }
 
 /// The name of a variable, counted from 1, and its field.
-#[derive(Debug, Drop)]
+#[derive(Drop)]
 pub struct Naming {
     pub variable: u32,
     pub option: OptionField,
 }
 
 /// What a line says.
-#[derive(Debug, Drop)]
+#[derive(Drop)]
 pub enum Line {
     Nothing,
     Names(Naming),

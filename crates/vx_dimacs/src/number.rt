@@ -6,7 +6,7 @@ ghost use Rattle.vx_dimacs.specs.Dimacs.{up_to, unsigned, is_negative, is_number
 use vx_words::decimal_up_to;
 
 /// A number of a clause: 0, which ends it, or a variable that is on or off, counted from 0.
-#[derive(Clone, Copy, Debug, PartialEq, Eq)]
+#[derive(Clone, Copy)]
 pub enum Mark {
     End,
     On(u32),

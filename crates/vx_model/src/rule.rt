@@ -9,10 +9,10 @@ use crate::token::Token;
 use std::alloc::{AllocError, AllocFailed, Global};
 
 /// How deep a rule may nest: so many `!`, `(` and right sides of `->` may be open at a place.
-pub const DEEPEST: u32 = 256;
+const DEEPEST: u32 = 256;
 
 /// Why no rule is read.
-#[derive(Clone, Copy, Debug, PartialEq, Eq)]
+#[derive(Clone, Copy)]
 pub enum RuleFault {
     NoMemory,
     Malformed,
@@ -41,7 +41,7 @@ impl<T: Drop> From<AllocFailed<T>> for RuleFault {
 }
 
 /// What joins the parts of a rule. `And` binds tighter.
-#[derive(Clone, Copy, Debug, PartialEq, Eq)]
+#[derive(Clone, Copy)]
 pub enum Operator {
     And,
     Or,

@@ -15,7 +15,7 @@ use vx_value::Name;
 use vx_words::{are_plain, is_name, next_word};
 
 /// What a line says: nothing, an option, or a rule.
-#[derive(Debug, Drop)]
+#[derive(Drop)]
 pub enum Statement {
     Nothing,
     Declares(OptionField),

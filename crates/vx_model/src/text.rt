@@ -14,7 +14,7 @@ use vx_list::Items;
 use vx_words::next_line;
 
 // The options and rules that have been read.
-#[derive(Debug, Drop)]
+#[derive(Drop)]
 struct Draft {
     options: Vec<OptionField>,
     rules: Vec<Expr>,

@@ -11,7 +11,7 @@ use std::alloc::{AllocError, Global};
 use vx_words::{is_name, is_word_byte, skip_blanks};
 
 /// A token of a rule's text. `Name` has the number of an option, or the number of all options for a name that none has.
-#[derive(Clone, Copy, Debug, PartialEq, Eq)]
+#[derive(Clone, Copy)]
 pub enum Token {
     Not,
     Open,

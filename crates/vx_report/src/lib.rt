@@ -4,10 +4,10 @@
 
 pub mod line;
 pub mod meaning;
-pub mod projection;
-pub mod report;
+mod projection;
+mod report;
 mod spelling;
-pub mod writing;
+mod writing;
 
 pub use projection::project_text;
 pub use report::{AttemptLine, EndLine, Piece, Report};

@@ -5,7 +5,7 @@ use vx_bdd_tools::Node;
 use vx_value::Name;
 
 /// A line of a report.
-#[derive(Debug, Drop)]
+#[derive(Drop)]
 pub enum Line {
     /// `varexj report`, and the version.
     Head { version: u8 },

@@ -2,13 +2,12 @@
 //! nodes.
 #![tactic(auto)]
 
-pub mod lines;
-pub mod numbering;
-pub mod parsing;
+mod lines;
+mod numbering;
+mod parsing;
 pub mod table;
 pub mod words;
 
 pub use lines::first_line;
 pub use numbering::number_from;
 pub use parsing::line_in;
-pub use table::NodeTable;

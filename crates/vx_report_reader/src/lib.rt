@@ -2,13 +2,12 @@
 //! the fault.
 #![tactic(auto)]
 
-pub mod again;
-pub mod body;
+mod again;
+mod body;
 mod front;
-pub mod reading;
-pub mod stage;
+mod reading;
+mod stage;
 
 pub use again::read_written;
-pub use body::Body;
 pub use front::no_front_is_a_report;
 pub use reading::{ReportFault, read_report};
