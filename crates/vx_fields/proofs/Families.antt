@@ -25,7 +25,8 @@ use Rattle.vx_value.specs.declared.ids.FieldId.{FieldId}
 use Rattle.vx_families.specs.Attempts.{AttemptsBy, IsAttemptBy, IsGiven}
 use Rattle.vx_families.proofs.Given.{given_operands_held, given_past}
 use Rattle.vx_references.specs.Fields.{IsFieldReference, by_reference, is_found, is_sound}
-use Rattle.vx_fields.specs.Statics.{IsRunning, got}
+use Rattle.vx_ready.specs.Running.{IsRunning}
+use Rattle.vx_fields.specs.Statics.{got}
 use Rattle.vx_references.specs.declared.fields.FieldReference.{FieldReference}
 use Rattle.vx_references.specs.declared.fields.FieldReference.TheVariants.{Found, NoType, Floating, NoClass, NoField, Disagrees}
 use Rattle.vx_fields.proofs.Gets.{AttemptsBy-stays}

@@ -29,15 +29,16 @@ use Rattle.vx_group_states.specs.declared.site.Site.{Site}
 use Rattle.vx_group_states.proofs.Fitting.{slots_size-least, stack_size_of}
 use Rattle.vx_value.specs.declared.ids.ClassId.{ClassId}
 use Rattle.vx_families.specs.Attempts.{AttemptsBy}
-use Rattle.vx_fields.specs.Changing.{with_globals}
-use Rattle.vx_fields.specs.Initialising.{GivesWithin, IsReadied, has_failed, goes_on, readied, stopped, stopped_by}
-use Rattle.vx_fields.specs.Statics.{IsRunning, got}
-use Rattle.vx_fields.specs.declared.initialising.Readiness.{Readiness}
-use Rattle.vx_fields.proofs.Attempting.{AttemptsBy-changed}
-use Rattle.vx_fields.proofs.Changes.{IsChanged-before, IsChanged-none}
-use Rattle.vx_fields.proofs.Climbing.{inits_later}
-use Rattle.vx_fields.proofs.Moving.{going-gives}
-use Rattle.vx_fields.proofs.Rows.{ready_row}
+use Rattle.vx_ready.specs.Changing.{with_globals}
+use Rattle.vx_ready.specs.Initialising.{GivesWithin, IsReadied, has_failed, goes_on, readied, stopped, stopped_by}
+use Rattle.vx_ready.specs.Running.{IsRunning}
+use Rattle.vx_fields.specs.Statics.{got}
+use Rattle.vx_ready.specs.declared.initialising.Readiness.{Readiness}
+use Rattle.vx_ready.proofs.Attempting.{AttemptsBy-changed}
+use Rattle.vx_ready.proofs.Changes.{IsChanged-before, IsChanged-none}
+use Rattle.vx_ready.proofs.Climbing.{inits_later}
+use Rattle.vx_ready.proofs.Going.{going-gives}
+use Rattle.vx_ready.proofs.Rows.{ready_row}
 
 -- a value of a sort takes a word at least
 some_words : (s : Option Sort) → is_some s ≡ true → 1 ≤ width_of_optional s

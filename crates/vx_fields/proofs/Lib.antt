@@ -1,16 +1,7 @@
-pub mod Yes
-pub mod States
-pub mod Climbing
-pub mod Changes
-pub mod Readying
-pub mod Splitting
 pub mod Tops
-pub mod Attempting
-pub mod Rows
 pub mod Pools
 pub mod Moving
 pub mod Storing
 pub mod Gets
-pub mod Running
 pub mod Puts
 pub mod Families

@@ -24,16 +24,17 @@ use Rattle.vx_group_states.specs.declared.site.Site.{Site}
 use Rattle.vx_value.specs.declared.ids.ClassId.{ClassId}
 use Rattle.vx_value.specs.declared.slot.Slot.{Slot}
 use Rattle.vx_families.specs.Attempts.{AttemptsBy}
-use Rattle.vx_fields.specs.Changing.{IsChanged, with_globals}
-use Rattle.vx_fields.specs.Initialising.{GivesWithin, IsReadied, goes_on, has_failed, readied, stopped, stopped_by}
-use Rattle.vx_fields.specs.Statics.{IsRunning, keeps_option, stored, top_fits, top_of}
-use Rattle.vx_fields.specs.declared.initialising.Readiness.{Readiness}
-use Rattle.vx_fields.proofs.Attempting.{AttemptsBy-changed, value_same}
-use Rattle.vx_fields.proofs.Changes.{IsChanged-before, IsChanged-trans}
-use Rattle.vx_fields.proofs.Climbing.{inits_later}
+use Rattle.vx_ready.specs.Changing.{IsChanged, with_globals}
+use Rattle.vx_ready.specs.Initialising.{GivesWithin, IsReadied, goes_on, has_failed, readied, stopped, stopped_by}
+use Rattle.vx_ready.specs.Running.{IsRunning}
+use Rattle.vx_fields.specs.Statics.{keeps_option, stored, top_fits, top_of}
+use Rattle.vx_ready.specs.declared.initialising.Readiness.{Readiness}
+use Rattle.vx_ready.proofs.Attempting.{AttemptsBy-changed, value_same}
+use Rattle.vx_ready.proofs.Changes.{IsChanged-before, IsChanged-trans}
+use Rattle.vx_ready.proofs.Climbing.{inits_later}
 use Rattle.vx_fields.proofs.Gets.{AttemptsBy-stays, and_none, unready}
-use Rattle.vx_fields.proofs.Moving.{going-gives, operands_later}
-use Rattle.vx_fields.proofs.Rows.{globals_of, ready_row}
+use Rattle.vx_ready.proofs.Going.{going-gives, operands_later}
+use Rattle.vx_ready.proofs.Rows.{globals_of, ready_row}
 use Rattle.vx_fields.proofs.Storing.{fits_plain}
 
 -- ---- one configuration

@@ -13,6 +13,7 @@ use Rattle.vx_java.specs.declared.operation.Sort.{Sort}
 use Rattle.vx_java.specs.declared.operation.Sort.TheVariants as sort
 use Rattle.vx_class.specs.Members.{STATIC}
 use Rattle.vx_link.specs.Parts.{has, is_static_field, no_field}
+use Rattle.vx_group_states.specs.declared.site.Site.{Site}
 use Rattle.vx_link.specs.declared.program.LinkedField.{LinkedField}
 use Rattle.vx_link.specs.declared.program.Program.{Program}
 use Rattle.vx_list.specs.Places.{item_or}
@@ -20,9 +21,11 @@ use Rattle.vx_space.specs.Sets.{Extends, Sets}
 use Rattle.vx_value.specs.declared.operation.Narrow.{Narrow}
 use Rattle.vx_value.specs.declared.slot.Slot.{Slot}
 use Rattle.vx_value.specs.declared.slot.Slot.TheVariants.{Top, Int, Long, Null, Ref, Text}
-use Rattle.vx_fields.specs.Changing.{IsChanged}
+use Rattle.vx_ready.specs.Changing.{IsChanged}
+use Rattle.vx_ready.specs.Running.{IsRunning}
+use Rattle.vx_group.specs.Group.{GroupView}
 use Rattle.vx_fields.specs.Statics.{narrowed_slot, slot_fits, slot_is_of, stored, top_of}
-use Rattle.vx_fields.proofs.Changes.{IsChanged-none}
+use Rattle.vx_ready.proofs.Changes.{IsChanged-none}
 
 -- ---- slots
 
@@ -134,3 +137,9 @@ written_is_changed {S = S} {I = I} {s0 = s0} {s1 = s1} {s2 = s2} before after pa
         ∙ (λ i. stored false field (value_is i) (globals_at-extends e before v c i))
         ∙ ap (λ b. stored b field (narrowed_value type (value_of s0 before c (top_of (slots c)))) (globals_at s0 before c)) (sym k)
     here c false t = w.outside c (ap (λ i. s1.test i c) scope ∙ e.test path c known ∙ t) ∙ globals_at-extends e before v c
+
+-- a static field has a value there
+pub field_there : {S I : Type 0} (site : Site) (s0 sx s1 : Sets I) (before after : HeapView S I) (change : List Bool → Globals → Globals) (group : GroupView S I) (field : ℕ) → IsRunning site s0 before group → IsChanged sx s1 before after change → is_static_field site.program.now field ≡ true → field < length after.statics
+field_there site s0 sx s1 before after change group field r changed h =
+    let there = static_value_there site.program.now before field r.is_for h in
+    omega (arith, changed.statics, there)

@@ -23,9 +23,9 @@ use Rattle.vx_group_states.proofs.SettleLaws.{lifting_at, stack_scope}
 use Rattle.vx_value.specs.Slot.{slot_cmp}
 use Rattle.vx_value.specs.declared.operation.Narrow.{Narrow}
 use Rattle.vx_value.specs.declared.slot.Slot.{Slot}
-use Rattle.vx_fields.specs.Initialising.{is_yes}
+use Rattle.vx_ready.specs.Initialising.{is_yes}
 use Rattle.vx_fields.specs.Statics.{narrowed_slot, slot_fits, top_fits, top_of}
-use Rattle.vx_fields.proofs.Yes.{IsSet-asked}
+use Rattle.vx_ready.proofs.Yes.{IsSet-asked}
 
 -- ---- values inside a path
 

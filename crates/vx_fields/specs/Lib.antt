@@ -1,3 +1,1 @@
-pub mod Changing
-pub mod Initialising
 pub mod Statics

@@ -1,12 +1,9 @@
 -- Static fields, for all configurations of a group at once (JVMS 6.5 getstatic, putstatic).
-use Rattle.std.specs.Prelude.{◌≡◌, ℕ, Bool, true, false, List, [], ◌∷◌, ◌&&◌, ◌==◌, Option, Some, None, is_some, slice_set}
-use Rattle.vx_cond.specs.Cond.{IsInside}
+use Rattle.std.specs.Prelude.{ℕ, Bool, true, false, List, [], ◌∷◌, ◌&&◌, ◌==◌, Option, Some, None, is_some, slice_set}
 use Rattle.vx_desc.specs.Names.{is_clinit}
-use Rattle.vx_group.specs.Group.{GroupView, IsGroup, path_of}
-use Rattle.vx_heap.specs.Heap.{Globals, HeapView, IsHeap, IsHeapFor, are_held}
+use Rattle.vx_heap.specs.Heap.{Globals}
 use Rattle.vx_java.specs.Checks.{width_of_type}
 use Rattle.vx_java.specs.Fields.{Found, declaring, static_value}
-use Rattle.vx_java.specs.Ids.{HasClassNumbers}
 use Rattle.vx_java.specs.Initialisation.{when_initialised}
 use Rattle.vx_java.specs.Machine.{Here, Outcome, Value, go, has_room, illegal, when}
 use Rattle.vx_java.specs.declared.operation.Operation.{Operation}
@@ -15,10 +12,6 @@ use Rattle.vx_java.specs.declared.operation.Sort.{Sort}
 use Rattle.vx_java.specs.declared.operation.Sort.TheVariants as sort
 use Rattle.vx_link.specs.Parts.{field_at, method_at}
 use Rattle.vx_link.specs.declared.program.Program.{Program}
-use Rattle.vx_space.specs.Sets.{Sets}
-use Rattle.vx_group_states.specs.Answering.{operands_at}
-use Rattle.vx_group_states.specs.Sites.{HasPast}
-use Rattle.vx_group_states.specs.declared.site.Site.{Site}
 use Rattle.vx_value.specs.Arithmetic.{narrow_of}
 use Rattle.vx_value.specs.declared.operation.Narrow.{Narrow}
 use Rattle.vx_value.specs.declared.slot.Slot.{Slot}
@@ -75,15 +68,3 @@ keeps_option p method field =
 abbrev pub stored : (keeps : Bool) → (field : ℕ) → Value → Globals → Globals
 stored true field v g = g
 stored false field v g = record g { statics = slice_set g.statics field v }
-
--- ---- a group
-
--- a group runs at an instruction
-pub record IsRunning {S I : Type 0} (site : Site) (sets : Sets I) (heap : HeapView S I) (group : GroupView S I) : Type 0 where
-  pub classes : HasClassNumbers site.program.now
-  pub is_heap : IsHeap sets heap
-  pub is_for : IsHeapFor site.program.now heap
-  pub is_group : IsGroup sets group
-  pub runs : IsInside sets (path_of group) heap.allowed
-  pub past : HasPast site group
-  pub held : (c : List Bool) → sets.test (path_of group) c ≡ true → are_held sets heap c (operands_at sets group.top.stack c) ≡ true

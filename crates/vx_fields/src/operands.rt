@@ -12,7 +12,6 @@ ghost use Rattle.vx_group_states.specs.Widths.{slots_size};
 ghost use Rattle.vx_value.specs.Slot.{slot_cmp};
 ghost use Rattle.vx_fields.specs.Statics.{narrowed_slot, slot_fits, slot_is_of, top_fits, top_of};
 
-use crate::initialising::where_yes;
 use std::alloc::Global;
 use vx_cond::Cond;
 use vx_desc::{Base, JavaType};
@@ -20,6 +19,7 @@ use vx_group::Group;
 use vx_group_states::stack_size;
 use vx_java::Sort;
 use vx_numbers::narrow;
+use vx_ready::where_yes;
 use vx_references::sort_of;
 use vx_space::{Space, SpaceFault};
 use vx_value::{Narrow, Slot};

@@ -5,8 +5,9 @@ use Rattle.vx_space.proofs.Spaces.{Extends-trans}
 use Rattle.vx_group_states.proofs.EndingLaws.{HasPast-part}
 use Rattle.vx_group_states.proofs.Gathering.{IsPartOf-group}
 use Rattle.vx_fields.proofs.Gets.{get-attempts}
-use Rattle.vx_fields.proofs.Moving.{part_operands}
-use Rattle.vx_fields.proofs.Running.{field_there, needs_inside, part_runs}
+use Rattle.vx_ready.proofs.Going.{part_operands}
+use Rattle.vx_fields.proofs.Storing.{field_there}
+use Rattle.vx_ready.proofs.Running.{needs_inside, part_runs}
 use Rattle.vx_fields.proofs.statics.get_found.Goals as goal
 
 pub where_room-requires-clause-group : goal.where_room-requires-clause-group

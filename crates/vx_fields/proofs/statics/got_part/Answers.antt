@@ -5,7 +5,7 @@ use Rattle.vx_java.specs.Machine.{State, Top, go}
 use Rattle.vx_list.specs.Places.{item_or}
 use Rattle.vx_group_states.specs.Sites.{here}
 use Rattle.vx_fields.proofs.Moving.{got-gives}
-use Rattle.vx_fields.proofs.Splitting.{none-gives}
+use Rattle.vx_ready.proofs.Splitting.{none-gives}
 use Rattle.vx_fields.proofs.statics.got_part.Goals as goal
 
 pub is_never-requires : goal.is_never-requires

@@ -4,9 +4,10 @@ use Rattle.vx_heap.proofs.HeapLaws.{IsHeap-extends}
 use Rattle.vx_space.proofs.Spaces.{Extends-trans}
 use Rattle.vx_group_states.proofs.EndingLaws.{HasPast-part}
 use Rattle.vx_group_states.proofs.Gathering.{IsPartOf-group}
-use Rattle.vx_fields.proofs.Moving.{part_operands}
+use Rattle.vx_ready.proofs.Going.{part_operands}
 use Rattle.vx_fields.proofs.Puts.{put-attempts}
-use Rattle.vx_fields.proofs.Running.{field_there, needs_inside, proceeds_there, running_held, running_runs}
+use Rattle.vx_fields.proofs.Storing.{field_there}
+use Rattle.vx_ready.proofs.Running.{needs_inside, proceeds_there, running_held, running_runs}
 use Rattle.vx_fields.proofs.statics.put_found.Goals as goal
 
 pub where_fitting-requires-clause-group : goal.where_fitting-requires-clause-group

@@ -3,7 +3,7 @@ use Rattle.std.proofs.lemmas.List.{length-append}
 use Rattle.vx_group.proofs.GroupLaws.{IsGroup-one_scope, IsGroup-path_known}
 use Rattle.vx_java.specs.Machine.{Go, State, at_position}
 use Rattle.vx_fields.proofs.Moving.{put-gives}
-use Rattle.vx_fields.proofs.Splitting.{none-gives}
+use Rattle.vx_ready.proofs.Splitting.{none-gives}
 use Rattle.vx_fields.proofs.statics.put_part.Goals as goal
 
 pub is_never-requires : goal.is_never-requires

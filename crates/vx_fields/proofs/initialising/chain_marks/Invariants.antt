@@ -1,8 +1,0 @@
-use Rattle.vx_fields.proofs.Climbing.{IsCollecting}
-use Rattle.vx_fields.proofs.initialising.chain_marks.Given as goal
-
-abbrev pub invariant-loop-left : goal.invariant-loop-left
-invariant-loop-left g l = IsCollecting l.program (g.S.Space.sets l.fn.space) (g.S.Space.sets l.space) l.heap l.fn.class.0 l.fn.path l.left l.next l.climbing l.marks.items
-
-abbrev pub decreases-loop-left : goal.decreases-loop-left
-decreases-loop-left g l = l.left

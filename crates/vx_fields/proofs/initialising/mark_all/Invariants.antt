@@ -1,5 +1,0 @@
-use Rattle.vx_fields.proofs.Readying.{IsMarking}
-use Rattle.vx_fields.proofs.initialising.mark_all.Given as goal
-
-abbrev pub invariant-loop-mark : goal.invariant-loop-mark
-invariant-loop-mark g l = IsMarking (g.S.Space.sets l.fn.space) (g.S.Space.sets l.space) l.fn.heap l.heap l.marks l.mark-index

@@ -1,5 +1,0 @@
-use Rattle.vx_fields.proofs.Yes.{IsNoSoFar}
-use Rattle.vx_fields.proofs.initialising.where_yes.Given as goal
-
-abbrev pub invariant-loop-leaf : goal.invariant-loop-leaf
-invariant-loop-leaf g l = IsNoSoFar (g.S.Space.sets l.space) l.leaves l.leaf-index

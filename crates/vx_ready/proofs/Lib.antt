@@ -1,0 +1,10 @@
+pub mod Yes
+pub mod States
+pub mod Climbing
+pub mod Changes
+pub mod Readying
+pub mod Splitting
+pub mod Attempting
+pub mod Rows
+pub mod Going
+pub mod Running
