@@ -155,7 +155,7 @@ module _ {S I : Type 0} (p : Program) {s1 s2 s3 : Sets I} (allowed : I) (st begu
   closed_counted l tree =
       let falls = left_falls p allowed st begun_st which was group spent_group attempts heap round t l tree (λ c. waiting_at-tree s3 heap round.callers tree round.groups.items c singles) in
       let counted = t.state.counted in
-      rw (attempts_in-same s1 s3 allowed st.limit whole.options same_allowed) (omega (arith, falls, counted))
+      rw (attempts_in-same s1 s3 allowed st.limit whole.options same_allowed, whole.options) (omega (arith, falls, counted))
 
   pub IsState-closed : IsLawful s1 → (tree : List (Option (Caller S I))) → IsSwept round.callers tree round.groups.items → IsState p s3 allowed (closed_state st heap tree round)
   IsState-closed l tree w = record {
