@@ -1,5 +1,5 @@
 -- The line that some bytes spell, if they spell one.
-use Rattle.std.specs.Prelude.{ℕ, ℤ, pos, negsuc, zero, suc, ◌+◌, ◌-◌, ◌*◌, ◌^◌, List, [], ◌∷◌, length, codes, decimal, Bool, nat_le, nat_lt, nat_eq, ◌&&◌, ◌==◌, not, Option, Some, None, option_map, if◌then◌else◌}
+use Rattle.std.specs.Prelude.{ℕ, ℤ, pos, negsuc, zero, suc, ◌+◌, ◌-◌, ◌*◌, ◌^◌, List, [], ◌∷◌, length, codes, decimal, Bool, nat_le, nat_lt, nat_eq, ◌==◌, not, Option, Some, None, option_map, if◌then◌else◌}
 use Rattle.std.specs.Str.{bytes_eq}
 use Rattle.std.specs.Str.Parse.{digits_value}
 use Rattle.vx_value.specs.declared.end.End.{End}

@@ -1,5 +1,5 @@
 -- Hexadecimal digits.
-use Rattle.std.specs.Prelude.{ℕ, ◌-◌, Bool, nat_le, ◌&&◌, Option, Some, None, if◌then◌else◌}
+use Rattle.std.specs.Prelude.{ℕ, ◌-◌, nat_le, ◌&&◌, Option, Some, None, if◌then◌else◌}
 use Rattle.vx_words.specs.Decimal.{is_digit}
 
 -- the number of a hexadecimal digit in lower case
