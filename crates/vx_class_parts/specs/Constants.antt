@@ -1,11 +1,13 @@
 -- The pool of an assembled class: its constants in the order in which they are first needed, each once. An entry stands before those that it refers to.
-use Rattle.std.specs.Prelude.{ℕ, ◌+◌, ◌%◌, List, [], ◌∷◌, ◌++◌, length, sum_by, Bool, true, false, nat_lt, ◌&&◌, Option, Some, None, if◌then◌else◌}
+use Rattle.std.specs.Prelude.{◌≡◌, ℕ, ◌<◌, FitsSigned, ◌+◌, ◌%◌, List, [], ◌∷◌, ◌++◌, length, sum_by, Bool, true, false, nat_lt, ◌&&◌, Option, Some, None, if◌then◌else◌}
 use Rattle.std.specs.List.{list_any, flat_map}
+use Rattle.std.specs.Int.{w32, w64}
 use Rattle.std.specs.Str.{bytes_eq}
 use Rattle.std.specs.Ordering.{int_eq}
 use Rattle.vx_pool.specs.declared.pool.Entry.{Entry}
 use Rattle.vx_pool.specs.declared.pool.Entry.TheVariants as entry
 use Rattle.vx_pool.specs.declared.pool.Pool.{Pool}
+use Rattle.vx_pool.specs.Text.{is_text}
 use Rattle.vx_class_parts.specs.declared.constants.Constant.{Constant}
 use Rattle.vx_class_parts.specs.declared.constants.Constant.TheVariants as constant
 use Rattle.vx_class_parts.specs.declared.constants.Kind.{Kind}
@@ -109,6 +111,13 @@ entry_of pool (constant.Member k class name descriptor) = member_entry k (in_fil
 -- the places of a constant
 abbrev pub entries_of : List Constant → Constant → List Entry
 entries_of pool c = if nat_lt 1 (width c) then entry_of pool c ∷ entry.Unusable ∷ [] else entry_of pool c ∷ []
+
+-- a constant that an entry can say: its text is modified UTF-8 of at most 65,535 bytes, its number has 32 or 64 bits
+abbrev pub HasRoom : Constant → Type 0
+HasRoom (constant.Text text) = (is_text text ≡ true) × (length text < 65536)
+HasRoom (constant.Integer n) = FitsSigned w32 n
+HasRoom (constant.Long n) = FitsSigned w64 n
+HasRoom _ = Unit {0}
 
 abbrev pub pool_of : List Constant → Pool
 pool_of pool = record { entries = entry.Unusable ∷ flat_map (entries_of pool) pool }

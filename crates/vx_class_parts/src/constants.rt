@@ -1,9 +1,10 @@
 //! The constants of a class that is assembled, in the order in which they are first needed.
 
 ghost use Rattle.std.specs.Prelude.{◌≡◌, ◌+◌, ◌%◌, ◌≤◌, ◌<◌, ◌++◌, ◌∷◌, option_copied, OnOk, IfOk};
-ghost use Rattle.std.specs.List.{list_any, flat_map};
+ghost use Rattle.std.specs.List.{list_any, flat_map, AllByRecursion};
 ghost use Rattle.std.specs.Str.{bytes_eq};
-ghost use Rattle.vx_class_parts.specs.Constants.{is_same_kind, is_same, with, with_text, with_class, with_literal, with_name_and_type, with_member, with_constant, width, index_of, places, in_file, in_file_or_zero, text_entry, member_entry, entry_of, entries_of, pool_of};
+ghost use Rattle.vx_pool.specs.Spelling.{IsPool};
+ghost use Rattle.vx_class_parts.specs.Constants.{HasRoom, is_same_kind, is_same, with, with_text, with_class, with_literal, with_name_and_type, with_member, with_constant, width, index_of, places, in_file, in_file_or_zero, text_entry, member_entry, entry_of, entries_of, pool_of};
 
 use std::alloc::{AllocError, Global};
 use vx_list::Items;
@@ -306,8 +307,11 @@ fn all_entries(alloc: Global, pool: &[Constant]) -> Result<Vec<Entry>, AllocErro
 }
 
 /// The pool of a class file.
+#[tactic(auto, using(crate::proofs::Placed::is_pool))]
 pub fn pool_of(alloc: Global, pool: &[Constant]) -> Result<Pool, AllocError>
-    ensures { IfOk result (λ p. p ≡ pool_of pool.now) }
+    ensures value { IfOk result (λ p. p ≡ pool_of pool.now) }
+    // Where entries can say the constants, and there are at most 65,535 places, it is a pool that a reading can give.
+    ensures read { AllByRecursion HasRoom pool.now → places pool.now < 65536 → IfOk result (λ p. IsPool p) }
 {
     Ok(Pool {
         entries: Items::of(all_entries(alloc, pool)?),

@@ -1,12 +1,12 @@
 //! Numbers in a source: decimal ones with a sign, and flags of four hexadecimal digits.
 
-ghost use Rattle.std.specs.Prelude.{◌≡◌, ◌+◌, ◌-◌, ◌*◌, ◌≤◌, ◌<◌, min, drop, slice_index, IsTrue, ◌==◌};
-ghost use Rattle.vx_words.specs.Decimal.{is_decimal, is_digit};
+ghost use Rattle.std.specs.Prelude.{◌≡◌, ◌<◌, drop, slice_index, IsTrue, ◌==◌};
 ghost use Rattle.std.specs.List.{list_all};
 ghost use Rattle.vx_source_words.specs.Reading.{Gives};
-ghost use Rattle.vx_source_words.specs.Numbers.{magnitude, number_of, spelled, is_within, value, is_hex, hex_value, are_four_hex, four_hex};
+ghost use Rattle.vx_source_words.specs.Numbers.{number_of, spelled, is_within, value, is_hex, hex_value, are_four_hex, four_hex};
 
 use crate::fault::{LineFault, refused};
+use vx_words::decimal_up_to;
 
 /// From here on numbers are not told apart.
 const LARGEST: u64 = 0x8000_0000_0000_0001;
@@ -16,43 +16,6 @@ const LARGEST: u64 = 0x8000_0000_0000_0001;
 pub struct Number {
     pub negative: bool,
     pub magnitude: u64,
-}
-
-fn are_digits(word: &[u8]) -> bool
-    ensures { result ≡ list_all is_digit word.now }
-{
-    word.iter().all(|b| b.is_ascii_digit())
-}
-
-fn is_decimal(word: &[u8]) -> bool
-    ensures { result ≡ is_decimal word.now }
-{
-    match word {
-        [] => false,
-        [first, rest @ ..] => are_digits(word) && (*first != b'0' || rest.is_empty()),
-    }
-}
-
-/// One more digit behind a number.
-fn with_digit(number: u64, digit: u8) -> u64
-    ensures value { result ≡ min LARGEST (10 * number + (digit - 48)) }
-    ensures small { result ≤ LARGEST }
-{
-    let digit = u64::from(digit.saturating_sub(b'0'));
-    number.saturating_mul(10).saturating_add(digit).min(LARGEST)
-}
-
-fn magnitude(digits: &[u8]) -> Option<u64>
-    ensures { result ≡ magnitude digits.now }
-{
-    if !is_decimal(digits) {
-        return None;
-    }
-    let mut number = 0;
-    for digit in digits {
-        number = with_digit(number, *digit);
-    }
-    Some(number)
 }
 
 /// What stands behind the first byte.
@@ -82,7 +45,7 @@ pub fn number_of(word: &[u8]) -> Option<Number>
 {
     let negative = is_negative(word);
     let digits = if negative { behind_first(word) } else { word };
-    let magnitude = magnitude(digits)?;
+    let magnitude = decimal_up_to(digits, LARGEST)?;
     Some(Number {
         negative,
         magnitude,
