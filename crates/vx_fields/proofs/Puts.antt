@@ -1,9 +1,9 @@
 -- putstatic of a static field that is there: from the sets of its configurations to the attempt.
-use Rattle.std.proofs.Common.{◌≡◌, ℕ, ◌+◌, ◌≤◌, Bool, true, false, List, [], ◌∷◌, ◌++◌, ◌&&◌, refl, sym, ◌∙◌, ap, arith, drop, length, map}
+use Rattle.std.proofs.Common.{◌≡◌, ℕ, ◌+◌, ◌≤◌, Bool, true, false, List, [], ◌∷◌, ◌&&◌, refl, sym, ◌∙◌, ap, arith, drop, length, map}
 use Rattle.std.proofs.lemmas.List.{length-map, length-reverse}
-use Rattle.std.specs.Prelude.{Option, if◌then◌else◌, not}
+use Rattle.std.specs.Prelude.{Option, if◌then◌else◌}
 use Rattle.vx_desc.specs.declared.java_type.JavaType.{JavaType}
-use Rattle.vx_group.specs.Group.{GroupView, IsPartOf, path_of}
+use Rattle.vx_group.specs.Group.{GroupView, path_of}
 use Rattle.vx_group.specs.declared.callers.Caller.{Caller}
 use Rattle.vx_heap.specs.Heap.{Globals, HeapView, globals_at, value_of}
 use Rattle.vx_heap.proofs.HeapLaws.{value_of-extends}
@@ -18,14 +18,14 @@ use Rattle.vx_outcome.specs.declared.outcome.Outcome.{Outcome}
 use Rattle.vx_space.specs.Sets.{Extends, IsSet, Sets}
 use Rattle.vx_space.proofs.Spaces.{Extends-refl, Extends-trans}
 use Rattle.vx_group_states.specs.Answering.{operands_at}
-use Rattle.vx_group_states.specs.Sites.{Gives, here}
+use Rattle.vx_group_states.specs.Sites.{Gives, GivesAt, here}
 use Rattle.vx_group_states.specs.Stands.{state_at}
 use Rattle.vx_group_states.specs.declared.site.Site.{Site}
 use Rattle.vx_value.specs.declared.ids.ClassId.{ClassId}
 use Rattle.vx_value.specs.declared.slot.Slot.{Slot}
 use Rattle.vx_families.specs.Attempts.{AttemptsBy}
 use Rattle.vx_ready.specs.Changing.{IsChanged, with_globals}
-use Rattle.vx_ready.specs.Initialising.{GivesWithin, IsReadied, goes_on, has_failed, readied, stopped, stopped_by}
+use Rattle.vx_ready.specs.Initialising.{IsReadied, goes_on, has_failed, proceeding, readied, stopped}
 use Rattle.vx_ready.specs.Running.{IsRunning}
 use Rattle.vx_fields.specs.Statics.{keeps_option, stored, top_fits, top_of}
 use Rattle.vx_ready.specs.declared.initialising.Readiness.{Readiness}
@@ -33,7 +33,7 @@ use Rattle.vx_ready.proofs.Attempting.{AttemptsBy-changed, value_same}
 use Rattle.vx_ready.proofs.Changes.{IsChanged-before, IsChanged-trans}
 use Rattle.vx_ready.proofs.Climbing.{inits_later}
 use Rattle.vx_fields.proofs.Gets.{AttemptsBy-stays, and_none, unready}
-use Rattle.vx_ready.proofs.Going.{going-gives, operands_later}
+use Rattle.vx_ready.proofs.Going.{operands_later}
 use Rattle.vx_ready.proofs.Rows.{globals_of, ready_row}
 use Rattle.vx_fields.proofs.Storing.{fits_plain}
 
@@ -94,7 +94,7 @@ empty-attempts {S = S} {I = I} site {s0 = s0} heap group named field type outcom
 
 -- ---- the attempt
 
-module _ {S I : Type 0} (site : Site) (s0 s1 s2 s3 s4 : Sets I) (before middle after : HeapView S I) (group going : GroupView S I) (field : ℕ) (type : JavaType) (class : ClassId) (needs : I) (readiness : Readiness S I) (others made : List (Outcome S I)) (r : IsRunning site s0 before group) (declares : class ≡ (field_at site.program.now field).class) (e01 : Extends s0 s1) (n : IsSet s1 needs (λ c. s0.test (path_of group) c && top_fits (sort_of type) (operands_at s0 group.top.stack c))) (e12 : Extends s1 s2) (ready : IsReadied site.program.now s1 s2 before middle class.0 needs readiness) (e23 : Extends s2 s3) (st : IsChanged s2 s3 middle after (λ c x. if s2.test readiness.proceeds c then stored (keeps_option site.program.now group.top.method.0 field) field (narrowed_value type (value_of s2 middle c (top_of (operands_at s2 group.top.stack c)))) x else x)) (e34 : Extends s3 s4) (q : IsPartOf s3 s4 (λ c. s3.test (path_of group) c && s3.test readiness.proceeds c) group going) (stopped_there : GivesWithin site.program.now (stopped_by site class.0 s3 needs readiness.fails) (λ c. s3.test (path_of group) c && not (s3.test readiness.proceeds c)) s3 s4 group others after) (gone : Gives site.program.now (λ s. Go (at_position s (s.top.position + site.size) (drop 1 s.top.operands))) s4 s4 going made) where
+module _ {S I : Type 0} (site : Site) (s0 s1 s2 s3 s4 : Sets I) (before middle after : HeapView S I) (group : GroupView S I) (field : ℕ) (type : JavaType) (class : ClassId) (needs : I) (readiness : Readiness S I) (outcomes : List (Outcome S I)) (r : IsRunning site s0 before group) (declares : class ≡ (field_at site.program.now field).class) (e01 : Extends s0 s1) (n : IsSet s1 needs (λ c. s0.test (path_of group) c && top_fits (sort_of type) (operands_at s0 group.top.stack c))) (e12 : Extends s1 s2) (ready : IsReadied site.program.now s1 s2 before middle class.0 needs readiness) (e23 : Extends s2 s3) (st : IsChanged s2 s3 middle after (λ c x. if s2.test readiness.proceeds c then stored (keeps_option site.program.now group.top.method.0 field) field (narrowed_value type (value_of s2 middle c (top_of (operands_at s2 group.top.stack c)))) x else x)) (e34 : Extends s3 s4) (gone : GivesAt site.program.now (proceeding site class.0 s3 needs readiness (λ s. Go (at_position s (s.top.position + site.size) (drop 1 s.top.operands)))) s3 s4 group outcomes after) where
   keeps : Bool
   keeps = keeps_option site.program.now group.top.method.0 field
 
@@ -135,17 +135,14 @@ module _ {S I : Type 0} (site : Site) (s0 s1 s2 s3 s4 : Sets I) (before middle a
       (λ i. put_after site state (declares i).0 (g i) (w i) (f i) (after_store p (declares i).0 field (keeps_option p group.top.method.0 field) (s2.test readiness.proceeds c) (s1.test needs c) (narrowed_value type (value_there c i)) (globals_at s0 before c)))
       ∙ by_operands tree named c t (operands_at s0 group.top.stack c) refl
 
-  pub put-attempts : (named : ℕ) → AttemptsBy site (λ s. put_value (here site s) (record { named = named; field = field; type = type }) s.top.operands) s0 s4 before after group (others ++ made)
+  pub put-attempts : (named : ℕ) → AttemptsBy site (λ s. put_value (here site s) (record { named = named; field = field; type = type }) s.top.operands) s0 s4 before after group outcomes
   put-attempts named =
       let p = site.program.now in
       let first = IsChanged-before e01 before middle (λ c. readied p class.0 (s1.test needs c)) (λ c. readied p class.0 (s1.test needs c)) r.is_heap (λ c. refl) ready.changed in
       let changed = IsChanged-trans before middle after (λ c. readied p class.0 (s1.test needs c)) _ first st in
-      let goes : HeapView S I → List Bool → State → PlainOutcome = λ _ _ s. Go (at_position s (s.top.position + site.size) (drop 1 s.top.operands)) in
-      let stops = stopped_by site class.0 s3 needs readiness.fails in
-      let there : HeapView S I → List Bool → State → PlainOutcome = λ h c s. if s3.test readiness.proceeds c then goes h c s else stops h c s in
+      let there : HeapView S I → List Bool → State → PlainOutcome = proceeding site class.0 s3 needs readiness (λ s. Go (at_position s (s.top.position + site.size) (drop 1 s.top.operands))) in
       let e03 = Extends-trans e01 (Extends-trans e12 e23) in
-      AttemptsBy-changed before after change changed site (λ s. put_value (here site s) (record { named = named; field = field; type = type }) s.top.operands) group there (others ++ made) r.is_heap r.is_for r.is_group e03 (λ c t x. outside c t x) e34 (λ tree s c t. needed tree named c t)
-      (going-gives p (s3.test readiness.proceeds) group going stops goes others made after e34 q stopped_there (Extends-refl s4) (gone after))
+      AttemptsBy-changed before after change changed site (λ s. put_value (here site s) (record { named = named; field = field; type = type }) s.top.operands) group there outcomes r.is_heap r.is_for r.is_group e03 (λ c t x. outside c t x) e34 (λ tree s c t. needed tree named c t) gone
     where
       outside : (c : List Bool) → s0.test (path_of group) c ≡ false → (x : Globals) → change c x ≡ x
       outside c t x =

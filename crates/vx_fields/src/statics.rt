@@ -3,7 +3,8 @@
 ghost use Rattle.std.specs.Prelude.{◌≡◌, ◌+◌, ◌<◌, ◌∷◌, ◌^◌, ℕ, Bool, IfOk, List, OnOk, drop, if◌then◌else◌, is_some, length, true};
 ghost use Rattle.vx_cond.specs.Cond.{IsInside};
 ghost use Rattle.vx_group.specs.Group.{IsGroup, path_of};
-ghost use Rattle.vx_heap.specs.Heap.{IsHeap, are_held, value_of};
+ghost use Rattle.vx_heap.specs.Heap.{HeapView, IsHeap, are_held, value_of};
+ghost use Rattle.vx_java.specs.Ids.{HasClassNumbers};
 ghost use Rattle.vx_java.specs.Checks.{sort_of};
 ghost use Rattle.vx_java.specs.Fields.{put_value};
 ghost use Rattle.vx_java.specs.FirstObjects.{narrowed_value};
@@ -19,6 +20,7 @@ ghost use Rattle.vx_families.specs.Attempts.{AttemptsBy, IsAttemptBy, IsGiven};
 ghost use Rattle.vx_families.specs.Bounds.{IsBounded};
 ghost use Rattle.vx_ready.specs.Changing.{IsChanged};
 ghost use Rattle.vx_references.specs.Fields.{IsFieldReference};
+ghost use Rattle.vx_ready.specs.Initialising.{proceeding};
 ghost use Rattle.vx_ready.specs.Running.{IsRunning};
 ghost use Rattle.vx_fields.specs.Statics.{got, is_of_statics, keeps_option, stored, top_of};
 
@@ -33,7 +35,7 @@ use vx_java::parts::{class_of_method, name_of_method};
 use vx_java::{MemberReference, Operation, member};
 use vx_link::Program;
 use vx_outcome::Outcomes;
-use vx_ready::{make_ready, stop_others};
+use vx_ready::{Readiness, make_ready, stop_others};
 use vx_references::{FieldReference, field_reference};
 use vx_space::{Space, SpaceFault};
 use vx_value::{ClassId, FieldId, MethodId};
@@ -200,6 +202,32 @@ fn get_fitting<S: Space>(
     Ok(outcomes)
 }
 
+/// Takes an operand off and goes past the instruction in the runs that proceed; the others stop.
+fn put_going<S: Space>(
+    alloc: Global,
+    site: &Site,
+    space: &mut S,
+    group: Group<S>,
+    class: ClassId,
+    needs: S::Id,
+    readiness: &Readiness<S>,
+) -> Result<Outcomes<S>, SpaceFault>
+    requires classes { HasClassNumbers site.now.program.now }
+    requires group { IsGroup (S.sets space.old) group }
+    requires past { HasPast site.now group }
+    requires operand { 0 < length group.top.stack.conds }
+    requires needs { IsKnown (S.sets space.old) needs }
+    requires proceeds { IsKnown (S.sets space.old) readiness.now.proceeds }
+    requires fails { IsKnown (S.sets space.old) readiness.now.fails }
+    ensures extends { Extends (S.sets space.old) (S.sets space.new) }
+    ensures gives { IfOk result (λ r. (heap : HeapView S S.Id) → GivesAt site.now.program.now (proceeding site.now class.0 (S.sets space.old) needs readiness.now (λ s. Go (at_position s (s.top.position + site.now.size) (drop 1 s.top.operands)))) (S.sets space.old) (S.sets space.new) group r.items.items heap) }
+{
+    let (going, mut outcomes) = stop_others(alloc, site, space, group, class, needs, readiness)?;
+    let made = put_part(alloc, site, space, going)?;
+    outcomes.append(made)?;
+    Ok(outcomes)
+}
+
 /// putstatic of a static field that is there, in runs that have an operand.
 fn put_found<S: Space>(
     alloc: Global,
@@ -229,10 +257,7 @@ fn put_found<S: Space>(
         field_type,
         readiness.proceeds,
     )?;
-    let (going, mut outcomes) = stop_others(alloc, site, space, group, class, needs, &readiness)?;
-    let made = put_part(alloc, site, space, going)?;
-    outcomes.append(made)?;
-    Ok(outcomes)
+    put_going(alloc, site, space, group, class, needs, &readiness)
 }
 
 /// putstatic of a static field that is there.

@@ -73,6 +73,10 @@ pub record IsReadied {S I : Type 0} (p : Program) (old new : Sets I) (before aft
 abbrev pub stopped_by : {S I : Type 0} → Site → (class : ℕ) → Sets I → (needs : I) → (fails : I) → HeapView S I → List Bool → State → Outcome
 stopped_by site class sets needs fails heap c s = stopped (here site s) class (sets.test needs c) (sets.test fails c)
 
+-- what comes of all runs, where the row goes on so in those that proceed
+abbrev pub proceeding : {S I : Type 0} → Site → (class : ℕ) → Sets I → (needs : I) → Readiness S I → (goes : State → Outcome) → HeapView S I → List Bool → State → Outcome
+proceeding site class sets needs readiness goes heap c s = if sets.test readiness.proceeds c then goes s else stopped_by site class sets needs readiness.fails heap c s
+
 -- the outcomes of a group in a set of its configurations: what this function of the configuration and the plain state there says
 abbrev pub GivesWithin : {S I : Type 0} → Program → (HeapView S I → List Bool → State → Outcome) → (set : List Bool → Bool) → Sets I → Sets I → GroupView S I → List (SharedOutcome S I) → HeapView S I → Type 0
 GivesWithin {S = S} {I = I} p says set old new group outcomes heap =

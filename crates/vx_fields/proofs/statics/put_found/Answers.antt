@@ -1,10 +1,7 @@
-use Rattle.std.proofs.Common.{arith}
+use Rattle.std.proofs.lemmas.Result.{IfOk-weaker}
 use Rattle.vx_group.proofs.GroupLaws.{IsGroup-extends}
 use Rattle.vx_heap.proofs.HeapLaws.{IsHeap-extends}
 use Rattle.vx_space.proofs.Spaces.{Extends-trans}
-use Rattle.vx_group_states.proofs.EndingLaws.{HasPast-part}
-use Rattle.vx_group_states.proofs.Gathering.{IsPartOf-group}
-use Rattle.vx_ready.proofs.Going.{part_operands}
 use Rattle.vx_fields.proofs.Puts.{put-attempts}
 use Rattle.vx_fields.proofs.Storing.{field_there}
 use Rattle.vx_ready.proofs.Running.{needs_inside, proceeds_there, running_held, running_runs}
@@ -49,44 +46,29 @@ store-requires-clause-runs g c = running_runs c.args.site.now c.args.heap.now c.
 pub store-requires-clause-held : goal.store-requires-clause-held
 store-requires-clause-held g c = running_held c.args.site.now c.args.heap.now c.make_ready.new.heap _ c.args.group c.requires.running (Extends-trans c.in_ok-needs.ensures.extends c.in_ok-readiness.ensures.extends) c.in_ok-readiness.ensures.ok.changed
 
-pub stop_others-requires-clause-classes : goal.stop_others-requires-clause-classes
-stop_others-requires-clause-classes g c = c.requires.running.classes
+pub put_going-requires-clause-classes : goal.put_going-requires-clause-classes
+put_going-requires-clause-classes g c = c.requires.running.classes
 
-pub stop_others-requires-clause-group : goal.stop_others-requires-clause-group
-stop_others-requires-clause-group g c = IsGroup-extends (Extends-trans c.in_ok-needs.ensures.extends (Extends-trans c.in_ok-readiness.ensures.extends c.in_ok-store.ensures.extends)) c.args.group c.requires.running.is_group
+pub put_going-requires-clause-group : goal.put_going-requires-clause-group
+put_going-requires-clause-group g c = IsGroup-extends (Extends-trans c.in_ok-needs.ensures.extends (Extends-trans c.in_ok-readiness.ensures.extends c.in_ok-store.ensures.extends)) c.args.group c.requires.running.is_group
 
-pub stop_others-requires-clause-needs : goal.stop_others-requires-clause-needs
-stop_others-requires-clause-needs g c = (Extends-trans c.in_ok-readiness.ensures.extends c.in_ok-store.ensures.extends).known _ c.in_ok-needs.ensures.set.known
+pub put_going-requires-clause-needs : goal.put_going-requires-clause-needs
+put_going-requires-clause-needs g c = (Extends-trans c.in_ok-readiness.ensures.extends c.in_ok-store.ensures.extends).known _ c.in_ok-needs.ensures.set.known
 
-pub stop_others-requires-clause-proceeds : goal.stop_others-requires-clause-proceeds
-stop_others-requires-clause-proceeds g c = c.in_ok-store.ensures.extends.known _ c.in_ok-readiness.ensures.ok.proceeds.known
+pub put_going-requires-clause-proceeds : goal.put_going-requires-clause-proceeds
+put_going-requires-clause-proceeds g c = c.in_ok-store.ensures.extends.known _ c.in_ok-readiness.ensures.ok.proceeds.known
 
-pub stop_others-requires-clause-fails : goal.stop_others-requires-clause-fails
-stop_others-requires-clause-fails g c = c.in_ok-store.ensures.extends.known _ c.in_ok-readiness.ensures.ok.fails.known
+pub put_going-requires-clause-past : goal.put_going-requires-clause-past
+put_going-requires-clause-past g c = c.requires.running.past
 
-pub put_part-requires-clause-group : goal.put_part-requires-clause-group
-put_part-requires-clause-group g c = IsPartOf-group _ _ _ c.args.group _ c.in_ok-going.ensures.going
-
-pub put_part-requires-clause-past : goal.put_part-requires-clause-past
-put_part-requires-clause-past g c = HasPast-part c.args.site.now _ _ _ c.args.group _ c.in_ok-going.ensures.going c.requires.running.past
-
-pub put_part-requires-clause-operand : goal.put_part-requires-clause-operand
-put_part-requires-clause-operand g c = omega (arith, c.requires.operand, part_operands _ _ _ c.args.group c.in_ok-going.going c.in_ok-going.ensures.going)
+pub put_going-requires-clause-fails : goal.put_going-requires-clause-fails
+put_going-requires-clause-fails g c = c.in_ok-store.ensures.extends.known _ c.in_ok-readiness.ensures.ok.fails.known
 
 pub returns-in_err-store-clause-extends : goal.returns-in_err-store-clause-extends
 returns-in_err-store-clause-extends g c = Extends-trans c.in_ok-needs.ensures.extends (Extends-trans c.in_ok-readiness.ensures.extends c.store.ensures.extends)
 
-pub returns-in_err-going-clause-extends : goal.returns-in_err-going-clause-extends
-returns-in_err-going-clause-extends g c = Extends-trans c.in_ok-needs.ensures.extends (Extends-trans c.in_ok-readiness.ensures.extends (Extends-trans c.in_ok-store.ensures.extends c.stop_others.ensures.extends))
-
-pub returns-in_err-made-clause-extends : goal.returns-in_err-made-clause-extends
-returns-in_err-made-clause-extends g c = Extends-trans c.in_ok-needs.ensures.extends (Extends-trans c.in_ok-readiness.ensures.extends (Extends-trans c.in_ok-store.ensures.extends c.in_ok-going.ensures.extends))
-
-pub returns-in_err-append-clause-extends : goal.returns-in_err-append-clause-extends
-returns-in_err-append-clause-extends g c = Extends-trans c.in_ok-needs.ensures.extends (Extends-trans c.in_ok-readiness.ensures.extends (Extends-trans c.in_ok-store.ensures.extends c.in_ok-going.ensures.extends))
-
 pub returns-clause-extends : goal.returns-clause-extends
-returns-clause-extends g c = Extends-trans c.in_ok-needs.ensures.extends (Extends-trans c.in_ok-readiness.ensures.extends (Extends-trans c.in_ok-store.ensures.extends c.in_ok-going.ensures.extends))
+returns-clause-extends g c = Extends-trans c.in_ok-needs.ensures.extends (Extends-trans c.in_ok-readiness.ensures.extends (Extends-trans c.in_ok-store.ensures.extends c.put_going.ensures.extends))
 
 pub returns-clause-ok : goal.returns-clause-ok
-returns-clause-ok g c = λ named. rw c.in_ok-append.ensures.ok (put-attempts c.args.site.now (g.S.Space.sets c.args.space.now) (g.S.Space.sets c.where_fitting.new.space) (g.S.Space.sets c.make_ready.new.space) (g.S.Space.sets c.store.new.space) (g.S.Space.sets c.stop_others.new.space) c.args.heap.now c.make_ready.new.heap c.store.new.heap c.args.group c.in_ok-going.going c.args.field.0 c.args.field_type c.class_of_field-class.result c.in_ok-needs.needs c.in_ok-readiness.readiness c.in_ok-going.outcomes.items.items c.in_ok-made.made.items.items c.requires.running c.class_of_field-class.ensures c.in_ok-needs.ensures.extends c.in_ok-needs.ensures.set c.in_ok-readiness.ensures.extends c.in_ok-readiness.ensures.ok c.in_ok-store.ensures.extends c.in_ok-store.ensures.ok c.in_ok-going.ensures.extends c.in_ok-going.ensures.going (c.in_ok-going.ensures.others c.store.new.heap) c.in_ok-made.ensures named)
+returns-clause-ok g c = IfOk-weaker c.put_going.result _ _ (λ made gone named. put-attempts c.args.site.now (g.S.Space.sets c.args.space.now) (g.S.Space.sets c.where_fitting.new.space) (g.S.Space.sets c.make_ready.new.space) (g.S.Space.sets c.store.new.space) (g.S.Space.sets c.put_going.new.space) c.args.heap.now c.make_ready.new.heap c.store.new.heap c.args.group c.args.field.0 c.args.field_type c.class_of_field-class.result c.in_ok-needs.needs c.in_ok-readiness.readiness made.items.items c.requires.running c.class_of_field-class.ensures c.in_ok-needs.ensures.extends c.in_ok-needs.ensures.set c.in_ok-readiness.ensures.extends c.in_ok-readiness.ensures.ok c.in_ok-store.ensures.extends c.in_ok-store.ensures.ok c.put_going.ensures.extends (gone c.store.new.heap) named) c.put_going.ensures.gives
