@@ -5,11 +5,13 @@
 pub mod answer;
 pub mod answering;
 pub mod endings;
+pub mod passing;
 pub mod settling;
 pub mod site;
 
 pub use answer::Answer;
 pub use answering::carry_out;
 pub use endings::{illegal, pass};
+pub use passing::pass_where;
 pub use settling::{settle, stack_size};
 pub use site::Site;

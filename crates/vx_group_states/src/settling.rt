@@ -1,23 +1,21 @@
 //! Operands that have to fit in a method's greatest stack.
 
 ghost use Rattle.std.specs.Prelude.{◌≡◌, ◌+◌, ◌<◌, ◌^◌, Some, IfOk, Bool, List, length, nat_le, true};
-ghost use Rattle.std.specs.Ordering.{bool_cmp, nat_cmp};
+ghost use Rattle.std.specs.Ordering.{nat_cmp};
 ghost use Rattle.vx_space.specs.Sets.{Extends};
 ghost use Rattle.vx_cond.specs.Cond.{IsCond, cond_at};
-ghost use Rattle.vx_cond.specs.Leaves.{AreLeaves};
 ghost use Rattle.vx_cond.specs.Row.{IsRow};
 ghost use Rattle.vx_cond.specs.Slots.{slots_at};
 ghost use Rattle.vx_value.specs.Slot.{slot_cmp};
-ghost use Rattle.vx_group.specs.Group.{IsGroup, path_of};
-ghost use Rattle.vx_heap.specs.Heap.{HeapView};
-ghost use Rattle.vx_java.specs.Machine.{go, illegal as illegal_of, settle as settle_of, when};
-ghost use Rattle.vx_group_states.specs.Sites.{Gives, GivesAt, Cover, HasPast, here, settled_by};
+ghost use Rattle.vx_group.specs.Group.{IsGroup};
+ghost use Rattle.vx_java.specs.Machine.{settle as settle_of};
+ghost use Rattle.vx_group_states.specs.Sites.{Gives, HasPast, here};
 ghost use Rattle.vx_group_states.specs.Widths.{slot_width, slots_size};
 
-use crate::endings::{illegal, pass};
+use crate::passing::pass_where;
 use crate::site::Site;
 use std::alloc::Global;
-use vx_cond::{Cond, Leaf, Row};
+use vx_cond::{Cond, Row};
 use vx_group::Group;
 use vx_outcome::Outcomes;
 use vx_space::{Space, SpaceFault};
@@ -56,26 +54,6 @@ pub fn stack_size<S: Space>(
     Ok(total)
 }
 
-/// A part of a group in which the operands fit, or in which they don't.
-fn settled_part<S: Space>(
-    alloc: Global,
-    site: &Site,
-    space: &S,
-    part: Group<S>,
-    fits: bool,
-) -> Result<Outcomes<S>, SpaceFault>
-    requires group { IsGroup (S.sets space.now) part }
-    requires past { HasPast site.now part }
-    ensures { IfOk result (λ r. Gives site.now.program.now (λ s. when fits (go (here site.now s) s.top.operands) (illegal_of (here site.now s))) (S.sets space.now) (S.sets space.now) part r.items.items) }
-{
-    if !fits {
-        let ended = illegal(alloc, site.program, &part)?;
-        return Ok(ended);
-    }
-    let outcomes = pass(alloc, site, space, part)?;
-    Ok(outcomes)
-}
-
 /// Goes past the instruction where the operands fit in the method's greatest stack, and ends the runs elsewhere (JVMS
 /// 4.7.3).
 pub fn settle<S: Space>(
@@ -95,32 +73,6 @@ pub fn settle<S: Space>(
         ensures { result ≡ nat_le n room }
     { n <= room };
     let fits = sizes.map(space, is_within)?;
-    let outcomes = settled_parts(alloc, site, space, group, fits.leaves())?;
-    Ok(outcomes)
-}
-
-/// The parts of a group in which the operands fit, and in which they don't.
-fn settled_parts<S: Space>(
-    alloc: Global,
-    site: &Site,
-    space: &mut S,
-    group: Group<S>,
-    fits: &[Leaf<bool, S>],
-) -> Result<Outcomes<S>, SpaceFault>
-    requires group { IsGroup (S.sets space.old) group }
-    requires past { HasPast site.now group }
-    requires fits { AreLeaves bool_cmp (S.sets space.old) fits.now }
-    requires cover { Cover (S.sets space.old) (path_of group) fits.now }
-    ensures extends { Extends (S.sets space.old) (S.sets space.new) }
-    ensures gives { IfOk result (λ r. (heap : HeapView S S.Id) → GivesAt site.now.program.now (λ _. settled_by site.now (S.sets space.old) fits.now) (S.sets space.old) (S.sets space.new) group r.items.items heap) }
-{
-    let mut outcomes = Outcomes::new(alloc);
-    let mut rest = group;
-    for leaf in fits {
-        let (part, others) = rest.split(space, leaf.condition)?;
-        let made = settled_part(alloc, site, space, part, leaf.value)?;
-        outcomes.append(made)?;
-        rest = others;
-    }
+    let outcomes = pass_where(alloc, site, space, group, fits.leaves())?;
     Ok(outcomes)
 }

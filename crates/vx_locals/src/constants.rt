@@ -30,6 +30,5 @@ pub(crate) fn push_constant<S: Space>(
     ensures gives { IfOk result (λ r. (heap : HeapView S S.Id) → ((c : List Bool) → (S.sets space.old).test (path_of group) c ≡ true → is_held (S.sets space.old) heap c value ≡ true) → GivesAt site.now.program.now (λ heap c s. push (here site.now s) (value_of (S.sets space.old) heap c value) s.top.operands) (S.sets space.old) (S.sets space.new) group r.items.items heap) }
 {
     let answers = Cond::one(alloc, space, Answer::Push(value), group.path())?;
-    let outcomes = push_answers(alloc, site, space, group, &answers)?;
-    Ok(outcomes)
+    push_answers(alloc, site, space, group, &answers)
 }

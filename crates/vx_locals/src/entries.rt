@@ -48,8 +48,7 @@ fn push_literal<S: Space>(
     ensures gives { IfOk result (λ r. GivesAt site.now.program.now (λ _ _ s. push (here site.now s) (RefValue (literal_at heap.now class.0 index)) s.top.operands) (S.sets space.old) (S.sets space.new) group r.items.items heap.now) }
 {
     let literal = heap.literal(class, index);
-    let pushed = push_constant(alloc, site, space, group, Slot::Ref(literal))?;
-    Ok(pushed)
+    push_constant(alloc, site, space, group, Slot::Ref(literal))
 }
 
 /// Pushes the class object of a class that is there.
@@ -73,13 +72,9 @@ fn push_class<S: Space>(
     match class_named(site.program, text) {
         None => {
             let what = Name::of(alloc, text)?;
-            let refused = unsupported(alloc, site.program, &group, CLASS_WORD, what)?;
-            Ok(refused)
+            unsupported(alloc, site.program, &group, CLASS_WORD, what)
         }
-        Some(_) => {
-            let pushed = push_literal(alloc, site, space, heap, group, class, index)?;
-            Ok(pushed)
-        }
+        Some(_) => push_literal(alloc, site, space, heap, group, class, index),
     }
 }
 
@@ -98,26 +93,13 @@ pub(crate) fn push_entry<S: Space>(
 {
     let class = class_of_method(site.program, group.top_frame().method);
     match constant_of(site.program, class, index) {
-        Constant::Number(value) => {
-            let pushed = push_constant(alloc, site, space, group, value)?;
-            Ok(pushed)
-        }
-        Constant::Literal => {
-            let pushed = push_literal(alloc, site, space, heap, group, class, index)?;
-            Ok(pushed)
-        }
-        Constant::Class(name) => {
-            let pushed = push_class(alloc, site, space, heap, group, class, index, name)?;
-            Ok(pushed)
-        }
+        Constant::Number(value) => push_constant(alloc, site, space, group, value),
+        Constant::Literal => push_literal(alloc, site, space, heap, group, class, index),
+        Constant::Class(name) => push_class(alloc, site, space, heap, group, class, index, name),
         Constant::LeftOut(word) => {
             let what = nothing(alloc)?;
-            let refused = unsupported(alloc, site.program, &group, word, what)?;
-            Ok(refused)
+            unsupported(alloc, site.program, &group, word, what)
         }
-        Constant::Unloadable => {
-            let ended = illegal(alloc, site.program, &group)?;
-            Ok(ended)
-        }
+        Constant::Unloadable => illegal(alloc, site.program, &group),
     }
 }

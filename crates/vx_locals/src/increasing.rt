@@ -14,12 +14,11 @@ ghost use Rattle.vx_java.specs.declared.operation.Sort.TheVariants.{Int as IntSo
 ghost use Rattle.vx_group_states.specs.Sites.{Gives, HasPast, here};
 ghost use Rattle.vx_locals.specs.Slots.{increased, slot_is_of};
 
-use crate::passing::pass_where;
 use crate::sorts::is_of;
 use std::alloc::Global;
 use vx_cond::Cond;
 use vx_group::Group;
-use vx_group_states::{Site, illegal};
+use vx_group_states::{Site, illegal, pass_where};
 use vx_java::Sort;
 use vx_outcome::Outcomes;
 use vx_space::{Space, SpaceFault};
@@ -59,8 +58,7 @@ fn increase_where<S: Space>(
     { increased(by, slot) };
     let value = frame.locals.get(usize::from(place)).map(space, more)?;
     frame.locals.set(usize::from(place), value);
-    let outcomes = pass_where(alloc, site, space, below.put_top(frame), fits.leaves())?;
-    Ok(outcomes)
+    pass_where(alloc, site, space, below.put_top(frame), fits.leaves())
 }
 
 /// Adds a number to a local where it is an int.
@@ -79,13 +77,11 @@ pub(crate) fn increase<S: Space>(
 {
     let locals = &group.top_frame().locals;
     if locals.len() <= usize::from(place) {
-        let ended = illegal(alloc, site.program, &group)?;
-        return Ok(ended);
+        return illegal(alloc, site.program, &group);
     }
     let is_int = |slot: Slot| -> bool
         ensures { result ≡ slot_is_of IntSort slot }
     { is_of(Sort::Int, slot) };
     let fits = locals.get(usize::from(place)).map(space, is_int)?;
-    let outcomes = increase_where(alloc, site, space, group, place, by, &fits)?;
-    Ok(outcomes)
+    increase_where(alloc, site, space, group, place, by, &fits)
 }

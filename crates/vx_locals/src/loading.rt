@@ -44,13 +44,11 @@ pub(crate) fn load<S: Space>(
 {
     let locals = &group.top_frame().locals;
     if locals.len() <= usize::from(place) {
-        let ended = illegal(alloc, site.program, &group)?;
-        return Ok(ended);
+        return illegal(alloc, site.program, &group);
     }
     let answer = |slot: Slot| -> Answer
         ensures { result ≡ loaded sort slot }
     { loaded(sort, slot) };
     let answers = locals.get(usize::from(place)).map(space, answer)?;
-    let outcomes = push_answers(alloc, site, space, group, &answers)?;
-    Ok(outcomes)
+    push_answers(alloc, site, space, group, &answers)
 }

@@ -9,10 +9,11 @@ ghost use Rattle.vx_heap.specs.Heap.{HeapView};
 ghost use Rattle.vx_java.specs.Machine.{go, illegal as illegal_of, when};
 ghost use Rattle.vx_group_states.specs.Sites.{Cover, Gives, GivesAt, HasPast, here, settled_by};
 
+use crate::endings::{illegal, pass};
+use crate::site::Site;
 use std::alloc::Global;
 use vx_cond::Leaf;
 use vx_group::Group;
-use vx_group_states::{Site, illegal, pass};
 use vx_outcome::Outcomes;
 use vx_space::{Space, SpaceFault};
 
@@ -29,15 +30,15 @@ fn passed_part<S: Space>(
     ensures { IfOk result (λ r. Gives site.now.program.now (λ s. when holds (go (here site.now s) s.top.operands) (illegal_of (here site.now s))) (S.sets space.now) (S.sets space.now) part r.items.items) }
 {
     if !holds {
-        let ended = illegal(alloc, site.program, &part)?;
-        return Ok(ended);
+        return illegal(alloc, site.program, &part);
     }
     let outcomes = pass(alloc, site, space, part)?;
     Ok(outcomes)
 }
 
-/// Goes past the instruction where a test holds, and ends the runs elsewhere.
-pub(crate) fn pass_where<S: Space>(
+/// Goes past the instruction where a test holds, and ends the runs elsewhere: there the state breaks a rule of the instruction.
+/// The test is given by the leaves of its answers over the path of the group.
+pub fn pass_where<S: Space>(
     alloc: Global,
     site: &Site,
     space: &mut S,

@@ -9,13 +9,12 @@ ghost use Rattle.vx_java.specs.Locals.{store as store_of};
 ghost use Rattle.vx_group_states.specs.Sites.{Gives, HasPast, here};
 ghost use Rattle.vx_locals.specs.Slots.{slot_is_of, top_at};
 
-use crate::passing::pass_where;
 use crate::sorts::is_of;
 use crate::writing::write_local;
 use std::alloc::Global;
 use vx_cond::Cond;
 use vx_group::Group;
-use vx_group_states::{Site, illegal};
+use vx_group_states::{Site, illegal, pass_where};
 use vx_java::Sort;
 use vx_outcome::Outcomes;
 use vx_space::{Space, SpaceFault};
@@ -45,8 +44,7 @@ fn store_where<S: Space>(
         unreachable!()
     };
     write_local(alloc, space, &mut frame.locals, sort, place, value)?;
-    let outcomes = pass_where(alloc, site, space, below.put_top(frame), fits.leaves())?;
-    Ok(outcomes)
+    pass_where(alloc, site, space, below.put_top(frame), fits.leaves())
 }
 
 /// Takes the operand on top off and puts it into a local where it is of the sort.
@@ -65,13 +63,11 @@ pub(crate) fn store<S: Space>(
 {
     let stack = &group.top_frame().stack;
     if stack.len() == 0 {
-        let ended = illegal(alloc, site.program, &group)?;
-        return Ok(ended);
+        return illegal(alloc, site.program, &group);
     }
     let is_fit = |slot: Slot| -> bool
         ensures { result ≡ slot_is_of sort slot }
     { is_of(sort, slot) };
     let fits = stack.get(stack.len() - 1).map(space, is_fit)?;
-    let outcomes = store_where(alloc, site, space, group, sort, place, &fits)?;
-    Ok(outcomes)
+    store_where(alloc, site, space, group, sort, place, &fits)
 }

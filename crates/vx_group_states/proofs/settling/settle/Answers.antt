@@ -13,14 +13,14 @@ stack_size-requires-clause-row g c = rw c.top_frame.ensures (IsFrame-stack _ c.a
 pub stack_size-requires-clause-few : goal.stack_size-requires-clause-few
 stack_size-requires-clause-few g c = rw (c.top_frame.ensures, ← c.group.view_is) c.group.invariant.1
 
-pub settled_parts-requires-clause-group : goal.settled_parts-requires-clause-group
-settled_parts-requires-clause-group g c = IsGroup-extends (Extends-trans c.in_ok-sizes.ensures.extends c.in_ok-fits.ensures.extends) c.args.group c.requires.group
+pub pass_where-requires-clause-group : goal.pass_where-requires-clause-group
+pass_where-requires-clause-group g c = IsGroup-extends (Extends-trans c.in_ok-sizes.ensures.extends c.in_ok-fits.ensures.extends) c.args.group c.requires.group
 
-pub settled_parts-requires-clause-fits : goal.settled_parts-requires-clause-fits
-settled_parts-requires-clause-fits g c = rw c.leaves.ensures (AreLeaves-of bool_cmp _ c.in_ok-fits.fits (lifting_cond bool_cmp _ _ _ c.in_ok-fits.fits c.in_ok-fits.ensures.ok))
+pub pass_where-requires-clause-leaves : goal.pass_where-requires-clause-leaves
+pass_where-requires-clause-leaves g c = rw c.leaves.ensures (AreLeaves-of bool_cmp _ c.in_ok-fits.fits (lifting_cond bool_cmp _ _ _ c.in_ok-fits.fits c.in_ok-fits.ensures.ok))
 
-pub settled_parts-requires-clause-cover : goal.settled_parts-requires-clause-cover
-settled_parts-requires-clause-cover g c = rw c.leaves.ensures (Cover-answers bool_cmp _ _ c.in_ok-fits.fits (lifting_cond bool_cmp _ _ _ c.in_ok-fits.fits c.in_ok-fits.ensures.ok) (c.in_ok-fits.ensures.scope ∙ (rw c.top_frame.ensures at c.in_ok-sizes.ensures.scope) ∙ stack_scope _ c.args.group c.requires.group))
+pub pass_where-requires-clause-cover : goal.pass_where-requires-clause-cover
+pass_where-requires-clause-cover g c = rw c.leaves.ensures (Cover-answers bool_cmp _ _ c.in_ok-fits.fits (lifting_cond bool_cmp _ _ _ c.in_ok-fits.fits c.in_ok-fits.ensures.ok) (c.in_ok-fits.ensures.scope ∙ (rw c.top_frame.ensures at c.in_ok-sizes.ensures.scope) ∙ stack_scope _ c.args.group c.requires.group))
 
 pub returns-clause-extends : goal.returns-clause-extends
 returns-clause-extends g c = Extends-trans (Extends-trans c.in_ok-sizes.ensures.extends c.in_ok-fits.ensures.extends) c.in_ok-outcomes.ensures.extends

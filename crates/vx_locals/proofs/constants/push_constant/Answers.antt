@@ -1,4 +1,5 @@
 use Rattle.std.proofs.Common.{ap}
+use Rattle.std.proofs.lemmas.Result.{IfOk-weaker}
 use Rattle.vx_cond.proofs.CondLaws.{IsCond-of}
 use Rattle.vx_group.proofs.GroupLaws.{IsGroup-path_known}
 use Rattle.vx_families.specs.Pushing.{is_push}
@@ -16,4 +17,4 @@ pub push_answers-requires-clause-pushes : goal.push_answers-requires-clause-push
 push_answers-requires-clause-pushes g c = λ d t. ap is_push (constant_at _ _ _ c.args.value c.in_ok-answers.answers c.path.ensures c.in_ok-answers.ensures.ok d t)
 
 pub returns-clause-gives : goal.returns-clause-gives
-returns-clause-gives g c = constant-gives c.args.site.now _ c.args.group c.args.value c.in_ok-answers.answers _ (constant_at _ _ _ c.args.value c.in_ok-answers.answers c.path.ensures c.in_ok-answers.ensures.ok) c.in_ok-outcomes.ensures.gives
+returns-clause-gives g c = IfOk-weaker c.push_answers.result _ _ (λ r h. constant-gives c.args.site.now _ c.args.group c.args.value c.in_ok-answers.answers _ (constant_at _ _ _ c.args.value c.in_ok-answers.answers c.path.ensures c.in_ok-answers.ensures.ok) h) c.push_answers.ensures.gives

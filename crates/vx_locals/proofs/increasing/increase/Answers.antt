@@ -2,6 +2,7 @@ use Rattle.std.proofs.Common.{◌≤◌, ◌∙◌, ap, sym, length}
 use Rattle.std.proofs.Math.Facts.{to_z-of_z}
 use Rattle.std.specs.Int.{w32}
 use Rattle.std.specs.Ordering.{bool_cmp}
+use Rattle.std.proofs.lemmas.Result.{IfOk-weaker}
 use Rattle.vx_space.proofs.Spaces.{Extends-trans}
 use Rattle.vx_cond.proofs.RowSteps.{IsRow-get}
 use Rattle.vx_frame.proofs.FrameLaws.{IsFrame-locals}
@@ -21,7 +22,7 @@ use Rattle.vx_locals.proofs.increasing.increase.Goals as goal
 pub returns-then-len-from-clause-gives : goal.returns-then-len-from-clause-gives
 returns-then-len-from-clause-gives g c =
     let past : length c.args.group.top.locals.conds ≤ c.args.place = rw (← c.top_frame.ensures, ← c.len.ensures, ← c.from.ensures) c.if-len-from.true in
-    increase_none c.args.site.now _ c.args.group c.args.place c.args.by _ past (c.in_ok-ended.ensures _)
+    IfOk-weaker c.illegal.result _ _ (λ r h. increase_none c.args.site.now _ c.args.group c.args.place c.args.by _ past (h _)) c.illegal.ensures
 
 pub map-requires-clause-valid : goal.map-requires-clause-valid
 map-requires-clause-valid g c = (IsRow-get slot_cmp _ c.args.group.top.locals c.args.place c.get.result.now (IsFrame-locals _ c.args.group.top (IsGroup-top _ c.args.group c.requires.group)) (rw (c.top_frame.ensures, c.from-2.ensures) at c.get.ensures)).0
@@ -43,7 +44,7 @@ increase_where-requires-clause-at g c =
     λ d t. tested_at group.top.locals c.args.place c.get.result.now c.in_ok-fits.fits (slot_is_of IntSort) _ e (IsFrame-locals start group.top (IsGroup-top start group c.requires.group)) (rw (c.top_frame.ensures, c.from-2.ensures) at c.get.ensures) (λ a b h. h) c.in_ok-fits.ensures.ok d (ap (λ i. start.test i d) (IsGroup-one_scope start group c.requires.group) ∙ sym (e.test group.attempts.scope d (IsGroup-path_known start group c.requires.group)) ∙ t)
 
 pub returns-clause-extends : goal.returns-clause-extends
-returns-clause-extends g c = Extends-trans c.in_ok-fits.ensures.extends c.in_ok-outcomes.ensures.extends
+returns-clause-extends g c = Extends-trans c.in_ok-fits.ensures.extends c.increase_where.ensures.extends
 
 pub returns-clause-gives : goal.returns-clause-gives
-returns-clause-gives g c = Gives-before c.args.site.now _ c.args.group (λ s. increase (here c.args.site.now s) c.args.place c.args.by (item_or s.top.locals c.args.place Top)) _ c.in_ok-fits.ensures.extends (rw (to_z-of_z {w = w32} {z = c.args.by} c.ranges.by) at c.in_ok-outcomes.ensures.gives)
+returns-clause-gives g c = IfOk-weaker c.increase_where.result _ _ (λ r h. Gives-before c.args.site.now _ c.args.group (λ s. increase (here c.args.site.now s) c.args.place c.args.by (item_or s.top.locals c.args.place Top)) _ c.in_ok-fits.ensures.extends (rw (to_z-of_z {w = w32} {z = c.args.by} c.ranges.by) at h)) c.increase_where.ensures.gives

@@ -3,6 +3,7 @@ use Rattle.std.proofs.Math.Facts.{to_z-of_z}
 use Rattle.std.specs.Int.{w32}
 use Rattle.std.specs.Ordering.{bool_cmp}
 use Rattle.std.specs.Prelude.{slice_set}
+use Rattle.std.proofs.lemmas.Result.{IfOk-weaker}
 use Rattle.vx_space.proofs.Spaces.{Extends-trans}
 use Rattle.vx_cond.proofs.CondLaws.{IsCond-extends}
 use Rattle.vx_cond.proofs.RowLaws.{IsRow-extends}
@@ -45,7 +46,7 @@ pub pass_where-requires-clause-cover : goal.pass_where-requires-clause-cover
 pass_where-requires-clause-cover g c = rw (c.leaves.ensures, c.put_top.ensures, c.take_top-below.ensures) (Cover-answers bool_cmp _ _ c.args.fits.now (IsCond-extends bool_cmp c.in_ok-value.ensures.extends c.args.fits.now c.requires.fits) c.requires.scope)
 
 pub returns-clause-extends : goal.returns-clause-extends
-returns-clause-extends g c = Extends-trans c.in_ok-value.ensures.extends c.in_ok-outcomes.ensures.extends
+returns-clause-extends g c = Extends-trans c.in_ok-value.ensures.extends c.pass_where.ensures.extends
 
 pub returns-clause-gives : goal.returns-clause-gives
 returns-clause-gives g c =
@@ -59,4 +60,4 @@ returns-clause-gives g c =
     let locals = record (group.top.locals) { conds = slice_set group.top.locals.conds c.args.place value } in
     let stack = IsRow-extends slot_cmp e group.top.stack (IsFrame-stack start group.top (IsGroup-top start group c.requires.group)) in
     let after : c.put_top.result ≡ written group locals group.top.stack = rw (c.put_top.ensures, c.set.ensures, c.from-2.ensures, c.take_top-below.ensures) refl in
-    increase-gives c.args.site.now _ group c.put_top.result locals c.args.fits.now c.args.place c.args.by _ e made stack (stack_scope start group c.requires.group) (operands_at-extends e group.top.stack (IsFrame-stack start group.top (IsGroup-top start group c.requires.group))) c.requires.fits c.requires.at after (rw c.leaves.ensures at c.in_ok-outcomes.ensures.gives)
+    IfOk-weaker c.pass_where.result _ _ (λ r h. increase-gives c.args.site.now _ group c.put_top.result locals c.args.fits.now c.args.place c.args.by _ e made stack (stack_scope start group c.requires.group) (operands_at-extends e group.top.stack (IsFrame-stack start group.top (IsGroup-top start group c.requires.group))) c.requires.fits c.requires.at after (rw c.leaves.ensures at h)) c.pass_where.ensures.gives

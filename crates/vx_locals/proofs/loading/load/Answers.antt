@@ -1,4 +1,5 @@
 use Rattle.std.proofs.Common.{◌≡◌, ◌≤◌, Bool, List, true, ◌∙◌, ap, sym, length}
+use Rattle.std.proofs.lemmas.Result.{IfOk-weaker}
 use Rattle.vx_space.proofs.Spaces.{Extends-trans}
 use Rattle.vx_cond.proofs.RowSteps.{IsRow-get}
 use Rattle.vx_cond.specs.Slots.{slot_at}
@@ -15,7 +16,7 @@ use Rattle.vx_locals.proofs.loading.load.Goals as goal
 pub returns-then-len-from-clause-gives : goal.returns-then-len-from-clause-gives
 returns-then-len-from-clause-gives g c =
     let past : length c.args.group.top.locals.conds ≤ c.args.place = rw (← c.top_frame.ensures, ← c.len.ensures, ← c.from.ensures) c.if-len-from.true in
-    load_none c.args.site.now _ c.args.group c.args.sort c.args.place _ past (c.in_ok-ended.ensures _)
+    IfOk-weaker c.illegal.result _ _ (λ r h. load_none c.args.site.now _ c.args.group c.args.sort c.args.place _ past (h _)) c.illegal.ensures
 
 pub map-requires-clause-valid : goal.map-requires-clause-valid
 map-requires-clause-valid g c = (IsRow-get slot_cmp _ c.args.group.top.locals c.args.place c.get.result.now (IsFrame-locals _ c.args.group.top (IsGroup-top _ c.args.group c.requires.group)) (rw (c.top_frame.ensures, c.from-2.ensures) at c.get.ensures)).0
@@ -37,11 +38,11 @@ push_answers-requires-clause-pushes g c =
     λ d t. ap is_push (loaded_at start _ _ c.args.sort c.get.result.now c.in_ok-answers.answers (λ a b h. h) local.0 c.in_ok-answers.ensures.ok d (in_path d (sym (c.in_ok-answers.ensures.extends.test (path_of c.args.group) d (IsGroup-path_known _ c.args.group c.requires.group)) ∙ t))) ∙ loaded_pushes c.args.sort (slot_at start c.get.result.now d)
 
 pub returns-clause-extends : goal.returns-clause-extends
-returns-clause-extends g c = Extends-trans c.in_ok-answers.ensures.extends c.in_ok-outcomes.ensures.extends
+returns-clause-extends g c = Extends-trans c.in_ok-answers.ensures.extends c.push_answers.ensures.extends
 
 pub returns-clause-gives : goal.returns-clause-gives
 returns-clause-gives g c =
     let start = g.S.Space.sets c.args.space.now in
     let local = IsRow-get slot_cmp _ c.args.group.top.locals c.args.place c.get.result.now (IsFrame-locals _ c.args.group.top (IsGroup-top _ c.args.group c.requires.group)) (rw (c.top_frame.ensures, c.from-2.ensures) at c.get.ensures) in
     let in_path : (d : List Bool) → start.test (path_of c.args.group) d ≡ true → start.test c.get.result.now.scope d ≡ true = λ d t. ap (λ i. start.test i d) (local.1 ∙ IsGroup-one_scope _ c.args.group c.requires.group) ∙ t in
-    load-gives c.args.site.now _ c.args.group c.args.sort c.args.place c.get.result.now c.in_ok-answers.answers _ c.in_ok-answers.ensures.extends c.requires.group (rw (c.top_frame.ensures, c.from-2.ensures) at c.get.ensures) (λ d t. loaded_at start _ _ c.args.sort c.get.result.now c.in_ok-answers.answers (λ a b h. h) local.0 c.in_ok-answers.ensures.ok d (in_path d t)) c.in_ok-outcomes.ensures.gives
+    IfOk-weaker c.push_answers.result _ _ (λ r h. load-gives c.args.site.now _ c.args.group c.args.sort c.args.place c.get.result.now c.in_ok-answers.answers _ c.in_ok-answers.ensures.extends c.requires.group (rw (c.top_frame.ensures, c.from-2.ensures) at c.get.ensures) (λ d t. loaded_at start _ _ c.args.sort c.get.result.now c.in_ok-answers.answers (λ a b h. h) local.0 c.in_ok-answers.ensures.ok d (in_path d t)) h) c.push_answers.ensures.gives

@@ -7,7 +7,7 @@ use Rattle.vx_java.specs.Machine.{State, go, illegal, when}
 use Rattle.vx_group_states.specs.Sites.{here}
 use Rattle.vx_group_states.proofs.EndingLaws.{HasPast-part}
 use Rattle.vx_group_states.proofs.Gathering.{IsGathering-end, IsGathering-past, IsGathering-rest, IsGathering-start, IsGathering-step, IsPartOf-group, leaf_value}
-use Rattle.vx_locals.proofs.passing.pass_where.Goals as goal
+use Rattle.vx_group_states.proofs.passing.pass_where.Goals as goal
 
 pub loop-leaf-init : goal.loop-leaf-init
 loop-leaf-init g c = rw c.new-outcomes.ensures (IsGathering-start c.args.site.now.program.now _ c.args.group _ _ c.args.holds.now c.requires.group)

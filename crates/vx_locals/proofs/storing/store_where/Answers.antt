@@ -1,5 +1,6 @@
 use Rattle.std.proofs.Common.{◌≡◌, ◌∙◌, refl, sym}
 use Rattle.std.specs.Ordering.{bool_cmp}
+use Rattle.std.proofs.lemmas.Result.{IfOk-weaker}
 use Rattle.vx_space.proofs.Spaces.{Extends-trans}
 use Rattle.vx_cond.proofs.CondLaws.{IsCond-extends}
 use Rattle.vx_cond.proofs.RowLaws.{IsRow-extends}
@@ -38,11 +39,8 @@ pass_where-requires-clause-leaves g c = rw c.leaves.ensures (AreLeaves-of bool_c
 pub pass_where-requires-clause-cover : goal.pass_where-requires-clause-cover
 pass_where-requires-clause-cover g c = rw (c.leaves.ensures, c.put_top.ensures, c.take_top-below.ensures) (Cover-answers bool_cmp _ _ c.args.fits.now (IsCond-extends bool_cmp c.in_ok-write_local.ensures.extends c.args.fits.now c.requires.fits) c.requires.scope)
 
-pub returns-in_err-outcomes-clause-extends : goal.returns-in_err-outcomes-clause-extends
-returns-in_err-outcomes-clause-extends g c = Extends-trans c.in_ok-write_local.ensures.extends c.pass_where.ensures.extends
-
 pub returns-clause-extends : goal.returns-clause-extends
-returns-clause-extends g c = Extends-trans c.in_ok-write_local.ensures.extends c.in_ok-outcomes.ensures.extends
+returns-clause-extends g c = Extends-trans c.in_ok-write_local.ensures.extends c.pass_where.ensures.extends
 
 pub returns-clause-gives : goal.returns-clause-gives
 returns-clause-gives g c =
@@ -51,4 +49,4 @@ returns-clause-gives g c =
     let top = top_taken _ group c.pop.new.self c.in-Some.value c.requires.group (rw c.take_top-below.ensures at c.in-Some.ensures.some) in
     let made = rw c.take_top-below.ensures at c.in_ok-write_local.ensures.ok in
     let after : c.put_top.result ≡ written group c.write_local.new.locals c.pop.new.self = rw (c.put_top.ensures, c.take_top-below.ensures) refl in
-    store-gives c.args.site.now _ group c.put_top.result c.pop.new.self c.write_local.new.locals c.in-Some.value c.args.fits.now c.args.sort c.args.place _ e made (IsRow-extends slot_cmp e c.pop.new.self top.below_row) top.below_scope (rw c.take_top-below.ensures at c.in-Some.ensures.some) (operands_at-extends e c.pop.new.self top.below_row) c.requires.fits c.requires.at after (rw c.leaves.ensures at c.in_ok-outcomes.ensures.gives)
+    IfOk-weaker c.pass_where.result _ _ (λ r h. store-gives c.args.site.now _ group c.put_top.result c.pop.new.self c.write_local.new.locals c.in-Some.value c.args.fits.now c.args.sort c.args.place _ e made (IsRow-extends slot_cmp e c.pop.new.self top.below_row) top.below_scope (rw c.take_top-below.ensures at c.in-Some.ensures.some) (operands_at-extends e c.pop.new.self top.below_row) c.requires.fits c.requires.at after (rw c.leaves.ensures at h)) c.pass_where.ensures.gives
