@@ -9,6 +9,12 @@ use crate::spot::Spot;
 use vx_group_states::Answer;
 use vx_java::Operation;
 
+/// How many bytes of the code a jump or a key of a table takes (JVMS 6.5 tableswitch, lookupswitch).
+const JUMP_BYTES: usize = 4;
+
+/// How many bytes a key with its jump takes.
+const PAIR_BYTES: usize = 8;
+
 /// The position that is so far from the opcode, or 0 before the code.
 pub fn target_of(spot: &Spot, offset: i32) -> u32
     ensures { result ≡ target_of spot.now offset }
@@ -73,7 +79,10 @@ pub fn table_jump(code: &[u8], fallback: i32, low: i32, high: i32, first: u32, k
     ensures { result ≡ table_jump code.now fallback low high first key }
 {
     if low <= key && key <= high {
-        number_at(code, first as usize + 4 * key.abs_diff(low) as usize)
+        number_at(
+            code,
+            first as usize + JUMP_BYTES * key.abs_diff(low) as usize,
+        )
     } else {
         fallback
     }
@@ -92,9 +101,9 @@ pub fn pair_jump(code: &[u8], key: i32, fallback: i32, pairs: u32, first: u32) -
     ensures { result ≡ pair_jump code.now key fallback pairs first }
 {
     for pair in 0..pairs {
-        let at = first as usize + 8 * pair as usize;
+        let at = first as usize + PAIR_BYTES * pair as usize;
         if has_key(code, at, key) {
-            return number_at(code, at + 4);
+            return number_at(code, at + JUMP_BYTES);
         }
     }
     fallback

@@ -24,6 +24,9 @@ use vx_java::Operation;
 use vx_outcome::Outcomes;
 use vx_space::{Space, SpaceFault};
 
+/// No form takes off more operands (JVMS 6.5 dup2_x2).
+const MOST_TAKEN: usize = 4;
+
 /// The part of a group in which so many values stand in the upper words, and in those under them.
 fn counted_part<S: Space>(
     alloc: Global,
@@ -66,7 +69,7 @@ fn cut_part<S: Space>(
         let ended = illegal(alloc, site.program, &part)?;
         return Ok(ended);
     };
-    if part.top_frame().stack.len() > usize::from(site.code.max_stack) + 4 {
+    if part.top_frame().stack.len() > usize::from(site.code.max_stack) + MOST_TAKEN {
         let ended = illegal(alloc, site.program, &part)?;
         return Ok(ended);
     }
