@@ -31,7 +31,7 @@ use vx_value::MethodId;
 fn code_of(program: &Program, method: MethodId) -> Option<&Code>
     ensures { option_copied result ≡ (method_at program.now method.0).code }
 {
-    match program.methods.get(method.0 as usize) {
+    match program.method(method) {
         Some(method) => method.code.as_ref(),
         None => None,
     }

@@ -29,7 +29,7 @@ const PRINTLN_INT: u32 = 49;
 fn is_println(program: &Program, method: MethodId) -> bool
     ensures { result ≡ is_println_method (method_at program.now method.0) }
 {
-    match program.methods.get(method.0 as usize) {
+    match program.method(method) {
         Some(method) => method.native == PRINTLN_INT
             && method.descriptor.bytes() == b"(I)V".as_slice(),
         None => false,

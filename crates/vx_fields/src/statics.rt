@@ -44,7 +44,7 @@ use vx_value::{ClassId, FieldId, MethodId};
 fn class_of_field(program: &Program, field: FieldId) -> ClassId
     ensures { result ≡ (field_at program.now field.0).class }
 {
-    match program.fields.get(field.0 as usize) {
+    match program.field(field) {
         Some(field) => field.class,
         None => ClassId(0),
     }
@@ -53,7 +53,7 @@ fn class_of_field(program: &Program, field: FieldId) -> ClassId
 fn is_option(program: &Program, field: FieldId) -> bool
     ensures { result ≡ is_some (field_at program.now field.0).option }
 {
-    match program.fields.get(field.0 as usize) {
+    match program.field(field) {
         Some(field) => field.option.is_some(),
         None => false,
     }
@@ -288,7 +288,7 @@ fn static_field(program: &Program, class: ClassId, index: u16) -> FieldReference
     requires { IsBounded program.now }
     ensures { IsFieldReference program.now (class_at program.now class.0).pool index true result }
 {
-    match program.classes.get(class.0 as usize) {
+    match program.class(class) {
         Some(class) => field_reference(program, &class.pool, index, true),
         None => FieldReference::NoType,
     }
@@ -298,7 +298,7 @@ fn static_field(program: &Program, class: ClassId, index: u16) -> FieldReference
 pub fn named_member(program: &Program, class: ClassId, index: u16) -> MemberReference<'_>
     ensures { in_bytes result ≡ member (class_at program.now class.0).pool index }
 {
-    match program.classes.get(class.0 as usize) {
+    match program.class(class) {
         Some(class) => member(&class.pool, index),
         None => MemberReference {
             class: &[],
