@@ -8,7 +8,6 @@ ghost use Rattle.vx_families.specs.Built.{is_built_operation};
 ghost use Rattle.vx_invoke.specs.Named.{pool_of};
 ghost use Rattle.vx_standing.specs.Attempted.{IsAttempted, IsUnbuiltThere, MayAttempt};
 ghost use Rattle.vx_attempt.specs.Families.{is_of};
-ghost use Rattle.vx_value.specs.declared.key.Kind.TheVariants.{Call};
 
 use crate::family::{Family, family_of};
 use crate::natives::carried_out;
@@ -93,8 +92,6 @@ fn attempt_at<S: Space>(
     requires given { IsGiven site.now operation (S.sets space.old) heap.old group }
     requires family { is_of family (pool_of site.now group) operation ≡ true }
     requires built { is_built_operation (pool_of site.now group) operation ≡ true }
-    requires kind { group.top.kind ≡ Call }
-    requires single { group.below ≡ [] }
     ensures extends { Extends (S.sets space.old) (S.sets space.new) }
     ensures ok { IfOk result (λ r. IsAttempted site.now.program.now (S.sets space.old) (S.sets space.new) heap.old heap.new group r.items.items) }
     ensures not_yet { result ≡ Err AttemptFault.NotYet → IsUnbuiltThere site.now.program.now (S.sets space.old) heap.old group }
@@ -115,8 +112,6 @@ fn attempt_in<S: Space>(
 ) -> Result<Outcomes<S>, AttemptFault>
     requires may { MayAttempt program.now (S.sets space.old) heap.old group }
     requires code { (method_at program.now group.top.method.0).code ≡ Some code.now }
-    requires kind { group.top.kind ≡ Call }
-    requires single { group.below ≡ [] }
     ensures extends { Extends (S.sets space.old) (S.sets space.new) }
     ensures ok { IfOk result (λ r. IsAttempted program.now (S.sets space.old) (S.sets space.new) heap.old heap.new group r.items.items) }
     ensures not_yet { result ≡ Err AttemptFault.NotYet → IsUnbuiltThere program.now (S.sets space.old) heap.old group }
@@ -155,9 +150,7 @@ pub fn attempt<S: Space>(
     heap: &mut Heap<S>,
     group: Group<S>,
 ) -> Result<Outcomes<S>, AttemptFault>
-    requires given { MayAttempt program.now (S.sets space.old) heap.old group }
-    requires kind { group.top.kind ≡ Call }
-    requires single { group.below ≡ [] }
+    requires { MayAttempt program.now (S.sets space.old) heap.old group }
     ensures extends { Extends (S.sets space.old) (S.sets space.new) }
     ensures ok { IfOk result (λ r. IsAttempted program.now (S.sets space.old) (S.sets space.new) heap.old heap.new group r.items.items) }
     ensures not_yet { result ≡ Err AttemptFault.NotYet → IsUnbuiltThere program.now (S.sets space.old) heap.old group }

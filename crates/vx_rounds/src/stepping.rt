@@ -1,10 +1,9 @@
 //! One round.
 
-ghost use Rattle.std.specs.Prelude.{◌≡◌, ◌<◌, Err, OnOk, Some, [], length, map, slice_get, true};
+ghost use Rattle.std.specs.Prelude.{◌≡◌, ◌<◌, Err, OnOk, Some, length, map, slice_get, true};
 ghost use Rattle.vx_space.specs.Sets.{Extends};
 ghost use Rattle.vx_space.specs.Under.{IsNumberUnder};
 ghost use Rattle.vx_group.specs.Group.{GroupView, path_of};
-ghost use Rattle.vx_value.specs.declared.key.Kind.TheVariants.{Call};
 ghost use Rattle.vx_standing.specs.Attempted.{IsUnbuiltThere, MayAttempt};
 ghost use Rattle.vx_standing.specs.Rounds.{IsRound, IsStuck};
 ghost use Rattle.vx_standing.specs.State.{IsState, state_ids};
@@ -35,8 +34,6 @@ fn make<S: Space>(
     attempts: &Cond<u64, S>,
 ) -> Result<(), AttemptFault>
     requires given { MayAttempt program.now (S.sets space.old) heap.old group }
-    requires kind { group.top.kind ≡ Call }
-    requires single { group.below ≡ [] }
     requires underway { IsUnderway program.now (S.sets space.old) heap.old limit round.old }
     requires attempts { IsCount (S.sets space.old) group limit attempts.now }
     requires vacant { IsVacant (S.sets space.old) round.old ((S.sets space.old).test (path_of group)) }

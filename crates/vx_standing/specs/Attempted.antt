@@ -1,5 +1,5 @@
 -- One attempt of a group with what a native method makes of it.
-use Rattle.std.specs.Prelude.{◌≡◌, ◌≢◌, Bool, true, false, List, Option, map}
+use Rattle.std.specs.Prelude.{◌≡◌, ◌≢◌, Bool, true, false, List, [], Option, map}
 use Rattle.vx_space.specs.Sets.{AreKnown, Sets}
 use Rattle.vx_group.specs.declared.callers.Caller.{Caller}
 use Rattle.vx_group.specs.Group.{GroupView, path_of}
@@ -14,17 +14,20 @@ use Rattle.vx_link.specs.declared.program.Program.{Program}
 use Rattle.vx_outcome.specs.Outcome.{condition_of}
 use Rattle.vx_outcome.specs.declared.outcome.Outcome.{Outcome}
 use Rattle.vx_group_states.specs.Stands.{Attempts, StandsIn, state_at}
+use Rattle.vx_value.specs.declared.key.Kind.TheVariants.{Call}
 
 -- what an attempt comes to, with a native method carried out
 abbrev pub carried_out_row : Program → State → PlainOutcome
 carried_out_row p s = outcome_carried_out p (row p s)
 
--- a group of one frame that makes an attempt over a heap, in some tree
+-- a group of one frame, which runs its method, makes an attempt over a heap, in some tree
 pub record MayAttempt {S I : Type 0} (p : Program) (sets : Sets I) (heap : HeapView S I) (group : GroupView S I) : Type 0 where
   pub bounded : IsBounded p
   pub is_heap : IsHeap sets heap
   pub is_for : IsHeapFor p heap
   pub nonempty : path_of group ≢ sets.never
+  pub kind : group.top.kind ≡ Call
+  pub single : group.below ≡ []
   pub tree : List (Option (Caller S I))
   pub stands : StandsIn p sets heap tree group
 

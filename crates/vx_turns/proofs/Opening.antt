@@ -19,7 +19,6 @@ use Rattle.vx_sched.specs.Groups as sched
 use Rattle.vx_sched.proofs.GroupsLaws.{IsTaken, is_taken, shaped_taken}
 use Rattle.vx_group_states.specs.Stands.{StandsIn, frame_held, is_shaped, state_at}
 use Rattle.vx_group_states.proofs.StateLaws.{StandsIn-extends, state_at-extends}
-use Rattle.vx_value.specs.declared.key.Kind.TheVariants.{Call}
 use Rattle.vx_placing.specs.declared.round.Round.{Round}
 use Rattle.vx_standing.specs.Attempted.{MayAttempt}
 use Rattle.vx_standing.specs.Waiting.{AreWaiting, IsGood, is_one}
@@ -108,14 +107,11 @@ spent_may p {s0 = s0} e allowed st after which round group spent attempts h b q 
       is_heap = IsHeap-extends e st.heap h.is_heap;
       is_for = h.is_for;
       nonempty = λ n. (chosen_taken p s0 allowed st after which round group h b).beside.nonempty (sym q.path ∙ n ∙ e.never);
+      kind = ap (λ g. g.top.kind) q.same ∙ running.kind;
+      single = ap (λ g. g.below) q.same ∙ running.single;
       tree = st.tree;
       stands = spent_stands p e st.heap h.is_heap st.tree group spent attempts running.stands q;
     }
-
-pub spent_kind : {S I : Type 0} (p : Program) (s0 s1 : Sets I) (allowed : I) (st after : StateView S I) (which : ℕ) (round : Round S I) (group spent : GroupView S I) (attempts : Conditional ℕ S I) → IsState p s0 allowed st → IsBegun st after which round group → IsSpent s0 s1 group spent attempts → (spent.top.kind ≡ Call) × (spent.below ≡ [])
-spent_kind p s0 s1 allowed st after which round group spent attempts h b q =
-    let running = chosen_running p s0 allowed st after which round group h b in
-    (ap (λ g. g.top.kind) q.same ∙ running.kind, ap (λ g. g.below) q.same ∙ running.single)
 
 pub spent_count : {S I : Type 0} (p : Program) {s0 s1 : Sets I} → Extends s0 s1 → (allowed : I) (st after : StateView S I) (which : ℕ) (round : Round S I) (group spent : GroupView S I) (attempts : Conditional ℕ S I) → IsState p s0 allowed st → IsBegun st after which round group → IsSpent s0 s1 group spent attempts → IsCount s1 spent st.limit attempts
 spent_count p {s0 = s0} {s1 = s1} e allowed st after which round group spent attempts h b q =

@@ -4,6 +4,9 @@ use Rattle.vx_attempt.proofs.Calls.{attempt_calls, attempt_known}
 use Rattle.vx_attempt.proofs.Making.{attempted, unbuilt_met, unbuilt_outcome}
 use Rattle.vx_attempt.proofs.attempting.attempt_at.Goals as goal
 
+pub by_family-requires-clause-single : goal.by_family-requires-clause-single
+by_family-requires-clause-single g c = c.requires.may.single
+
 pub carried_out-requires-clause-known : goal.carried_out-requires-clause-known
 carried_out-requires-clause-known g c = attempt_known c.args.site.now c.args.operation _ _ c.args.heap.now _ c.requires.may.tree c.args.group _ c.requires.may.stands c.in_ok-outcomes.ensures.ok
 
@@ -13,7 +16,7 @@ carried_out-requires-clause-calls g c = attempt_calls c.args.site.now c.args.ope
 pub returns-in_err-outcomes-clause-not_yet : goal.returns-in_err-outcomes-clause-not_yet
 returns-in_err-outcomes-clause-not_yet g c = λ e.
     let p = err_from_is_err_and c.from_residual.result c.from_residual.ensures.1 in
-    unbuilt_met c.args.site.now _ c.args.heap.now c.args.group c.requires.may c.requires.single (c.in_err-outcomes.ensures.not_yet (cc (e, p.1, p.2)))
+    unbuilt_met c.args.site.now _ c.args.heap.now c.args.group c.requires.may c.requires.may.single (c.in_err-outcomes.ensures.not_yet (cc (e, p.1, p.2)))
 
 pub returns-in_err-made-clause-extends : goal.returns-in_err-made-clause-extends
 returns-in_err-made-clause-extends g c = Extends-trans c.in_ok-outcomes.ensures.extends c.in_err-made.ensures.extends

@@ -4,7 +4,7 @@ use Rattle.vx_standing.specs.State.{StateView}
 use Rattle.vx_turns.proofs.Closing.{closed_nodes, rounds_small}
 use Rattle.vx_placing.proofs.Going.{IsVacant-inside}
 use Rattle.vx_standing.proofs.Keeping.{state_known}
-use Rattle.vx_turns.proofs.Opening.{begun_underway, begun_unwritten, begun_vacant, chosen_is_group, may_spend, spent_count, spent_kind, spent_may}
+use Rattle.vx_turns.proofs.Opening.{begun_underway, begun_unwritten, begun_vacant, chosen_is_group, may_spend, spent_count, spent_may}
 use Rattle.vx_placing.proofs.Putting.{IsUnderway-extends}
 use Rattle.vx_turns.proofs.Whole.{IsRound-closed, IsStuck-met, IsTurn-made, compacted_state}
 use Rattle.vx_rounds.proofs.stepping.step_group.Goals as goal
@@ -27,16 +27,6 @@ make-requires-clause-given g c =
     let h = compacted_state c.args.program.now _ _ c.args.state.now.heap.allowed c.args.state.now c.requires.state c.in_ok-compact.ensures.compacted in
     rw (ap (λ (x : StateView g.row.S.Denot g.row.S-Id.Denot). x.heap) (c.state.view_is ∙ c.begin_round-begun.ensures.state))
     (spent_may c.args.program.now c.in_ok-spent.ensures.extends c.args.state.now.heap.allowed c.args.state.now c.begin_round-begun.new.state c.args.which c.begin_round-begun.result.0 c.begin_round-begun.result.1 c.in_ok-spent.spent c.in_ok-spent.attempts h c.begin_round-begun.ensures c.in_ok-spent.ensures.spent)
-
-pub make-requires-clause-kind : goal.make-requires-clause-kind
-make-requires-clause-kind g c =
-    let h = compacted_state c.args.program.now _ _ c.args.state.now.heap.allowed c.args.state.now c.requires.state c.in_ok-compact.ensures.compacted in
-    (spent_kind c.args.program.now _ _ c.args.state.now.heap.allowed c.args.state.now c.begin_round-begun.new.state c.args.which c.begin_round-begun.result.0 c.begin_round-begun.result.1 c.in_ok-spent.spent c.in_ok-spent.attempts h c.begin_round-begun.ensures c.in_ok-spent.ensures.spent).0
-
-pub make-requires-clause-single : goal.make-requires-clause-single
-make-requires-clause-single g c =
-    let h = compacted_state c.args.program.now _ _ c.args.state.now.heap.allowed c.args.state.now c.requires.state c.in_ok-compact.ensures.compacted in
-    (spent_kind c.args.program.now _ _ c.args.state.now.heap.allowed c.args.state.now c.begin_round-begun.new.state c.args.which c.begin_round-begun.result.0 c.begin_round-begun.result.1 c.in_ok-spent.spent c.in_ok-spent.attempts h c.begin_round-begun.ensures c.in_ok-spent.ensures.spent).1
 
 pub make-requires-clause-underway : goal.make-requires-clause-underway
 make-requires-clause-underway g c =
