@@ -1,2 +1,3 @@
 pub mod Matching
 pub mod AllLines
+pub mod OneText

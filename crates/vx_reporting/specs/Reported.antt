@@ -53,3 +53,7 @@ pub record IsReported (version : ℕ) (options : List (List ℕ)) (limit : ℕ) 
   pub others : (c : Config) → length c ≡ length options → is_allowed c ≡ false → IsHeldNowhere report c
   pub numbered : IsNumbered (length options) report.nodes (roots_of report)
   pub lockstep : (list : List Config) → AreAllowed (length options) is_allowed list → SaysLockstep list (lock_report program list limit version) report
+
+-- no other text is the report of the program
+pub record IsOnlyReport (version : ℕ) (options : List (List ℕ)) (limit : ℕ) (is_allowed : Config → Bool) (program : Program) (text : List ℕ) : Type 0 where
+  pub only : (other : List ℕ) → IsReported version options limit is_allowed program other → other ≡ text

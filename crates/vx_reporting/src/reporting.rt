@@ -8,7 +8,7 @@ ghost use Rattle.vx_link.specs.declared.program.Program.{Program};
 ghost use Rattle.vx_standing.specs.State.{shared_ids};
 ghost use Rattle.vx_space.specs.Sets.{AreKnown};
 ghost use Rattle.vx_reporting.specs.Listed.{report_with};
-ghost use Rattle.vx_reporting.specs.Reported.{IsReported};
+ghost use Rattle.vx_reporting.specs.Reported.{IsOnlyReport, IsReported};
 
 use crate::lines::{attempts_of, ends_of, pieces_of};
 use std::alloc::{AllocError, Global};
@@ -95,10 +95,15 @@ pub fn report_findings<S: Space>(
 ) -> Result<Vec<u8>, AllocError>
     requires options { length options ≡ (S.sets space.now).options }
     requires known { AreKnown (S.sets space.now) (shared_ids findings.found ++ (shared_ids findings.ends ++ shared_ids findings.spent)) }
-    ensures { IfOk result (λ text. (program : Program) (is_allowed : Config → Bool) →
+    ensures reported { IfOk result (λ text. (program : Program) (is_allowed : Config → Bool) →
         AreFindings program (S.sets space.now) is_allowed limit findings →
         ((list : List Config) (version : ℕ) → AreAllowed (S.sets space.now).options is_allowed list → lock_report program list limit version ≡ report_by (S.sets space.now) list limit version findings) →
         IsReported version options limit is_allowed program text.items) }
+
+    // No other text is the report of the program, whatever the space and the picker: the nodes are numbered in one way, and
+    // what they hold is what lockstep says.
+    ensures only { IfOk result (λ text. (program : Program) (is_allowed : Config → Bool) →
+        IsReported version options limit is_allowed program text.items → IsOnlyReport version options limit is_allowed program text.items) }
 {
     let ids = sets_of(alloc, version, &findings)?;
     let list = listing(alloc, space, ids.as_slice())?;

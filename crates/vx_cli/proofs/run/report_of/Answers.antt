@@ -21,7 +21,7 @@ pub returns-in-Ok : goal.returns-in-Ok
 returns-in-Ok c =
     reported_run c.args.words.main.now c.args.words.limit c.args.words.version c.args.modeled.model c.args.found.classes.items c.in_ok-program.program c.in_ok-names.names _ _ _ _ _ c.in_ok-program.ensures c.in_ok-names.ensures
     c.requires.allowed.test c.in-Ok.ensures.options c.in-Ok.ensures.findings (c.in-Ok.ensures.lockstep (λ keys place h. h))
-    (c.in_ok-report_findings-in-Ok.ensures c.in_ok-program.program (is_allowed c.args.modeled.model))
+    (c.in_ok-report_findings-in-Ok.ensures.reported c.in_ok-program.program (is_allowed c.args.modeled.model))
 
 pub returns : goal.returns
 returns c =
