@@ -249,7 +249,7 @@ class_at held folder path (p ∷ before) after [] h = absurd h
 class_at held folder path (p ∷ before) after (c ∷ classes) h = class_at held folder path before after classes h.2
 
 -- files spell one list of classes
-same_classes : (held : Held) (folder : List ℕ) (paths : List (List ℕ)) (a b : List ClassFile) → AreClasses held folder paths a → AreClasses held folder paths b → a ≡ b
+pub same_classes : (held : Held) (folder : List ℕ) (paths : List (List ℕ)) (a b : List ClassFile) → AreClasses held folder paths a → AreClasses held folder paths b → a ≡ b
 same_classes held folder [] [] [] h k = refl
 same_classes held folder [] [] (c ∷ b) h k = absurd k
 same_classes held folder [] (c ∷ a) b h k = absurd h

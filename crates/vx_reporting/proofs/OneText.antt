@@ -69,7 +69,8 @@ allowed_of n is_allowed = record {
   complete = λ c size allowed. in_filter is_allowed (configurations n) c (Contains-configurations n c size) allowed;
 }
 
-one_text : (version : ℕ) (options : List (List ℕ)) (limit : ℕ) (is_allowed : Config → Bool) (p : Program) (one other : List ℕ)
+-- two texts that are the report of a program are one
+pub one_text : (version : ℕ) (options : List (List ℕ)) (limit : ℕ) (is_allowed : Config → Bool) (p : Program) (one other : List ℕ)
     → IsReported version options limit is_allowed p one → IsReported version options limit is_allowed p other → one ≡ other
 one_text version options limit is_allowed p one other h k =
     let r = h.report in
@@ -80,7 +81,7 @@ one_text version options limit is_allowed p one other h k =
     let are = allowed_of (length options) is_allowed in
     let all : HasAllowed (length r.options) is_allowed list = λ c size allowed. are.complete c (size ∙ n) allowed in
     let same = say_same is_allowed list (lock_report p list limit version) r q all (h.version_is ∙ sym k.version_is) (h.options_are ∙ sym k.options_are) (h.limit_is ∙ sym k.limit_is) (h.lockstep list are) (k.lockstep list are)
-        (none_of (length r.options) is_allowed r (λ c size refused. h.others c (size ∙ n) refused)) (none_of (length r.options) is_allowed q (λ c size refused. k.others c (size ∙ n) refused)) in
+    (none_of (length r.options) is_allowed r (λ c size refused. h.others c (size ∙ n) refused)) (none_of (length r.options) is_allowed q (λ c size refused. k.others c (size ∙ n) refused)) in
     h.spelled ∙ ap report_text (reports_one r q (rw n h.numbered) (rw m k.numbered) same) ∙ sym k.spelled
 
 -- so the text that is written is the only one

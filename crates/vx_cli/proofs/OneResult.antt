@@ -1,0 +1,55 @@
+-- What a command asks for is one text.
+use Rattle.std.proofs.Common.{◌≡◌, ℕ, List, IfSome, Ok, Some, ap, sym, subst, ◌∙◌}
+use Rattle.vx_io.specs.Held.{FilesState, Held, contents}
+use Rattle.vx_io.specs.Sink.{Gains, SinkState}
+use Rattle.vx_model.specs.Models.{is_allowed}
+use Rattle.vx_report_reader.proofs.Verdicts.{report_same}
+use Rattle.vx_reporting.proofs.OneText.{one_text}
+use Rattle.vx_reporting.specs.Reported.{IsReported}
+use Rattle.vx_cli.specs.Causes.{AreClasses, IsAssembled, IsProjection, IsReport, IsResult, IsShown}
+use Rattle.vx_cli.specs.Command.{Asm, Command, Project, Run}
+use Rattle.vx_cli.specs.Ends.{Ends}
+use Rattle.vx_cli.specs.Job.{names_of, program_in}
+use Rattle.vx_cli.specs.PlanOf.{plan_of}
+use Rattle.vx_cli.specs.Project.{projected}
+use Rattle.vx_cli.specs.Run.{class_paths}
+use Rattle.vx_cli.specs.declared.status.Status.{Status}
+use Rattle.vx_cli.specs.declared.status.Status.TheVariants.{Done}
+use Rattle.vx_cli.proofs.OneListing.{one_listing}
+use Rattle.vx_cli.proofs.RunShown.{same_classes}
+use Rattle.vx_cli.proofs.Shown.{call_shows}
+use Rattle.vx_cli.proofs.Told.{same_value}
+
+-- the same model, paths, classes and program, and so the same report
+one_report : (held : Held) (folder path main : List ℕ) (limit version : ℕ) (one other : List ℕ) → IsReport held folder path main limit version one → IsReport held folder path main limit version other → one ≡ other
+one_report held folder path main limit version one other h k =
+    let model : h.model ≡ k.model = same_value h.model k.model _ h.modeled.spelled.reads k.modeled.spelled.reads in
+    let listing = one_listing held folder h.all.listed.listing k.all.listed.listing h.all.listed.listed k.all.listed.listed in
+    let paths : h.paths ≡ k.paths = h.all.listed.classes ∙ ap class_paths listing ∙ sym k.all.listed.classes in
+    let classes : h.classes ≡ k.classes = same_classes held folder h.paths h.classes k.classes h.all.good (subst (λ p. AreClasses held folder p k.classes) (sym paths) k.all.good) in
+    let program : h.reported.program ≡ k.reported.program = same_value h.reported.program k.reported.program (program_in main h.model h.classes) h.reported.is_program
+    (subst (λ c. program_in main h.model c ≡ Ok k.reported.program) (sym classes) (subst (λ m. program_in main m k.classes ≡ Ok k.reported.program) (sym model) k.reported.is_program)) in
+    one_text version (names_of h.model) limit (is_allowed h.model) h.reported.program one other h.reported.is_report
+    (subst (λ p. IsReported version (names_of h.model) limit (is_allowed h.model) p other) (sym program) (subst (λ m. IsReported version (names_of m) limit (is_allowed m) k.reported.program other) (sym model) k.reported.is_report))
+
+one_projection : (held : Held) (path word one other : List ℕ) → IsProjection held path word one → IsProjection held path word other → one ≡ other
+one_projection held path word one other h k =
+    let report : h.report ≡ k.report = report_same (contents held path) h.report k.report h.is_report.spells k.is_report.spells in
+    same_value one other (projected h.report word) h.is_text (subst (λ r. projected r word ≡ Ok other) (sym report) k.is_text)
+
+one_result : (held : Held) (command : Command) (one other : List ℕ) → IsResult held command one → IsResult held command other → one ≡ other
+one_result held (Run folder path main limit version) one other h k = one_report held folder path main limit version one other h k
+one_result held (Project path word) one other h k = one_projection held path word one other h k
+one_result held (Asm path) one other h k = same_value one other _ h.is_text k.is_text
+
+-- a call that is done has written each text that its command asks for, of which there is one
+pub done_only : (old new : FilesState) (out out' : SinkState) (command : Command) (status : Status) → Ends old new out out' (plan_of command) status → (held : Held) (text : List ℕ) → old.held ≡ Some held → status ≡ Done
+    → IsResult held command text → Gains out out' text
+done_only old new out out' command status ends held text told done result =
+    by_text (there (λ files. (t : List ℕ) × IsResult files command t × Gains out out' t) (subst (λ s. IsShown old new out out' command s) done (call_shows old new out out' command status ends)))
+  where
+    there : (P : Held → Type 0) → IfSome old.held P → P held
+    there P h = rw told at h
+
+    by_text : (t : List ℕ) × IsResult held command t × Gains out out' t → Gains out out' text
+    by_text h = subst (Gains out out') (one_result held command h.0 text h.1 result) h.2
