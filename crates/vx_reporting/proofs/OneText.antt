@@ -3,7 +3,7 @@ use Rattle.std.proofs.Common.{◌≡◌, ℕ, Bool, true, false, List, ◌++◌,
 use Rattle.std.specs.Prelude.{Contains}
 use Rattle.std.specs.declared.alloc.AllocError.{AllocError}
 use Rattle.vx_bdd_tools.specs.declared.node.Node.{Node}
-use Rattle.vx_engine.specs.Findings.{AreAllowed}
+use Rattle.vx_lockstep.specs.Findings.{AreAllowed}
 use Rattle.vx_java.specs.Report.{LockReport, lock_report}
 use Rattle.vx_java.specs.Step.{Config}
 use Rattle.vx_link.specs.declared.program.Program.{Program}
@@ -15,8 +15,8 @@ use Rattle.vx_report.specs.declared.report.AttemptLine.{AttemptLine}
 use Rattle.vx_report.specs.declared.report.EndLine.{EndLine}
 use Rattle.vx_report.specs.declared.report.Piece.{Piece}
 use Rattle.vx_report.specs.declared.report.Report.{Report}
-use Rattle.vx_rounds.proofs.Configurations.{Contains-configurations}
-use Rattle.vx_rounds.specs.State.{configurations}
+use Rattle.vx_standing.proofs.Configurations.{Contains-configurations}
+use Rattle.vx_standing.specs.State.{configurations}
 use Rattle.vx_reporting.specs.Reported.{IsHeldNowhere, IsOnlyReport, IsReported, SaysLockstep, attempts_of, configs_of, end_of, piece_of}
 
 -- none of the nodes that the pieces, the ends and the numbers of attempts name holds another configuration
