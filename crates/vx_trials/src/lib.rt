@@ -384,7 +384,7 @@ mod tests {
         err: SteadySink,
     }
 
-    fn answer(rt: &impl Abort, alloc: Global, files: &mut SteadyFiles, text: &str) -> Answer {
+    fn called(rt: &impl Abort, alloc: Global, files: &mut SteadyFiles, text: &str) -> Answer {
         let words = words(alloc, text).expect(rt, "memory");
         let mut out = SteadySink::new(alloc).expect(rt, "memory");
         let mut err = SteadySink::new(alloc).expect(rt, "memory");
@@ -404,7 +404,7 @@ mod tests {
         case: (&str, u8, &str, &str),
     ) -> bool {
         let (text, code, written, line) = case;
-        let answer = answer(rt, alloc, files, text);
+        let answer = called(rt, alloc, files, text);
         answer.code == code
             && answer.out.written() == written.as_bytes()
             && answer.err.written() == line.as_bytes()
@@ -470,7 +470,7 @@ mod tests {
     fn the_smallest_class(rt: HostRuntime) {
         let source = b"class 0021 Main java/lang/Object\n";
         let mut files = one_file(&rt, rt.alloc(), "s", source);
-        let answer = answer(&rt, rt.alloc(), &mut files, "asm s");
+        let answer = called(&rt, rt.alloc(), &mut files, "asm s");
         assert!(rt; answer.code == 0 && answer.out.written() == SMALLEST_CLASS);
     }
 
@@ -492,7 +492,7 @@ mod tests {
         put_file(alloc, &mut held, "f/Main.class", PRINTS_NUMBER).expect(&rt, "memory");
         assert!(rt; are_distinct(held.as_slice()));
         let mut files = SteadyFiles::new(alloc, held).expect(&rt, "memory");
-        let answer = answer(&rt, alloc, &mut files, "run f m.cnf Main 100 1");
+        let answer = called(&rt, alloc, &mut files, "run f m.cnf Main 100 1");
         let written = answer.out.written();
         let front = b"varexj report 1\noptions 64\noption v1\n";
         let back =
