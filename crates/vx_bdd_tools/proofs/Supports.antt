@@ -49,14 +49,14 @@ lawful_list {options = options} {nodes = nodes} few r = record {
 }
 
 -- a node's set depends on its option
-depends_here : {options : ℕ} {nodes : List Node} → options < 65 → IsReducedList options nodes → (k : ℕ) (node : Node) → node_of nodes k ≡ Some node → Depends (holds nodes k) node.option
+pub depends_here : {options : ℕ} {nodes : List Node} → options < 65 → IsReducedList options nodes → (k : ℕ) (node : Node) → node_of nodes k ≡ Some node → Depends (holds nodes k) node.option
 depends_here {options = options} {nodes = nodes} few r k node e =
     let n = node_rules r k node e in
     let d = some_difference (lawful_list few r) node.high node.low (lt_known node.high (length nodes + 2) (omega (arith, n.high_falls, n.within))) (lt_known node.low (length nodes + 2) (omega (arith, n.low_falls, n.within))) (λ q. n.differ (sym q)) in
     (d.0, λ q. d.1 (sym (holds-part r k node d.0 true e) ∙ q ∙ holds-part r k node d.0 false e))
 
 -- it depends on the options on which its parts do
-depends_above : {options : ℕ} {nodes : List Node} → IsReducedList options nodes → (k : ℕ) (node : Node) → node_of nodes k ≡ Some node → (b : Bool) (o : ℕ) → Depends (holds nodes (if b then node.high else node.low)) o → Depends (holds nodes k) o
+pub depends_above : {options : ℕ} {nodes : List Node} → IsReducedList options nodes → (k : ℕ) (node : Node) → node_of nodes k ≡ Some node → (b : Bool) (o : ℕ) → Depends (holds nodes (if b then node.high else node.low)) o → Depends (holds nodes k) o
 depends_above {nodes = nodes} r k node e b o d =
     let c = d.0 in
     let part = if b then node.high else node.low in

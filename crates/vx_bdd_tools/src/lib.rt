@@ -5,8 +5,10 @@ pub mod member;
 pub mod node;
 pub mod numbering;
 pub mod options;
+pub mod sets;
 
 pub use member::one_of;
 pub use node::{Node, NodeList};
 pub use numbering::listing;
 pub use options::support;
+pub use sets::sets_of;

@@ -1,0 +1,4 @@
+pub mod Agreement
+pub mod Letters
+pub mod Matching
+pub mod Ends

@@ -1,0 +1,63 @@
+//! The configurations at which two reports say the same.
+
+ghost use Rattle.std.specs.Prelude.{◌≡◌, IfOk, length};
+ghost use Rattle.vx_space.specs.Sets.{Extends};
+ghost use Rattle.vx_bdd_tools.specs.Listing.{AreSetsOf};
+ghost use Rattle.vx_report_reader.specs.Lawful.{IsLawful};
+ghost use Rattle.vx_agree.specs.Agreement.{IsAgreement};
+
+use crate::ends::same_end;
+use crate::letter::letters_of;
+use crate::matching::same_output;
+use std::alloc::Global;
+use vx_bdd_tools::sets_of;
+use vx_report::Report;
+use vx_space::{Space, SpaceFault};
+
+/// The agreement of two reports, from the sets of their nodes.
+fn agreement_of<S: Space>(
+    alloc: Global,
+    space: &mut S,
+    one: &Report,
+    sets: &[S::Id],
+    other: &Report,
+    other_sets: &[S::Id],
+) -> Result<S::Id, SpaceFault>
+    requires sets { AreSetsOf (S.sets space.old) one.now.nodes sets.now }
+    requires other_sets { AreSetsOf (S.sets space.old) other.now.nodes other_sets.now }
+    ensures extends { Extends (S.sets space.old) (S.sets space.new) }
+    ensures agreement { IfOk result (IsAgreement (S.sets space.new) one.now other.now) }
+{
+    let letters = letters_of(alloc, space, one, sets)?;
+    let other_letters = letters_of(alloc, space, other, other_sets)?;
+    let output = same_output(alloc, space, letters.as_slice(), other_letters.as_slice())?;
+    let end = same_end(space, one, sets, other, other_sets)?;
+    space.and(output, end)
+}
+
+/// The configurations at which two reports over the same options have equal output, as bytes on streams in order, and an
+/// equal end, the first end that holds the configuration. Numbers of attempts, rounds and limits are not compared.
+pub fn agreement<S: Space>(
+    alloc: Global,
+    space: &mut S,
+    one: &Report,
+    other: &Report,
+) -> Result<S::Id, SpaceFault>
+    requires one { IsLawful one.now }
+    requires other { IsLawful other.now }
+    requires names { one.now.options ≡ other.now.options }
+    requires options { length one.now.options ≡ (S.sets space.old).options }
+    ensures extends { Extends (S.sets space.old) (S.sets space.new) }
+    ensures agreement { IfOk result (IsAgreement (S.sets space.new) one.now other.now) }
+{
+    let sets = sets_of(alloc, space, one.nodes.as_slice())?;
+    let other_sets = sets_of(alloc, space, other.nodes.as_slice())?;
+    agreement_of(
+        alloc,
+        space,
+        one,
+        sets.as_slice(),
+        other,
+        other_sets.as_slice(),
+    )
+}

@@ -1,0 +1,3 @@
+mod NodeOptions
+mod OptionBits
+mod Entries
