@@ -3,3 +3,4 @@ pub mod Given
 pub mod AttemptLaws
 pub mod EndingLaws
 pub mod Pushes
+pub mod SlotSorts

@@ -3,3 +3,4 @@ pub mod Attempts
 pub mod Pushing
 pub mod Built
 pub mod Texts
+pub mod Sorts

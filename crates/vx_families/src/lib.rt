@@ -1,11 +1,15 @@
-//! What the families of instructions share: what each is given and promises, and the outcomes in which a whole group ends
-//! or raises.
+//! What the families of instructions share: what each is given and promises, the outcomes in which a whole group ends or
+//! raises, and the sorts of slots.
 #![tactic(auto)]
 
 pub mod endings;
 pub mod fault;
 pub mod pushing;
+pub mod sorts;
+pub mod words;
 
 pub use endings::{core_class, raise, unsupported};
 pub use fault::AttemptFault;
 pub use pushing::push_answers;
+pub use sorts::slot_is_of;
+pub use words::{CLASS_WORD, CONSTANT_WORD, FIELD_WORD, FLOAT_WORD, METHOD_WORD, NATIVE_WORD};

@@ -24,7 +24,8 @@ use Rattle.vx_value.specs.declared.slot.Slot.TheVariants.{Top, Int, Long, Null, 
 use Rattle.vx_ready.specs.Changing.{IsChanged}
 use Rattle.vx_ready.specs.Running.{IsRunning}
 use Rattle.vx_group.specs.Group.{GroupView}
-use Rattle.vx_fields.specs.Statics.{narrowed_slot, slot_fits, slot_is_of, stored, top_of}
+use Rattle.vx_families.proofs.SlotSorts.{same_sort}
+use Rattle.vx_fields.specs.Statics.{narrowed_slot, slot_fits, stored, top_of}
 use Rattle.vx_ready.proofs.Changes.{IsChanged-none}
 
 -- ---- slots
@@ -47,29 +48,9 @@ narrowed_held sets heap c (Some to) Null = refl
 narrowed_held sets heap c (Some to) (Ref r) = refl
 narrowed_held sets heap c (Some to) (Text n) = refl
 
-is_of_plain : {S I : Type 0} (sets : Sets I) (heap : HeapView S I) (c : List Bool) (s : Sort) (slot : Slot) → is_of_sort (Some s) (value_of sets heap c slot) ≡ slot_is_of s slot
-is_of_plain sets heap c sort.Int Top = refl
-is_of_plain sets heap c sort.Int (Int n) = refl
-is_of_plain sets heap c sort.Int (Long n) = refl
-is_of_plain sets heap c sort.Int Null = refl
-is_of_plain sets heap c sort.Int (Ref r) = refl
-is_of_plain sets heap c sort.Int (Text n) = refl
-is_of_plain sets heap c sort.Long Top = refl
-is_of_plain sets heap c sort.Long (Int n) = refl
-is_of_plain sets heap c sort.Long (Long n) = refl
-is_of_plain sets heap c sort.Long Null = refl
-is_of_plain sets heap c sort.Long (Ref r) = refl
-is_of_plain sets heap c sort.Long (Text n) = refl
-is_of_plain sets heap c sort.Reference Top = refl
-is_of_plain sets heap c sort.Reference (Int n) = refl
-is_of_plain sets heap c sort.Reference (Long n) = refl
-is_of_plain sets heap c sort.Reference Null = refl
-is_of_plain sets heap c sort.Reference (Ref r) = refl
-is_of_plain sets heap c sort.Reference (Text n) = refl
-
 pub fits_plain : {S I : Type 0} (sets : Sets I) (heap : HeapView S I) (c : List Bool) (s : Option Sort) (slot : Slot) → is_of_sort s (value_of sets heap c slot) ≡ slot_fits s slot
 fits_plain sets heap c None slot = refl
-fits_plain sets heap c (Some s) slot = is_of_plain sets heap c s slot
+fits_plain sets heap c (Some s) slot = same_sort sets heap c s slot
 
 -- ---- the field
 

@@ -16,6 +16,7 @@ use Rattle.vx_value.specs.Arithmetic.{narrow_of}
 use Rattle.vx_value.specs.declared.operation.Narrow.{Narrow}
 use Rattle.vx_value.specs.declared.slot.Slot.{Slot}
 use Rattle.vx_value.specs.declared.slot.Slot.TheVariants.{Top, Int, Long, Null, Ref}
+use Rattle.vx_families.specs.Sorts.{slot_is_of}
 
 -- the operations of this family
 abbrev pub is_of_statics : Operation → Bool
@@ -31,14 +32,6 @@ got found h =
     when (has_room h (width_of_type found.type) h.state.top.operands)
     (when_initialised h (declaring h found) (λ g. go g (static_value g.state found ∷ g.state.top.operands)))
     (illegal h)
-
--- what a slot has to be for a field of a sort
-abbrev pub slot_is_of : Sort → Slot → Bool
-slot_is_of sort.Int (Int n) = true
-slot_is_of sort.Long (Long n) = true
-slot_is_of sort.Reference Null = true
-slot_is_of sort.Reference (Ref r) = true
-slot_is_of _ _ = false
 
 abbrev pub slot_fits : Option Sort → Slot → Bool
 slot_fits None slot = false

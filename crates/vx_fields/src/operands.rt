@@ -10,11 +10,13 @@ ghost use Rattle.vx_space.specs.Sets.{Extends, IsKnown, IsSet};
 ghost use Rattle.vx_group_states.specs.Answering.{operands_at};
 ghost use Rattle.vx_group_states.specs.Widths.{slots_size};
 ghost use Rattle.vx_value.specs.Slot.{slot_cmp};
-ghost use Rattle.vx_fields.specs.Statics.{narrowed_slot, slot_fits, slot_is_of, top_fits, top_of};
+ghost use Rattle.vx_families.specs.Sorts.{slot_is_of};
+ghost use Rattle.vx_fields.specs.Statics.{narrowed_slot, slot_fits, top_fits, top_of};
 
 use std::alloc::Global;
 use vx_cond::Cond;
 use vx_desc::{Base, JavaType};
+use vx_families::slot_is_of;
 use vx_group::Group;
 use vx_group_states::stack_size;
 use vx_java::Sort;
@@ -42,23 +44,12 @@ fn has_room(size: u64, width: u64, room: u16) -> bool
     size.saturating_add(width) <= u64::from(room)
 }
 
-fn is_of(sort: Sort, slot: Slot) -> bool
-    ensures { result ≡ slot_is_of sort slot }
-{
-    match (sort, slot) {
-        (Sort::Int, Slot::Int(_))
-        | (Sort::Long, Slot::Long(_))
-        | (Sort::Reference, Slot::Null | Slot::Ref(_)) => true,
-        _ => false,
-    }
-}
-
 /// Whether a slot is of the sort of a type.
 fn fits(field_type: JavaType, slot: Slot) -> bool
     ensures { result ≡ slot_fits (sort_of field_type) slot }
 {
     match sort_of(field_type) {
-        Some(sort) => is_of(sort, slot),
+        Some(sort) => slot_is_of(sort, slot),
         None => false,
     }
 }

@@ -10,7 +10,7 @@ ghost use Rattle.vx_group_states.specs.Sites.{Gives, here};
 ghost use Rattle.vx_references.specs.Fields.{by_reference, is_ending, is_found};
 
 use std::alloc::{AllocError, Global};
-use vx_families::{raise, unsupported};
+use vx_families::{CLASS_WORD, FIELD_WORD, FLOAT_WORD, raise, unsupported};
 use vx_group::Group;
 use vx_group_states::{Site, illegal};
 use vx_java::MemberReference;
@@ -18,13 +18,6 @@ use vx_outcome::Outcomes;
 use vx_references::FieldReference;
 use vx_space::{Space, SpaceFault};
 use vx_value::Name;
-
-/// The words for what ends a run as unsupported: a float or a double, a class, a field.
-const FLOAT_WORD: u8 = 1;
-
-const CLASS_WORD: u8 = 6;
-
-const FIELD_WORD: u8 = 7;
 
 /// The class, the name and the descriptor of a field, as reports name it.
 fn field_text(alloc: Global, named: &MemberReference<'_>) -> Result<Name, AllocError>

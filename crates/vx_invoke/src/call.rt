@@ -67,7 +67,7 @@ fn accepts(program: &Program, named: ClassId, class: ClassId) -> bool
 fn has_code(program: &Program, method: MethodId) -> bool
     ensures { result ≡ is_some (method_at program.now method.0).code }
 {
-    match program.methods.get(method.0 as usize) {
+    match program.method(method) {
         Some(method) => method.code.is_some(),
         None => false,
     }
@@ -76,7 +76,7 @@ fn has_code(program: &Program, method: MethodId) -> bool
 fn native_number(program: &Program, method: MethodId) -> u32
     ensures { result ≡ (method_at program.now method.0).native }
 {
-    match program.methods.get(method.0 as usize) {
+    match program.method(method) {
         Some(method) => method.native,
         None => 0,
     }

@@ -16,7 +16,7 @@ ghost use Rattle.vx_references.specs.Calls.{println, referenced};
 use crate::call::{Call, Receiver, call_of, receiver_of};
 use std::alloc::Global;
 use vx_cond::Leaf;
-use vx_families::{AttemptFault, raise, unsupported};
+use vx_families::{AttemptFault, CLASS_WORD, METHOD_WORD, NATIVE_WORD, raise, unsupported};
 use vx_group::Group;
 use vx_group_states::{Site, illegal};
 use vx_heap::Heap;
@@ -25,15 +25,6 @@ use vx_outcome::{Outcome, Outcomes};
 use vx_references::{MethodReference, method_name, println_class, println_reference, println_text};
 use vx_space::{Space, SpaceFault};
 use vx_value::{ClassId, MethodId};
-
-/// The number of the word for a native method that the machine doesn't have.
-const NATIVE_WORD: u8 = 5;
-
-/// The number of the word for a class that the program doesn't have.
-const CLASS_WORD: u8 = 6;
-
-/// The number of the word for a method that a class doesn't have.
-const METHOD_WORD: u8 = 8;
 
 /// The part of a group in which the call comes to one thing; `None` where a frame is pushed, which isn't built.
 fn called_part<S: Space>(

@@ -7,13 +7,11 @@ ghost use Rattle.vx_link.specs.Linked.{is_place, option_of, field_flags, linked_
 
 use crate::judging::BOOLEAN;
 use std::alloc::{AllocError, Global};
-use vx_class::{ClassFile, Field};
+use vx_class::{ClassFile, Field, STATIC};
 use vx_link::class_names::{is_interface, name_of, utf8};
 use vx_link::{AccessFlags, LinkedField};
 use vx_model::{FieldPlace, OptionField};
 use vx_value::{ClassId, Name};
-
-const STATIC: u16 = 0x0008;
 
 fn is_place(class: &[u8], field: &[u8], place: &Option<FieldPlace>) -> bool
     ensures { result ≡ is_place class.now field.now place.now }

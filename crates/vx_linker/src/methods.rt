@@ -5,7 +5,7 @@ ghost use Rattle.vx_list.specs.Places.{item_or};
 ghost use Rattle.vx_link.specs.Linked.{is_clinit_file, own_clinit, method_flags, linked_method, linked_methods, empty_clinit};
 
 use std::alloc::{AllocError, Global};
-use vx_class::{ClassFile, Code, Method};
+use vx_class::{ClassFile, Code, Method, STATIC};
 use vx_desc::is_clinit;
 use vx_link::class_names::utf8;
 use vx_link::{AccessFlags, LinkedMethod};
@@ -18,8 +18,6 @@ const CLINIT: &[u8] = b"<clinit>";
 const NOTHING: &[u8] = b"()V";
 
 const RETURN: u8 = 0xb1;
-
-const STATIC: u16 = 0x0008;
 
 const NEITHER_ABSTRACT_NOR_NATIVE: u16 = 0xfaff;
 

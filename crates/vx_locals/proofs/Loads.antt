@@ -36,9 +36,11 @@ use Rattle.vx_group_states.specs.declared.site.Site.{Site}
 use Rattle.vx_group_states.proofs.EndingLaws.{GivesAt-before}
 use Rattle.vx_group_states.proofs.StateLaws.{locals_held}
 use Rattle.vx_families.specs.Pushing.{is_push}
-use Rattle.vx_locals.specs.Slots.{loaded, slot_is_of}
+use Rattle.vx_families.specs.Sorts.{slot_is_of}
+use Rattle.vx_locals.specs.Slots.{loaded}
 use Rattle.vx_locals.proofs.Lifts.{mapped_at, one_at}
-use Rattle.vx_locals.proofs.Values.{item_got, item_held, item_past, item_value, same_sort}
+use Rattle.vx_families.proofs.SlotSorts.{same_sort}
+use Rattle.vx_locals.proofs.Values.{item_got, item_held, item_past, item_value}
 use Rattle.vx_families.proofs.Pushes.{operand_count}
 
 -- ---- constants

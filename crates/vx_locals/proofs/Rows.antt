@@ -21,7 +21,8 @@ use Rattle.vx_cond.proofs.RowSteps.{IsRow-get, IsRow-set, slots_at-get, slots_at
 use Rattle.vx_cond.proofs.SideLaws.{IsRow-scope_known, row_at-extends}
 use Rattle.vx_java.specs.declared.operation.Sort.TheVariants.{Long as LongSort}
 use Rattle.vx_group_states.specs.Answering.{operands_at}
-use Rattle.vx_locals.specs.Slots.{AreLocals, slot_is_of, top_at, unless_long, without_half}
+use Rattle.vx_families.specs.Sorts.{slot_is_of}
+use Rattle.vx_locals.specs.Slots.{AreLocals, top_at, unless_long, without_half}
 use Rattle.vx_locals.proofs.Lifts.{mapped_at, one_at}
 use Rattle.vx_locals.proofs.Values.{item_got, set_past}
 

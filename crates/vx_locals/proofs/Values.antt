@@ -15,7 +15,8 @@ use Rattle.vx_java.specs.Machine.{Top as TopValue}
 use Rattle.vx_java.specs.declared.operation.Sort.{Sort}
 use Rattle.vx_java.specs.declared.operation.Sort.TheVariants.{Int as IntSort, Long as LongSort, Reference}
 use Rattle.vx_group_states.proofs.StateLaws.{both, both_first, both_second}
-use Rattle.vx_locals.specs.Slots.{increased, slot_is_of, stored, unless_long, without_half}
+use Rattle.vx_families.specs.Sorts.{slot_is_of}
+use Rattle.vx_locals.specs.Slots.{increased, stored, unless_long, without_half}
 
 -- ---- places
 
@@ -31,26 +32,6 @@ set_past (y ∷ ys) zero x h = absurd (omega arith)
 set_past (y ∷ ys) (suc n) x h = ap (λ zs. y ∷ zs) (set_past ys n x (omega arith))
 
 -- ---- values
-
-pub same_sort : {S I : Type 0} (sets : Sets I) (heap : HeapView S I) (c : List Bool) (sort : Sort) (slot : Slot) → is_of sort (value_of sets heap c slot) ≡ slot_is_of sort slot
-same_sort sets heap c IntSort Top = refl
-same_sort sets heap c IntSort (Int n) = refl
-same_sort sets heap c IntSort (Long n) = refl
-same_sort sets heap c IntSort Null = refl
-same_sort sets heap c IntSort (Ref i) = refl
-same_sort sets heap c IntSort (Text n) = refl
-same_sort sets heap c LongSort Top = refl
-same_sort sets heap c LongSort (Int n) = refl
-same_sort sets heap c LongSort (Long n) = refl
-same_sort sets heap c LongSort Null = refl
-same_sort sets heap c LongSort (Ref i) = refl
-same_sort sets heap c LongSort (Text n) = refl
-same_sort sets heap c Reference Top = refl
-same_sort sets heap c Reference (Int n) = refl
-same_sort sets heap c Reference (Long n) = refl
-same_sort sets heap c Reference Null = refl
-same_sort sets heap c Reference (Ref i) = refl
-same_sort sets heap c Reference (Text n) = refl
 
 pub item_value : {S I : Type 0} (sets : Sets I) (heap : HeapView S I) (c : List Bool) (slots : List Slot) (n : ℕ) → item_or (map (value_of sets heap c) slots) n TopValue ≡ value_of sets heap c (item_or slots n Top)
 item_value sets heap c [] n = refl

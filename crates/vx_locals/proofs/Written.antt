@@ -39,8 +39,10 @@ use Rattle.vx_group_states.proofs.AnswerLaws.{operands_at-push}
 use Rattle.vx_group_states.proofs.OutcomeStates.{CameTo-through}
 use Rattle.vx_group_states.proofs.SettleLaws.{stack_scope}
 use Rattle.vx_group_states.proofs.StateLaws.{StandsIn-same_callers, both, both_first, both_second, state_at-same_callers, top_held, top_shaped}
-use Rattle.vx_locals.specs.Slots.{AreLocals, increased, slot_is_of, stored, top_at}
-use Rattle.vx_locals.proofs.Values.{increased_held, item_held, item_value, same_sort, set_held, stored_held, stored_values}
+use Rattle.vx_families.specs.Sorts.{slot_is_of}
+use Rattle.vx_locals.specs.Slots.{AreLocals, increased, stored, top_at}
+use Rattle.vx_families.proofs.SlotSorts.{same_sort}
+use Rattle.vx_locals.proofs.Values.{increased_held, item_held, item_value, set_held, stored_held, stored_values}
 
 -- ---- a group with other locals and operands
 

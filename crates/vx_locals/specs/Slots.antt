@@ -13,14 +13,7 @@ use Rattle.vx_java.specs.declared.operation.Sort.TheVariants.{Int as IntSort, Lo
 use Rattle.vx_group_states.specs.Answering.{operands_at}
 use Rattle.vx_group_states.specs.declared.answer.Answer.{Answer}
 use Rattle.vx_group_states.specs.declared.answer.Answer.TheVariants.{Illegal, Push}
-
--- a slot holds a value of the sort
-abbrev pub slot_is_of : Sort → Slot → Bool
-slot_is_of IntSort (Int n) = true
-slot_is_of LongSort (Long n) = true
-slot_is_of Reference Null = true
-slot_is_of Reference (Ref r) = true
-slot_is_of _ _ = false
+use Rattle.vx_families.specs.Sorts.{slot_is_of}
 
 -- what a load answers where the local has this slot
 abbrev pub loaded : Sort → Slot → Answer

@@ -8,14 +8,10 @@ ghost use Rattle.vx_locals.specs.Constants.{constant_of};
 
 use std::alloc::{AllocError, Global};
 use vx_code::{entry_of, text};
+use vx_families::{CONSTANT_WORD, FLOAT_WORD};
 use vx_link::Program;
 use vx_pool::{Entry, Pool};
 use vx_value::{ClassId, Name, Slot};
-
-/// The words of ends that name what is left out: floats and doubles, and method handles and types.
-const FLOAT_WORD: u8 = 1;
-
-const CONSTANT_WORD: u8 = 4;
 
 /// What an entry of a pool is to a load of a constant.
 #[derive(Clone, Copy, Debug)]

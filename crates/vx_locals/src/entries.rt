@@ -18,7 +18,7 @@ ghost use Rattle.vx_locals.specs.declared.constant.Constant.TheVariants.{Class a
 use crate::constant::{Constant, constant_of, nothing, text_of};
 use crate::constants::push_constant;
 use std::alloc::Global;
-use vx_families::unsupported;
+use vx_families::{CLASS_WORD, unsupported};
 use vx_group::Group;
 use vx_group_states::{Site, illegal};
 use vx_heap::Heap;
@@ -27,9 +27,6 @@ use vx_java::parts::class_of_method;
 use vx_outcome::Outcomes;
 use vx_space::{Space, SpaceFault};
 use vx_value::{ClassId, Name, Slot};
-
-/// The word of ends that name a class that isn't there.
-const CLASS_WORD: u8 = 6;
 
 /// Pushes the object of a string literal or of a class name.
 fn push_literal<S: Space>(

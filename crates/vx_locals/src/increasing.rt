@@ -12,11 +12,12 @@ ghost use Rattle.vx_java.specs.Locals.{increase as increase_of};
 ghost use Rattle.vx_java.specs.Machine.{Top as TopValue};
 ghost use Rattle.vx_java.specs.declared.operation.Sort.TheVariants.{Int as IntSort};
 ghost use Rattle.vx_group_states.specs.Sites.{Gives, HasPast, here};
-ghost use Rattle.vx_locals.specs.Slots.{increased, slot_is_of};
+ghost use Rattle.vx_families.specs.Sorts.{slot_is_of};
+ghost use Rattle.vx_locals.specs.Slots.{increased};
 
-use crate::sorts::is_of;
 use std::alloc::Global;
 use vx_cond::Cond;
+use vx_families::slot_is_of;
 use vx_group::Group;
 use vx_group_states::{Site, illegal, pass_where};
 use vx_java::Sort;
@@ -81,7 +82,7 @@ pub(crate) fn increase<S: Space>(
     }
     let is_int = |slot: Slot| -> bool
         ensures { result ≡ slot_is_of IntSort slot }
-    { is_of(Sort::Int, slot) };
+    { slot_is_of(Sort::Int, slot) };
     let fits = locals.get(usize::from(place)).map(space, is_int)?;
     increase_where(alloc, site, space, group, place, by, &fits)
 }

@@ -8,7 +8,6 @@ mod entries;
 pub mod family;
 mod increasing;
 mod loading;
-mod sorts;
 mod storing;
 mod writing;
 

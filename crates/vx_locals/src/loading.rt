@@ -7,9 +7,8 @@ ghost use Rattle.vx_java.specs.Locals.{load as load_of};
 ghost use Rattle.vx_group_states.specs.Sites.{Gives, HasPast, here};
 ghost use Rattle.vx_locals.specs.Slots.{loaded};
 
-use crate::sorts::is_of;
 use std::alloc::Global;
-use vx_families::push_answers;
+use vx_families::{push_answers, slot_is_of};
 use vx_group::Group;
 use vx_group_states::{Answer, Site, illegal};
 use vx_java::Sort;
@@ -21,7 +20,7 @@ use vx_value::Slot;
 fn loaded(sort: Sort, slot: Slot) -> Answer
     ensures { result ≡ loaded sort slot }
 {
-    if is_of(sort, slot) {
+    if slot_is_of(sort, slot) {
         Answer::Push(slot)
     } else {
         Answer::Illegal

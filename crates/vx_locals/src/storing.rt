@@ -7,12 +7,13 @@ ghost use Rattle.vx_cond.specs.Cond.{IsCond, cond_at};
 ghost use Rattle.vx_group.specs.Group.{IsGroup, path_of};
 ghost use Rattle.vx_java.specs.Locals.{store as store_of};
 ghost use Rattle.vx_group_states.specs.Sites.{Gives, HasPast, here};
-ghost use Rattle.vx_locals.specs.Slots.{slot_is_of, top_at};
+ghost use Rattle.vx_families.specs.Sorts.{slot_is_of};
+ghost use Rattle.vx_locals.specs.Slots.{top_at};
 
-use crate::sorts::is_of;
 use crate::writing::write_local;
 use std::alloc::Global;
 use vx_cond::Cond;
+use vx_families::slot_is_of;
 use vx_group::Group;
 use vx_group_states::{Site, illegal, pass_where};
 use vx_java::Sort;
@@ -67,7 +68,7 @@ pub(crate) fn store<S: Space>(
     }
     let is_fit = |slot: Slot| -> bool
         ensures { result ≡ slot_is_of sort slot }
-    { is_of(sort, slot) };
+    { slot_is_of(sort, slot) };
     let fits = stack.get(stack.len() - 1).map(space, is_fit)?;
     store_where(alloc, site, space, group, sort, place, &fits)
 }

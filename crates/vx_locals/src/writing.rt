@@ -8,11 +8,12 @@ ghost use Rattle.vx_cond.specs.Cond.{IsCond};
 ghost use Rattle.vx_cond.specs.Row.{IsRow};
 ghost use Rattle.vx_cond.specs.Slots.{slot_at, slots_at};
 ghost use Rattle.vx_java.specs.declared.operation.Sort.TheVariants.{Long as LongSort};
-ghost use Rattle.vx_locals.specs.Slots.{AreLocals, slot_is_of, stored, unless_long, without_half};
+ghost use Rattle.vx_families.specs.Sorts.{slot_is_of};
+ghost use Rattle.vx_locals.specs.Slots.{AreLocals, stored, unless_long, without_half};
 
-use crate::sorts::is_of;
 use std::alloc::Global;
 use vx_cond::{Cond, Row};
+use vx_families::slot_is_of;
 use vx_java::Sort;
 use vx_space::{Space, SpaceFault};
 use vx_value::Slot;
@@ -43,7 +44,7 @@ fn holds_long<S: Space>(local: &Cond<Slot, S>) -> bool
     local
         .leaves()
         .iter()
-        .any(|leaf| is_of(Sort::Long, leaf.value))
+        .any(|leaf| slot_is_of(Sort::Long, leaf.value))
 }
 
 /// Whether the local before a place is a long at some configuration.

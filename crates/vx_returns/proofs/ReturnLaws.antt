@@ -45,7 +45,9 @@ use Rattle.vx_group_states.proofs.StateLaws.{both_first, both_second}
 use Rattle.vx_families.specs.Attempts.{IsAttemptBy, IsGiven, row_by}
 use Rattle.vx_families.specs.Bounds.{IsBounded, is_short}
 use Rattle.vx_families.proofs.AttemptLaws.{AttemptsBy-as, IsAttemptBy-is}
-use Rattle.vx_returns.specs.Ends.{ended_by, ended_where, is_slot_of, returned_by}
+use Rattle.vx_families.specs.Sorts.{slot_is_of}
+use Rattle.vx_families.proofs.SlotSorts.{same_sort}
+use Rattle.vx_returns.specs.Ends.{ended_by, ended_where, returned_by}
 
 -- ---- the descriptor
 
@@ -88,35 +90,15 @@ disagreed-by site operation sets heap group sort outcomes is given h gives = IsA
 
 -- ---- the value that is handed back
 
-slot_of_sort : {S I : Type 0} (sets : Sets I) (heap : HeapView S I) (c : List Bool) (sort : Sort) (slot : Slot) → is_of sort (value_of sets heap c slot) ≡ is_slot_of sort slot
-slot_of_sort sets heap c IntSort Top = refl
-slot_of_sort sets heap c IntSort (Int n) = refl
-slot_of_sort sets heap c IntSort (Long n) = refl
-slot_of_sort sets heap c IntSort Null = refl
-slot_of_sort sets heap c IntSort (Ref i) = refl
-slot_of_sort sets heap c IntSort (Text n) = refl
-slot_of_sort sets heap c LongSort Top = refl
-slot_of_sort sets heap c LongSort (Int n) = refl
-slot_of_sort sets heap c LongSort (Long n) = refl
-slot_of_sort sets heap c LongSort Null = refl
-slot_of_sort sets heap c LongSort (Ref i) = refl
-slot_of_sort sets heap c LongSort (Text n) = refl
-slot_of_sort sets heap c Reference Top = refl
-slot_of_sort sets heap c Reference (Int n) = refl
-slot_of_sort sets heap c Reference (Long n) = refl
-slot_of_sort sets heap c Reference Null = refl
-slot_of_sort sets heap c Reference (Ref i) = refl
-slot_of_sort sets heap c Reference (Text n) = refl
-
 chosen : {T : Type 0} (b : Bool) (v : T) → is_some (if b then Some v else None) ≡ b
 chosen true v = refl
 chosen false v = refl
 
-handed : {S I : Type 0} (sets : Sets I) (heap : HeapView S I) (c : List Bool) (sort : Sort) (slots : List Slot) (slot : Slot) → Some slot ≡ slice_get slots 0 → is_slot_of sort slot ≡ is_some (values_returned (Some sort) (map (value_of sets heap c) slots))
+handed : {S I : Type 0} (sets : Sets I) (heap : HeapView S I) (c : List Bool) (sort : Sort) (slots : List Slot) (slot : Slot) → Some slot ≡ slice_get slots 0 → slot_is_of sort slot ≡ is_some (values_returned (Some sort) (map (value_of sets heap c) slots))
 handed sets heap c sort [] slot e = cc
 handed sets heap c sort (s ∷ ss) slot e =
     let same : slot ≡ s = cc in
-    ap (is_slot_of sort) same ∙ sym (slot_of_sort sets heap c sort s) ∙ sym (chosen (is_of sort (value_of sets heap c s)) (value_of sets heap c s ∷ []))
+    ap (slot_is_of sort) same ∙ sym (same_sort sets heap c sort s) ∙ sym (chosen (is_of sort (value_of sets heap c s)) (value_of sets heap c s ∷ []))
 
 -- the operand on top
 top_operand : {S I : Type 0} (sets : Sets I) (row : Conditionals Slot S I) (cond : Conditional Slot S I) (c : List Bool) → 0 < length row.conds → Some cond ≡ slice_get row.conds (length row.conds - 1) → Some (slot_at sets cond c) ≡ slice_get (operands_at sets row c) 0
@@ -130,12 +112,12 @@ top_operand sets row cond c l e =
     let found : slice_get slots (length slots - 1 - 0) ≡ Some x = ap (slice_get slots) (sym last) ∙ sym (slots_at-get sets row (length row.conds - 1) cond c e) in
     sym (slice_get-get_or (reverse slots) 0 x turned ∙ ap Some (get_or-reverse slots 0 x inside ∙ get_or_from_slice_get slots (length slots - 1 - 0) x x found))
 
-truth : (R : Slot → Bool → Type 0) (sort : Sort) (n : Option Slot) (b : Option Bool) → ((n : Slot) (b : Bool) → R n b → b ≡ is_slot_of sort n) → is_some n ≡ true → IsLifted R n b → unwrap_or b false ≡ is_slot_of sort (or_top n)
+truth : (R : Slot → Bool → Type 0) (sort : Sort) (n : Option Slot) (b : Option Bool) → ((n : Slot) (b : Bool) → R n b → b ≡ slot_is_of sort n) → is_some n ≡ true → IsLifted R n b → unwrap_or b false ≡ slot_is_of sort (or_top n)
 truth R sort None b law t l = cc
 truth R sort (Some n) None law t l = absurd l
 truth R sort (Some n) (Some b) law t l = law n b l
 
-pub value-gives : {S I : Type 0} (p : Program) {s0 s1 : Sets I} (group : GroupView S I) (cond : Conditional Slot S I) (answers : Conditional Bool S I) (sort : Sort) (R : Slot → Bool → Type 0) (outcomes : List (Outcome S I)) → ((n : Slot) (b : Bool) → R n b → b ≡ is_slot_of sort n) → Extends s0 s1 → IsGroup s0 group → 0 < length group.top.stack.conds → Some cond ≡ slice_get group.top.stack.conds (length group.top.stack.conds - 1) → IsCondLifting bool_cmp s1 R (cond_at s0 cond) answers → ((heap : HeapView S I) → GivesAt p (λ _. ended_where p s1 answers.leaves) s1 s1 group outcomes heap) → Gives p (returned_by p (Some sort)) s0 s1 group outcomes
+pub value-gives : {S I : Type 0} (p : Program) {s0 s1 : Sets I} (group : GroupView S I) (cond : Conditional Slot S I) (answers : Conditional Bool S I) (sort : Sort) (R : Slot → Bool → Type 0) (outcomes : List (Outcome S I)) → ((n : Slot) (b : Bool) → R n b → b ≡ slot_is_of sort n) → Extends s0 s1 → IsGroup s0 group → 0 < length group.top.stack.conds → Some cond ≡ slice_get group.top.stack.conds (length group.top.stack.conds - 1) → IsCondLifting bool_cmp s1 R (cond_at s0 cond) answers → ((heap : HeapView S I) → GivesAt p (λ _. ended_where p s1 answers.leaves) s1 s1 group outcomes heap) → Gives p (returned_by p (Some sort)) s0 s1 group outcomes
 value-gives p {s0 = s0} {s1 = s1} group cond answers sort R outcomes law e v some at l gives heap = GivesAt-before p s1 group heap (λ _. ended_where p s1 answers.leaves) (λ _ _. returned_by p (Some sort)) outcomes e (λ tree h s c t.
     let state = state_at s0 heap tree group c in
     let there = IsRow-get slot_cmp s0 group.top.stack (length group.top.stack.conds - 1) cond (IsFrame-stack s0 group.top (IsGroup-top s0 group v)) at in

@@ -21,14 +21,6 @@ abbrev pub is_return : Operation → Bool
 is_return (Return sort) = true
 is_return _ = false
 
--- a value is of a sort
-abbrev pub is_slot_of : Sort → Slot → Bool
-is_slot_of IntSort (Int n) = true
-is_slot_of LongSort (Long n) = true
-is_slot_of Reference Null = true
-is_slot_of Reference (Ref i) = true
-is_slot_of _ _ = false
-
 -- where the value that is handed back is of the sort the run ends well
 abbrev pub end_by : Program → (method position : ℕ) → (is_of : Bool) → End
 end_by p method position true = ReturnEnd

@@ -9,7 +9,6 @@ ghost use Rattle.vx_heap.specs.Heap.{HeapView};
 ghost use Rattle.vx_group_states.specs.Sites.{Cover, Gives, GivesAt};
 ghost use Rattle.vx_returns.specs.Ends.{end_by, ended_by, ended_where};
 
-use crate::sorts::is_slot_of;
 use std::alloc::{AllocError, Global};
 use vx_cond::Leaf;
 use vx_group::Group;

@@ -5,12 +5,14 @@ ghost use Rattle.vx_space.specs.Sets.{Extends};
 ghost use Rattle.vx_group.specs.Group.{IsGroup};
 ghost use Rattle.vx_group_states.specs.Sites.{Gives};
 ghost use Rattle.vx_families.specs.Attempts.{IsAttemptBy, IsGiven};
-ghost use Rattle.vx_returns.specs.Ends.{is_return, is_slot_of as is_of_sort, returned_by};
+ghost use Rattle.vx_families.specs.Sorts.{slot_is_of};
+ghost use Rattle.vx_returns.specs.Ends.{is_return, returned_by};
 
 use crate::ending::{all_end, ends};
 use crate::result_type::result_type;
-use crate::sorts::{agrees, is_slot_of};
+use crate::sorts::agrees;
 use std::alloc::Global;
+use vx_families::slot_is_of;
 use vx_group::Group;
 use vx_group_states::{Site, illegal};
 use vx_heap::Heap;
@@ -40,8 +42,8 @@ fn value_ends<S: Space>(
         return Ok(ended);
     }
     let is_of = |slot: Slot| -> bool
-        ensures { result ≡ is_of_sort sort slot }
-    { is_slot_of(sort, slot) };
+        ensures { result ≡ slot_is_of sort slot }
+    { slot_is_of(sort, slot) };
     let answers = stack.get(depth - 1).map(space, is_of)?;
     let outcomes = ends(alloc, program, space, group, answers.leaves())?;
     Ok(outcomes)

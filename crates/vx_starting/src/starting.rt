@@ -19,7 +19,7 @@ ghost use Rattle.vx_value.specs.declared.key.Kind.TheVariants.{Call};
 
 use std::alloc::{AllocError, Global};
 use vx_cond::Cond;
-use vx_families::AttemptFault;
+use vx_families::{AttemptFault, CLASS_WORD};
 use vx_findings::Shared;
 use vx_frame::Frame;
 use vx_group::{Callers, Group};
@@ -34,9 +34,6 @@ use vx_value::{ClassId, End, InitState, Kind, Name, Slot};
 
 /// The most frames that a run may have.
 const FRAME_BOUND: usize = 1024;
-
-/// The number of the word for classes, in an end outside the accepted language.
-const CLASS_WORD: u8 = 6;
 
 /// The first interface that would be initialised before a class of a chain (JVMS 5.5).
 fn blocked_in(program: &Program, chain: &[ClassId]) -> Option<ClassId>

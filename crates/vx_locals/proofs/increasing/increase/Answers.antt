@@ -14,7 +14,7 @@ use Rattle.vx_list.specs.Places.{item_or}
 use Rattle.vx_group_states.specs.Sites.{here}
 use Rattle.vx_group_states.proofs.SettleLaws.{lifting_cond}
 use Rattle.vx_value.specs.Slot.{slot_cmp}
-use Rattle.vx_locals.specs.Slots.{slot_is_of}
+use Rattle.vx_families.specs.Sorts.{slot_is_of}
 use Rattle.vx_locals.proofs.Loads.{Gives-before, increase_none}
 use Rattle.vx_locals.proofs.Rows.{tested_at}
 use Rattle.vx_locals.proofs.increasing.increase.Goals as goal

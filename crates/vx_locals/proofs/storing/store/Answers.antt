@@ -10,7 +10,7 @@ use Rattle.vx_java.specs.Locals.{store}
 use Rattle.vx_group_states.specs.Sites.{here}
 use Rattle.vx_group_states.proofs.SettleLaws.{lifting_cond, stack_scope}
 use Rattle.vx_value.specs.Slot.{slot_cmp}
-use Rattle.vx_locals.specs.Slots.{slot_is_of}
+use Rattle.vx_families.specs.Sorts.{slot_is_of}
 use Rattle.vx_locals.proofs.Loads.{Gives-before, store_none}
 use Rattle.vx_locals.proofs.Rows.{last_is_top, tested_at}
 use Rattle.vx_locals.proofs.storing.store.Goals as goal

@@ -1,13 +1,13 @@
 //! Sorts of slots.
 
 ghost use Rattle.std.specs.Prelude.{◌≡◌};
-ghost use Rattle.vx_locals.specs.Slots.{slot_is_of};
+ghost use Rattle.vx_families.specs.Sorts.{slot_is_of};
 
 use vx_java::Sort;
 use vx_value::Slot;
 
 /// Whether a slot holds a value of a sort.
-pub(crate) fn is_of(sort: Sort, slot: Slot) -> bool
+pub fn slot_is_of(sort: Sort, slot: Slot) -> bool
     ensures { result ≡ slot_is_of sort slot }
 {
     match (sort, slot) {
