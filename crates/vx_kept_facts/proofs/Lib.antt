@@ -1,0 +1,13 @@
+pub mod Places
+pub mod Sites
+pub mod PlainRows
+pub mod ObjectRows
+pub mod CallRows
+pub mod TextRows
+pub mod LibraryRows
+pub mod NativeRows
+pub mod Landings
+pub mod Rows
+pub mod Unwinding
+pub mod Beginning
+pub mod Runs
