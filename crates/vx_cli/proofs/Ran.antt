@@ -1,5 +1,5 @@
 -- What a run of a linked program came to, in terms of its class files and its model.
-use Rattle.std.proofs.Common.{◌≡◌, ◌≤◌, ℕ, Bool, true, List, Result, Ok, Err, sym, ap, subst, length, inr}
+use Rattle.std.proofs.Common.{◌≡◌, ◌<◌, ◌≤◌, ◌⊎◌, ℕ, Bool, true, List, Result, Ok, Err, arith, sym, ap, subst, length, inr}
 use Rattle.std.specs.Prelude.{All}
 use Rattle.vx_class.specs.File.{Holds}
 use Rattle.vx_class.specs.declared.class_file.ClassFile.{ClassFile}
@@ -12,12 +12,14 @@ use Rattle.vx_link.specs.Linked.{linked_program}
 use Rattle.vx_link.specs.declared.fault.LinkFault.{LinkFault}
 use Rattle.vx_link.specs.declared.program.Program.{Program}
 use Rattle.vx_program_bounds.specs.Law.{LinkedAreBounded}
-use Rattle.vx_model.specs.Models.{is_allowed}
+use Rattle.vx_model.specs.Models.{HasOptionNames, is_allowed}
 use Rattle.vx_model.specs.declared.model.Model.{Model}
-use Rattle.vx_reporting.specs.Reported.{IsReported}
+use Rattle.vx_reporting.specs.Reported.{IsReportable, IsReported}
+use Rattle.vx_spelled_ends.specs.Law.{LinkedAreSound, ReportsAreSpelled}
 use Rattle.vx_standing.specs.Rounds.{MeetsUnbuilt}
 use Rattle.vx_space.specs.Sets.{Sets}
 use Rattle.vx_cli.specs.Job.{IsReportOf, main_path, names_of, or_bad_link, program_in, slashed}
+use Rattle.vx_cli.specs.Plan.{AllowsSome}
 use Rattle.vx_cli.specs.Run.{IsRefusedRun}
 use Rattle.vx_cli.specs.declared.status.Status.{Status}
 use Rattle.vx_cli.specs.declared.status.Status.TheVariants.{NotYet}
@@ -36,6 +38,18 @@ program_bounded main model classes p law few read e = (law classes model.options
 pub program_options : (main : List ℕ) (model : Model) (classes : List ClassFile) (p : Program) (options : ℕ) → LinkedAreBounded → length classes ≤ 1024 → All Holds classes → program_in main model classes ≡ Ok p → options ≡ length model.options → has_options options p.fields ≡ true
 program_options main model classes p options law few read e count = rw count (law classes model.options (slashed main) p few read (linked_is main model classes p e)).1
 
+-- the report of a program of these class files under a model can be spelled
+pub reportable_run : (main : List ℕ) (limit version : ℕ) (model : Model) (classes : List ClassFile) (p : Program) (names : List (List ℕ)) → LinkedAreSound → ReportsAreSpelled → All Holds classes → program_in main model classes ≡ Ok p
+    → names ≡ names_of model → HasOptionNames model → AllowsSome model → 0 < limit → limit ≤ 1000000000 → (version ≡ 1) ⊎ (version ≡ 2) → IsReportable version names limit (is_allowed model) p
+reportable_run main limit version model classes p names sound spelled read linked are_names lawful some least most is_version = record {
+  version_is = is_version;
+  names = rw are_names lawful;
+  least = omega (arith, least);
+  most = most;
+  some = some;
+  spelled = λ list. spelled p list limit version (sound classes model.options (slashed main) p read (linked_is main model classes p linked));
+}
+
 -- a set of configurations that is that of the model
 allowed_is : (model : Model) (allowed : Config → Bool) → ((c : Config) → allowed c ≡ is_allowed model c) → allowed ≡ is_allowed model
 allowed_is model allowed same = λ i c. same c i
@@ -53,9 +67,10 @@ SayLockstep p sets options allowed limit f = (list : List Config) (version : ℕ
 pub reported_run : {S I : Type 0} (main : List ℕ) (limit version : ℕ) (model : Model) (classes : List ClassFile) (p : Program) (names : List (List ℕ)) (text : List ℕ) (sets : Sets I) (options : ℕ) (allowed : Config → Bool) (f : FindingsView S I)
     → program_in main model classes ≡ Ok p → names ≡ names_of model → ((c : Config) → allowed c ≡ is_allowed model c) → sets.options ≡ options
     → AreFindings p sets allowed limit f → SayLockstep p sets options allowed limit f
-    → (AreFindings p sets (is_allowed model) limit f → SayLockstep p sets sets.options (is_allowed model) limit f → IsReported version names limit (is_allowed model) p text)
+    → IsReportable version names limit (is_allowed model) p
+    → (IsReportable version names limit (is_allowed model) p → AreFindings p sets (is_allowed model) limit f → SayLockstep p sets sets.options (is_allowed model) limit f → IsReported version names limit (is_allowed model) p text)
     → IsReportOf main limit version model classes text
-reported_run main limit version model classes p names text sets options allowed f linked are_names same kept found lockstep written =
+reported_run main limit version model classes p names text sets options allowed f linked are_names same kept found lockstep reportable written =
     record { program = p; is_program = linked; is_report = rw are_names at reported }
   where
     set : allowed ≡ is_allowed model
@@ -65,4 +80,4 @@ reported_run main limit version model classes p names text sets options allowed 
     lockstep_there list v are = lockstep list v (subst (λ g. AreAllowed options g list) (sym set) (subst (λ n. AreAllowed n (is_allowed model) list) kept are))
 
     reported : IsReported version names limit (is_allowed model) p text
-    reported = written (subst (λ g. AreFindings p sets g limit f) set found) lockstep_there
+    reported = written reportable (subst (λ g. AreFindings p sets g limit f) set found) lockstep_there

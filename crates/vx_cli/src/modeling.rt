@@ -2,7 +2,7 @@
 
 ghost use Rattle.std.specs.Prelude.{◌≡◌, ◌≢◌, true, false, IfOk, IfErr, MatchResult, Ok, Err, ◌⊎◌, length};
 ghost use Rattle.vx_model.specs.Answers.{Answers};
-ghost use Rattle.vx_model.specs.Models.{IsModel, is_allowed};
+ghost use Rattle.vx_model.specs.Models.{HasOptionNames, IsModel, is_allowed};
 ghost use Rattle.vx_model.specs.declared.model.Model.{Model};
 ghost use Rattle.vx_space.specs.Sets.{IsSet};
 ghost use Rattle.vx_cli.specs.Job.{model_of, spelled_model};
@@ -32,6 +32,7 @@ pub struct Modeled {
 fn spelled_model(alloc: Global, path: &str, text: &[u8]) -> Result<Model, ModelFault>
     ensures exact { Answers result (spelled_model path.now text.now) }
     ensures lawful { IfOk result IsModel }
+    ensures names { IfOk result HasOptionNames }
 {
     if is_dimacs(path) {
         read_dimacs(alloc, text)
@@ -45,6 +46,7 @@ fn model_of(alloc: Global, path: &str, text: &[u8]) -> Result<Model, Status>
     ensures exact { MatchResult result (λ model. model_of path.now text.now ≡ Ok model)
         (λ status. (status ≡ Status.NoMemory) ⊎ (model_of path.now text.now ≡ Err status)) }
     ensures lawful { IfOk result IsModel }
+    ensures names { IfOk result HasOptionNames }
 {
     match spelled_model(alloc, path, text) {
         Ok(model) => Ok(model),
@@ -89,6 +91,8 @@ pub fn read_model_file<F: Files>(
     ensures ok { IfOk result (λ found. (next : Model → Plan) →
         Leads (F.seen files.old).held (read_model path.now next) (next found.model)) }
     ensures lawful { IfOk result (λ found. IsModel found.model) }
+    ensures names { IfOk result (λ found. HasOptionNames found.model) }
+    ensures allows { IfOk result (λ found. AllowsSome found.model) }
     ensures options { IfOk result (λ found. (⟦<BddSpace as Space>⟧.sets found.space).options ≡ length found.model.options) }
     ensures allowed { IfOk result (λ found. IsSet (⟦<BddSpace as Space>⟧.sets found.space) found.allowed (is_allowed found.model)) }
     ensures some { IfOk result (λ found. found.allowed ≢ (⟦<BddSpace as Space>⟧.sets found.space).never) }

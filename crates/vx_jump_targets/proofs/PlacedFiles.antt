@@ -21,7 +21,7 @@ use Rattle.vx_jump_targets.specs.Placed.{has_placed_code, is_well_placed, jumps_
 
 -- ---- starts
 
-starts_are : (code : List ℕ) (n at : ℕ) (starts : List ℕ) → length code ≤ at + n → AreInstructions code at starts → starts_from code n at ≡ starts
+pub starts_are : (code : List ℕ) (n at : ℕ) (starts : List ℕ) → length code ≤ at + n → AreInstructions code at starts → starts_from code n at ≡ starts
 starts_are code zero at [] enough are = refl
 starts_are code (suc n) at [] enough are = rw (le-ltb at (length code) (omega (arith, are))) refl
 starts_are code zero at (start ∷ others) enough are =

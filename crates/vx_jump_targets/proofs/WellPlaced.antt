@@ -48,7 +48,7 @@ placed_methods class (c ∷ files) (ns ∷ numbers) h =
     list_all-append is_placed (methods_of_class class c ns) (methods_from (suc class) files numbers)
     ∙ both_true (placed_methods_in class c ns (and_true _ _ h).0) (placed_methods (suc class) files numbers (and_true _ _ h).1)
 
-made_is : (fault : Option LinkFault) (made p : Program) → unless_fault fault made ≡ Ok p → made ≡ p
+pub made_is : (fault : Option LinkFault) (made p : Program) → unless_fault fault made ≡ Ok p → made ≡ p
 made_is None made p is = ap (program_in made) is
   where
     program_in : Program → Result Program LinkFault → Program

@@ -1,12 +1,17 @@
 -- The report of findings is what a report of all runs has to be.
-use Rattle.std.proofs.Common.{◌≡◌, ℕ, ◌+◌, Bool, true, false, cond, List, [], ◌∷◌, ◌++◌, Some, None, refl, sym, ap, ◌∙◌, subst, length, drop, map, append-nil, append_assoc, Result, Ok, Err, Vec, Global, IfOk}
-use Rattle.std.specs.Prelude.{option_map, not, ◌==◌, if◌then◌else◌}
+use Rattle.std.proofs.Common.{◌≡◌, ℕ, ◌+◌, Bool, true, false, arith, cond, List, [], ◌∷◌, ◌++◌, Some, None, refl, sym, ap, ◌∙◌, subst, length, drop, filter, map, append-nil, append_assoc, Result, Ok, Err, Vec, Global, IfOk}
+use Rattle.std.proofs.lemmas.Bool.Decides.{nat_tests}
+use Rattle.std.specs.Ordering.{nat_cmp}
+use Rattle.std.specs.Prelude.{nat_lt, option_map, not, ◌==◌, if◌then◌else◌}
+use Rattle.std.specs.declared.cmp.Ordering.TheVariants.{Less}
+use Rattle.vx_cond.specs.Leaves.{AreLeaves}
+use Rattle.vx_findings.specs.Shared.{leaves_of}
 use Rattle.std.specs.List.{list_all}
 use Rattle.std.specs.declared.alloc.AllocError.{AllocError}
 use Rattle.vx_space.specs.Sets.{AreKnown, Sets}
 use Rattle.vx_bdd_tools.specs.declared.node.Node.{Node}
 use Rattle.vx_bdd_tools.specs.Listing.{IsListing}
-use Rattle.vx_bdd_tools.specs.Numbering.{HoldAll}
+use Rattle.vx_bdd_tools.specs.Numbering.{HoldAll, IsNumbered}
 use Rattle.vx_lockstep.proofs.Apart.{none_holds}
 use Rattle.vx_lockstep.specs.Findings.{AreAllowed, AreFindings, FindingsView, report_by, shared_by}
 use Rattle.vx_findings.specs.declared.shared.Shared.{Shared}
@@ -18,10 +23,17 @@ use Rattle.vx_link.specs.declared.program.Program.{Program}
 use Rattle.vx_report.specs.Projection.{attempts_in, project}
 use Rattle.vx_report.specs.Text.{report_text}
 use Rattle.vx_report.specs.declared.report.Report.{Report}
-use Rattle.vx_report_reader.specs.Rules.{roots_of}
-use Rattle.vx_standing.specs.State.{shared_ids}
+use Rattle.vx_report_reader.proofs.Good.{lawful_good}
+use Rattle.vx_report_reader.specs.Lawful.{EachFollows}
+use Rattle.vx_report_reader.specs.Rules.{comes_after, is_above, is_less, last_of, roots_of}
+use Rattle.vx_standing.specs.State.{configurations, shared_ids}
+use Rattle.vx_value.specs.Ends.{compare_ends}
 use Rattle.vx_reporting.specs.Listed.{attempts_line, end_line, lines_with, piece_line, report_with}
-use Rattle.vx_reporting.specs.Reported.{IsReported, SaysLockstep, attempts_of, end_of, piece_of}
+use Rattle.vx_reporting.specs.Fitting.{IsFitting}
+use Rattle.vx_reporting.specs.Reported.{IsReportable, IsReported, SaysLockstep, attempts_of, end_of, piece_of}
+use Rattle.vx_reporting.proofs.Lawful.{IsReady, ended_there, lawful, spent_shown as spent_shown_by}
+use Rattle.vx_reporting.proofs.OneText.{allowed_of}
+use Rattle.vx_reporting.proofs.Rising.{lines_rise}
 use Rattle.vx_reporting.proofs.Matching.{Hold, all_append, attempts_same, drop_more, end_same, held_nowhere, hold_behind, hold_first, hold_none, mapped_same, numbers_of, output_same, parts_of}
 
 -- the sets of the numbers of attempts, which version 2 alone shows
@@ -55,6 +67,14 @@ spent_mapped nodes sets false spent numbers list h = refl
 spent_nowhere : {S I : Type 0} (sets : Sets I) (b : Bool) (spent : List (Shared ℕ S I)) (c : List Bool) → list_all (λ id. not (sets.test id c)) (shared_ids spent) ≡ true → list_all (λ id. not (sets.test id c)) (spent_ids b spent) ≡ true
 spent_nowhere sets true spent c h = h
 spent_nowhere sets false spent c h = refl
+
+above_last : (v w : ℕ) → nat_cmp v w ≡ Less → nat_lt v w ≡ true
+above_last v w e = grind (arith, nat_tests)
+
+spent_rise : {S I : Type 0} (sets : Sets I) (b : Bool) (spent : List (Shared ℕ S I)) (numbers : List ℕ) → AreLeaves nat_cmp sets (leaves_of spent)
+    → EachFollows (λ before line. is_above (last_of before) line.attempts ≡ true) (cond b (lines_with attempts_line spent numbers) [])
+spent_rise sets true spent numbers leaves = lines_rise nat_cmp attempts_line (λ o line. is_above o line.attempts) sets (λ v w n m e. above_last v w e) (λ line. refl) spent numbers leaves
+spent_rise sets false spent numbers leaves = λ place x e. absurd cc
 
 -- what holds of the numbers of findings
 record AreNumbers {S I : Type 0} (sets : Sets I) (version : ℕ) (f : FindingsView S I) (nodes : List Node) (numbers : List ℕ) : Type 0 where
@@ -97,35 +117,56 @@ pub reported : {S I : Type 0} (sets : Sets I) (version : ℕ) (options : List (L
     → ids ≡ shared_ids f.found ++ (shared_ids f.ends ++ (if version == 2 then shared_ids f.spent else []))
     → IsListing sets ids nodes numbers
     → report ≡ report_with version options limit f nodes numbers
+    → IsFitting report
     → text ≡ report_text report
+    → IsReportable version options limit is_allowed p
     → AreFindings p sets is_allowed limit f
     → ((list : List Config) (version : ℕ) → AreAllowed sets.options is_allowed list → lock_report p list limit version ≡ report_by sets list limit version f)
     → IsReported version options limit is_allowed p text
-reported sets version options limit f ids nodes numbers report text p is_allowed count are_ids listing is_report is_text findings lock =
+reported sets version options limit f ids nodes numbers report text p is_allowed count are_ids listing is_report fits is_text reportable findings lock =
     let are = are_numbers sets version f nodes numbers (rw are_ids at listing.hold) in
     let made = report_with version options limit f nodes numbers in
     let roots = roots_are sets version options limit f nodes numbers are in
+    let numbered : IsNumbered (length options) nodes (roots_of made) = rw (count, roots) listing.numbered in
+    let shown = λ (c : Config) (allowed : is_allowed c ≡ true). projected sets version options limit f nodes numbers p is_allowed c are findings allowed in
+    let says : (list : List Config) → AreAllowed (length options) is_allowed list → SaysLockstep list (lock_report p list limit version) made = λ list all.
+    subst (λ l. SaysLockstep list l made) (sym (lock list version (rw count at all)))
+    (record {
+      rounds = refl;
+      pieces = mapped_same nodes sets list piece_line (piece_of nodes list) (λ v configs. record { value = (v.stream, v.text); configs = configs }) (λ n v. refl) f.found numbers are.found;
+      ends = mapped_same nodes sets list end_line (end_of nodes list) (λ v configs. record { value = v; configs = configs }) (λ n v. refl) f.ends (drop (length f.found) numbers) are.ends;
+      attempts = spent_mapped nodes sets (version == 2) f.spent (drop (length f.found + length f.ends) numbers) list are.spent;
+    }) in
+    let one = filter is_allowed (configurations (length options)) in
+    let one_says = says one (allowed_of (length options) is_allowed) in
+    let r = run p reportable.some.0 limit in
+    let there = shown reportable.some.0 reportable.some.1 in
+    let ready : IsReady made = record {
+      version = reportable.version_is;
+      names = reportable.names;
+      least = reportable.least;
+      most = reportable.most;
+      fits = subst IsFitting is_report fits;
+      numbered = numbered;
+      ends = lines_rise compare_ends end_line (λ o line. comes_after o line.end) sets (λ v w n m e. ap is_less e) (λ line. refl) f.ends (drop (length f.found) numbers) findings.ends;
+      attempts = spent_rise sets (version == 2) f.spent (drop (length f.found + length f.ends) numbers) findings.spent;
+      ended = ended_there made reportable.some.0 (projection_of version r) there;
+      spent = spent_shown_by made (version == 2) (lockstep.lockstep p one limit).members reportable.some.0 (projection_of version r) r.attempts one refl one_says.attempts there refl;
+    } in
     record {
       report = made;
-      spelled = is_text ∙ ap report_text is_report;
+      spells = record { text = is_text ∙ ap report_text is_report; good = lawful_good made (lawful made one (lock_report p one limit version) ready one_says (reportable.spelled one)) };
       version_is = refl;
       options_are = refl;
       limit_is = refl;
-      runs = λ c size allowed. projected sets version options limit f nodes numbers p is_allowed c are findings allowed;
+      runs = λ c size allowed. shown c allowed;
       others = λ c size refused.
           let none = findings.others c refused in
           let spent = spent_nowhere sets (version == 2) f.spent c (none_holds sets f.spent c none.spent) in
           let ends = all_append (λ id. not (sets.test id c)) (shared_ids f.ends) _ (none_holds sets f.ends c none.end) spent in
           rw roots (held_nowhere nodes sets _ numbers c are.all (all_append (λ id. not (sets.test id c)) (shared_ids f.found) _ none.texts ends));
-      numbered = rw (count, roots) listing.numbered;
-      lockstep = λ list all.
-          subst (λ l. SaysLockstep list l made) (sym (lock list version (rw count at all)))
-          (record {
-            rounds = refl;
-            pieces = mapped_same nodes sets list piece_line (piece_of nodes list) (λ v configs. record { value = (v.stream, v.text); configs = configs }) (λ n v. refl) f.found numbers are.found;
-            ends = mapped_same nodes sets list end_line (end_of nodes list) (λ v configs. record { value = v; configs = configs }) (λ n v. refl) f.ends (drop (length f.found) numbers) are.ends;
-            attempts = spent_mapped nodes sets (version == 2) f.spent (drop (length f.found + length f.ends) numbers) list are.spent;
-          });
+      numbered = numbered;
+      lockstep = says;
     }
 
 -- ---- known sets
@@ -149,10 +190,11 @@ pub reported_text : {S I : Type 0} (sets : Sets I) (version : ℕ) (options : Li
     → ids ≡ shared_ids f.found ++ (shared_ids f.ends ++ (if version == 2 then shared_ids f.spent else []))
     → IsListing sets ids nodes numbers
     → report ≡ report_with version options limit f nodes numbers
+    → IsFitting report
     → IfOk r (λ text. text.items ≡ report_text report)
-    → IfOk r (λ text. (p : Program) (is_allowed : Config → Bool) → AreFindings p sets is_allowed limit f
+    → IfOk r (λ text. (p : Program) (is_allowed : Config → Bool) → IsReportable version options limit is_allowed p → AreFindings p sets is_allowed limit f
     → ((list : List Config) (version : ℕ) → AreAllowed sets.options is_allowed list → lock_report p list limit version ≡ report_by sets list limit version f)
     → IsReported version options limit is_allowed p text.items)
-reported_text sets version options limit f ids nodes numbers report (Err e) count are_ids listing is_report is_text = tt
-reported_text sets version options limit f ids nodes numbers report (Ok text) count are_ids listing is_report is_text =
-    λ p is_allowed findings lock. reported sets version options limit f ids nodes numbers report text.items p is_allowed count are_ids listing is_report is_text findings lock
+reported_text sets version options limit f ids nodes numbers report (Err e) count are_ids listing is_report fits is_text = tt
+reported_text sets version options limit f ids nodes numbers report (Ok text) count are_ids listing is_report fits is_text =
+    λ p is_allowed reportable findings lock. reported sets version options limit f ids nodes numbers report text.items p is_allowed count are_ids listing is_report fits is_text reportable findings lock

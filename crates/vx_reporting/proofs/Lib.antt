@@ -1,3 +1,5 @@
 pub mod Matching
+pub mod Rising
+pub mod Lawful
 pub mod AllLines
 pub mod OneText

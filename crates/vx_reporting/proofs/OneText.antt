@@ -63,7 +63,7 @@ say_same is_allowed list lock one other all version options limit s t left right
 }
 
 -- the allowed ones among all configurations of so many options
-allowed_of : (n : ℕ) (is_allowed : Config → Bool) → AreAllowed n is_allowed (filter is_allowed (configurations n))
+pub allowed_of : (n : ℕ) (is_allowed : Config → Bool) → AreAllowed n is_allowed (filter is_allowed (configurations n))
 allowed_of n is_allowed = record {
   sound = λ c h. of_filter is_allowed (configurations n) c h;
   complete = λ c size allowed. in_filter is_allowed (configurations n) c (Contains-configurations n c size) allowed;
@@ -82,7 +82,7 @@ one_text version options limit is_allowed p one other h k =
     let all : HasAllowed (length r.options) is_allowed list = λ c size allowed. are.complete c (size ∙ n) allowed in
     let same = say_same is_allowed list (lock_report p list limit version) r q all (h.version_is ∙ sym k.version_is) (h.options_are ∙ sym k.options_are) (h.limit_is ∙ sym k.limit_is) (h.lockstep list are) (k.lockstep list are)
     (none_of (length r.options) is_allowed r (λ c size refused. h.others c (size ∙ n) refused)) (none_of (length r.options) is_allowed q (λ c size refused. k.others c (size ∙ n) refused)) in
-    h.spelled ∙ ap report_text (reports_one r q (rw n h.numbered) (rw m k.numbered) same) ∙ sym k.spelled
+    h.spells.text ∙ ap report_text (reports_one r q (rw n h.numbered) (rw m k.numbered) same) ∙ sym k.spells.text
 
 -- so the text that is written is the only one
 pub only_text : (version : ℕ) (options : List (List ℕ)) (limit : ℕ) (r : Result (Vec ℕ Global) AllocError)

@@ -1,18 +1,19 @@
 //! The report of what all runs have come to.
 
-ghost use Rattle.std.specs.Prelude.{◌≡◌, ◌++◌, ℕ, Bool, IfOk, List, [], drop, length, if◌then◌else◌, ◌==◌};
+ghost use Rattle.std.specs.Prelude.{◌≡◌, ◌++◌, ◌<◌, ◌^◌, ℕ, Bool, IfOk, List, [], drop, length, if◌then◌else◌, ◌==◌};
 ghost use Rattle.vx_lockstep.specs.Findings.{AreAllowed, AreFindings, report_by};
 ghost use Rattle.vx_java.specs.Report.{lock_report};
 ghost use Rattle.vx_java.specs.Step.{Config};
 ghost use Rattle.vx_link.specs.declared.program.Program.{Program};
 ghost use Rattle.vx_standing.specs.State.{shared_ids};
 ghost use Rattle.vx_space.specs.Sets.{AreKnown};
+ghost use Rattle.vx_reporting.specs.Fitting.{IsFitting};
 ghost use Rattle.vx_reporting.specs.Listed.{report_with};
-ghost use Rattle.vx_reporting.specs.Reported.{IsOnlyReport, IsReported};
+ghost use Rattle.vx_reporting.specs.Reported.{IsOnlyReport, IsReportable, IsReported};
 
 use crate::lines::{attempts_of, ends_of, pieces_of};
 use std::alloc::{AllocError, Global};
-use vx_bdd_tools::{NodeList, listing};
+use vx_bdd_tools::{Node, NodeList, listing};
 use vx_list::Items;
 use vx_lockstep::Findings;
 use vx_report::{Report, write_report};
@@ -45,6 +46,14 @@ fn behind(numbers: &[u64], count: usize) -> &[u64]
     numbers.get(count..).unwrap_or(&[])
 }
 
+/// A list of nodes is shorter than 2^63, and a number of rounds below 2^128.
+fn counts_fit(nodes: &[Node], rounds: u128)
+    ensures nodes { length nodes.now < 2 ^ 63 }
+    ensures rounds { rounds < 2 ^ 128 }
+{
+    let _len = nodes.len();
+}
+
 /// The report of findings whose sets have these nodes and numbers.
 fn report_with<S: Space>(
     alloc: Global,
@@ -54,7 +63,8 @@ fn report_with<S: Space>(
     findings: Findings<S>,
     list: NodeList,
 ) -> Result<Report, AllocError>
-    ensures { IfOk result (λ report. report ≡ report_with version options limit findings list.nodes list.roots) }
+    ensures report { IfOk result (λ report. report ≡ report_with version options limit findings list.nodes list.roots) }
+    ensures fits { IfOk result IsFitting }
 {
     let Findings {
         rounds,
@@ -62,6 +72,7 @@ fn report_with<S: Space>(
         ends,
         spent,
     } = findings;
+    counts_fit(list.nodes.as_slice(), rounds);
     let numbers = list.roots.as_slice();
     let ends_from = found.len();
     let attempts_from = ends_from.saturating_add(ends.len());
@@ -96,6 +107,7 @@ pub fn report_findings<S: Space>(
     requires options { length options ≡ (S.sets space.now).options }
     requires known { AreKnown (S.sets space.now) (shared_ids findings.found ++ (shared_ids findings.ends ++ shared_ids findings.spent)) }
     ensures reported { IfOk result (λ text. (program : Program) (is_allowed : Config → Bool) →
+        IsReportable version options limit is_allowed program →
         AreFindings program (S.sets space.now) is_allowed limit findings →
         ((list : List Config) (version : ℕ) → AreAllowed (S.sets space.now).options is_allowed list → lock_report program list limit version ≡ report_by (S.sets space.now) list limit version findings) →
         IsReported version options limit is_allowed program text.items) }

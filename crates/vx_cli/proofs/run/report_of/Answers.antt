@@ -1,7 +1,7 @@
 use Rattle.std.proofs.Common.{sym, ap, ◌∙◌, length, map, string_bytes, Err}
 use Rattle.std.proofs.lemmas.List.{length-map}
 use Rattle.vx_model.specs.Models.{is_allowed}
-use Rattle.vx_cli.proofs.Ran.{program_bounded, program_options, refused_unbuilt, reported_run}
+use Rattle.vx_cli.proofs.Ran.{program_bounded, program_options, refused_unbuilt, reportable_run, reported_run}
 use Rattle.vx_cli.proofs.run.report_of.Goals as goal
 use Rattle.vx_lockstep.proofs.Known.{found_known}
 
@@ -21,6 +21,8 @@ pub returns-in-Ok : goal.returns-in-Ok
 returns-in-Ok c =
     reported_run c.args.words.main.now c.args.words.limit c.args.words.version c.args.modeled.model c.args.found.classes.items c.in_ok-program.program c.in_ok-names.names _ _ _ _ _ c.in_ok-program.ensures c.in_ok-names.ensures
     c.requires.allowed.test c.in-Ok.ensures.options c.in-Ok.ensures.findings (c.in-Ok.ensures.lockstep (λ keys place h. h))
+    (reportable_run c.args.words.main.now c.args.words.limit c.args.words.version c.args.modeled.model c.args.found.classes.items c.in_ok-program.program c.in_ok-names.names c.linked_are_sound.ensures c.reports_are_spelled.ensures c.requires.read c.in_ok-program.ensures
+    c.in_ok-names.ensures c.requires.names c.requires.allows c.requires.least c.requires.most c.requires.version)
     (c.in_ok-report_findings-in-Ok.ensures.reported c.in_ok-program.program (is_allowed c.args.modeled.model))
 
 pub returns : goal.returns

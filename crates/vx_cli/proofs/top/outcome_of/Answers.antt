@@ -6,3 +6,6 @@ run_text-requires-clause-least g c = let range = rw c.in-Run.is at c.requires in
 
 pub run_text-requires-clause-most : goal.run_text-requires-clause-most
 run_text-requires-clause-most g c = let range = rw c.in-Run.is at c.requires in omega (arith, range.1)
+
+pub run_text-requires-clause-version : goal.run_text-requires-clause-version
+run_text-requires-clause-version g c = let range = rw c.in-Run.is at c.requires in range.2

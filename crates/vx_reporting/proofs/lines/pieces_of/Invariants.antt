@@ -1,5 +1,7 @@
-use Rattle.std.proofs.Common.{◌≡◌, ◌++◌, length}
+use Rattle.std.proofs.Common.{◌≡◌, ◌++◌, length, true}
+use Rattle.std.specs.List.{list_all}
 use Rattle.std.specs.Vec.Iter.{into_iter_items, into_iter_len}
+use Rattle.vx_reporting.specs.Fitting.{are_bytes}
 use Rattle.vx_reporting.specs.Listed.{piece_line, lines_with}
 use Rattle.vx_reporting.proofs.lines.pieces_of.Given as goal
 
@@ -7,3 +9,4 @@ abbrev pub invariant-loop-shared : goal.invariant-loop-shared
 invariant-loop-shared g l =
     (into_iter_len l.shared-iterator ≡ length (into_iter_items l.shared-iterator))
     × (l.lines.items ++ lines_with piece_line (into_iter_items l.shared-iterator) l.rest ≡ lines_with piece_line l.fn.found.items l.fn.numbers)
+    × (list_all (λ piece. are_bytes piece.text) l.lines.items ≡ true)

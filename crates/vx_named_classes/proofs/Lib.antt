@@ -1,0 +1,7 @@
+pub mod Forms
+pub mod Rules
+pub mod Pools
+pub mod Operations
+pub mod NamedFiles
+pub mod NamedCore
+pub mod NamedPrograms

@@ -1,0 +1,10 @@
+pub mod Tests
+pub mod Positions
+pub mod Leads
+pub mod Outcomes
+pub mod Rows
+pub mod Natives
+pub mod Throws
+pub mod Runs
+pub mod Reports
+pub mod Sound
