@@ -208,7 +208,7 @@ is_some_nil {A} xs x others e = rw e (some_there x others)
     some_there x others = grind (arith, nat_tests)
 
 -- where a report says something of a configuration it has an end
-ended_there : (r : Report) (c : Config) (p : Projection) → project r c ≡ Some p → is_nil r.ends ≡ false
+pub ended_there : (r : Report) (c : Config) (p : Projection) → project r c ≡ Some p → is_nil r.ends ≡ false
 ended_there r c p e = by_ends r.ends refl
   where
     by_ends : (ends : List EndLine) → r.ends ≡ ends → is_nil r.ends ≡ false
