@@ -1,0 +1,5 @@
+pub mod Throwables
+pub mod WholeFiles
+pub mod WholeMethods
+pub mod WholePrograms
+pub mod States
