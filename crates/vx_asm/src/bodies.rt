@@ -8,12 +8,11 @@ ghost use Rattle.vx_asm.specs.Bodies.{with_needed, is_index_near, with_draft, po
 
 use crate::class_draft::{Body, ClassDraft, Covered};
 use std::alloc::{AllocError, Global};
-use vx_class_parts::{Constant, in_file_or_zero, index_of, is_lawful_class, put_constant};
+use vx_class_parts::{Constant, ConstantTable, in_file_or_zero, is_lawful_class, put_constant};
 use vx_code_parts::{
     Label, Labels, check_instruction, constant_of, draft_of, find_label, is_known, leads,
     number_of, pushed,
 };
-use vx_list::Items;
 use vx_source::{CatchLine, Instruction};
 use vx_source_words::{LDC, LineFault, refused};
 use vx_value::Name;
@@ -21,10 +20,10 @@ use vx_value::Name;
 /// The constant that an instruction needs.
 fn put_needed(
     alloc: Global,
-    pool: &mut Vec<Constant>,
+    pool: &mut ConstantTable,
     needed: Option<&Constant>,
 ) -> Result<(), AllocError>
-    ensures { OnOk result (pool.new.items ≡ with_needed pool.old.items (option_copied needed.entry)) }
+    ensures { OnOk result (pool.new ≡ with_needed pool.old (option_copied needed.entry)) }
 {
     match needed {
         None => Ok(()),
@@ -33,19 +32,19 @@ fn put_needed(
 }
 
 /// Whether the index of a constant fits the byte that `ldc` has for it.
-fn is_index_near(pool: &[Constant], opcode: u8, needed: Option<&Constant>) -> bool
+fn is_index_near(pool: &ConstantTable, opcode: u8, needed: Option<&Constant>) -> bool
     ensures { result ≡ is_index_near pool.now opcode (option_copied needed.entry) }
 {
     match needed {
         None => true,
-        Some(constant) => opcode != LDC || index_of(pool, constant) < 256,
+        Some(constant) => opcode != LDC || pool.index_of(constant) < 256,
     }
 }
 
 fn with_draft(
     alloc: Global,
     body: Body,
-    pool: &[Constant],
+    pool: &ConstantTable,
     needed: Option<&Constant>,
     instruction: &Instruction,
 ) -> Result<Body, AllocError>
@@ -64,12 +63,12 @@ fn with_draft(
 /// A body with an instruction more, whose constant the pool gets.
 fn put_instruction(
     alloc: Global,
-    pool: &mut Vec<Constant>,
+    pool: &mut ConstantTable,
     body: Body,
     instruction: &Instruction,
 ) -> Result<Body, AllocError>
-    ensures pool { OnOk result (pool.new.items ≡ pool_of_instruction pool.old.items instruction.now) }
-    ensures body { IfOk result (λ b. b ≡ with_draft body pool.new.items (constant_of instruction.now.opcode instruction.now.operand) instruction.now) }
+    ensures pool { OnOk result (pool.new ≡ pool_of_instruction pool.old instruction.now) }
+    ensures body { IfOk result (λ b. b ≡ with_draft body pool.new (constant_of instruction.now.opcode instruction.now.operand) instruction.now) }
 {
     let needed = constant_of(alloc, instruction.opcode, &instruction.operand)?;
     put_needed(alloc, pool, needed.as_ref())?;
@@ -85,10 +84,10 @@ fn with_instruction(
 ) -> Result<ClassDraft, AllocError>
     ensures { IfOk result (λ d. d ≡ with_instruction draft body instruction.now) }
 {
-    let mut pool = draft.pool.into_vec();
+    let mut pool = draft.pool;
     let body = put_instruction(alloc, &mut pool, body, instruction)?;
     Ok(ClassDraft {
-        pool: Items::of(pool),
+        pool,
         body: Some(body),
         ..draft
     })

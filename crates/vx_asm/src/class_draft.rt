@@ -1,7 +1,7 @@
 //! A class while the lines of its source are read.
 
 use vx_class::{Field, Method};
-use vx_class_parts::Constant;
+use vx_class_parts::ConstantTable;
 use vx_code_parts::{Draft, Labels};
 use vx_list::Items;
 use vx_value::Name;
@@ -49,14 +49,14 @@ pub struct Body {
 }
 
 /// What the lines so far say of the class. Classes are indices of the pool.
-#[derive(Debug, Drop)]
+#[derive(Drop)]
 pub struct ClassDraft {
     pub stage: Stage,
     pub major: u16,
     pub flags: u16,
     pub this_class: u16,
     pub super_class: u16,
-    pub pool: Items<Constant>,
+    pub pool: ConstantTable,
     pub interfaces: Items<u16>,
     pub fields: Items<Field>,
     pub field_signatures: Items<Signature>,

@@ -7,7 +7,7 @@ ghost use Rattle.vx_asm.specs.Bodies.{places_of, with_caught, with_rows, caught_
 use crate::class_draft::{Body, ClassDraft, Covered};
 use std::alloc::{AllocError, Global};
 use vx_class::{Catch, Code, Method};
-use vx_class_parts::{Constant, class_index, put_class};
+use vx_class_parts::{ConstantTable, class_index, put_class};
 use vx_code_parts::{Draft, all_reach, code_bytes, next_place, place_of, pushed};
 use vx_list::Items;
 use vx_source_words::{LineFault, refused};
@@ -37,10 +37,10 @@ fn place_in_file(places: &[u32], number: usize) -> u16
 
 fn put_caught(
     alloc: Global,
-    pool: &mut Vec<Constant>,
+    pool: &mut ConstantTable,
     class: &Option<Name>,
 ) -> Result<(), AllocError>
-    ensures { OnOk result (pool.new.items ≡ with_caught pool.old.items class.now) }
+    ensures { OnOk result (pool.new ≡ with_caught pool.old class.now) }
 {
     match class {
         None => Ok(()),
@@ -49,8 +49,8 @@ fn put_caught(
 }
 
 /// The classes that the rows catch.
-fn put_rows(alloc: Global, pool: &mut Vec<Constant>, rows: &[Covered]) -> Result<(), AllocError>
-    ensures { OnOk result (pool.new.items ≡ with_rows pool.old.items rows.now) }
+fn put_rows(alloc: Global, pool: &mut ConstantTable, rows: &[Covered]) -> Result<(), AllocError>
+    ensures { OnOk result (pool.new ≡ with_rows pool.old rows.now) }
 {
     for row in rows {
         put_caught(alloc, pool, &row.class)?;
@@ -58,7 +58,11 @@ fn put_rows(alloc: Global, pool: &mut Vec<Constant>, rows: &[Covered]) -> Result
     Ok(())
 }
 
-fn caught_index(alloc: Global, pool: &[Constant], class: &Option<Name>) -> Result<u16, AllocError>
+fn caught_index(
+    alloc: Global,
+    pool: &ConstantTable,
+    class: &Option<Name>,
+) -> Result<u16, AllocError>
     ensures { IfOk result (λ i. i ≡ caught_index pool.now class.now) }
 {
     match class {
@@ -69,7 +73,7 @@ fn caught_index(alloc: Global, pool: &[Constant], class: &Option<Name>) -> Resul
 
 fn catch_of(
     alloc: Global,
-    pool: &[Constant],
+    pool: &ConstantTable,
     places: &[u32],
     row: &Covered,
 ) -> Result<Catch, AllocError>
@@ -85,7 +89,7 @@ fn catch_of(
 
 fn catches_of(
     alloc: Global,
-    pool: &[Constant],
+    pool: &ConstantTable,
     places: &[u32],
     rows: &[Covered],
 ) -> Result<Vec<Catch>, AllocError>
@@ -100,7 +104,7 @@ fn catches_of(
 
 fn code_of(
     alloc: Global,
-    pool: &[Constant],
+    pool: &ConstantTable,
     places: &[u32],
     body: &Body,
 ) -> Result<Code, AllocError>
@@ -118,7 +122,7 @@ fn code_of(
 
 fn method_of(
     alloc: Global,
-    pool: &[Constant],
+    pool: &ConstantTable,
     places: &[u32],
     body: &Body,
 ) -> Result<Method, AllocError>
@@ -146,12 +150,12 @@ fn is_small_code(places: &[u32], body: &Body) -> bool
 /// The method of a body, of which the pool gets the classes that its rows catch.
 fn put_method(
     alloc: Global,
-    pool: &mut Vec<Constant>,
+    pool: &mut ConstantTable,
     body: &Body,
     places: &[u32],
 ) -> Result<Method, AllocError>
-    ensures pool { OnOk result (pool.new.items ≡ with_rows pool.old.items body.now.rows) }
-    ensures method { IfOk result (λ m. m ≡ method_of pool.new.items places.now body.now) }
+    ensures pool { OnOk result (pool.new ≡ with_rows pool.old body.now.rows) }
+    ensures method { IfOk result (λ m. m ≡ method_of pool.new places.now body.now) }
 {
     put_rows(alloc, pool, body.rows.as_slice())?;
     method_of(alloc, pool, places, body)
@@ -166,10 +170,10 @@ fn with_end(
 ) -> Result<ClassDraft, AllocError>
     ensures { IfOk result (λ d. d ≡ with_end draft body.now places.now) }
 {
-    let mut pool = draft.pool.into_vec();
+    let mut pool = draft.pool;
     let method = put_method(alloc, &mut pool, body, places)?;
     Ok(ClassDraft {
-        pool: Items::of(pool),
+        pool,
         methods: pushed(draft.methods, method)?,
         body: None,
         ..draft

@@ -9,10 +9,10 @@ use crate::parts::{is_taken, may_have_field, signature_of};
 use std::alloc::{AllocError, Global};
 use vx_class::Field;
 use vx_class_parts::{
-    Constant, in_file_or_zero, is_lawful_field, may_have_value, put_constant, put_text, text_index,
+    Constant, ConstantTable, in_file_or_zero, is_lawful_field, may_have_value, put_constant,
+    put_text, text_index,
 };
 use vx_code_parts::pushed;
-use vx_list::Items;
 use vx_source::{FieldLine, Value};
 use vx_source_words::{LineFault, refused};
 use vx_value::Name;
@@ -38,11 +38,11 @@ fn constant_of_value(alloc: Global, value: &Value) -> Result<Option<Constant>, A
 /// The name and the descriptor of a member.
 pub fn put_signature(
     alloc: Global,
-    pool: &mut Vec<Constant>,
+    pool: &mut ConstantTable,
     name: &[u8],
     descriptor: &[u8],
 ) -> Result<(), AllocError>
-    ensures { OnOk result (pool.new.items ≡ with_signature pool.old.items name.now descriptor.now) }
+    ensures { OnOk result (pool.new ≡ with_signature pool.old name.now descriptor.now) }
 {
     put_text(alloc, pool, name)?;
     put_text(alloc, pool, descriptor)
@@ -51,10 +51,10 @@ pub fn put_signature(
 /// The name of the attribute, then the value.
 fn put_value(
     alloc: Global,
-    pool: &mut Vec<Constant>,
+    pool: &mut ConstantTable,
     given: Option<&Constant>,
 ) -> Result<(), AllocError>
-    ensures { OnOk result (pool.new.items ≡ with_value pool.old.items (option_copied given.entry)) }
+    ensures { OnOk result (pool.new ≡ with_value pool.old (option_copied given.entry)) }
 {
     match given {
         None => Ok(()),
@@ -67,7 +67,7 @@ fn put_value(
 
 fn field_of(
     alloc: Global,
-    pool: &[Constant],
+    pool: &ConstantTable,
     given: Option<&Constant>,
     line: &FieldLine,
 ) -> Result<Field, AllocError>
@@ -82,9 +82,9 @@ fn field_of(
 }
 
 /// The field of a line, of which the pool gets all that it needs.
-fn put_field(alloc: Global, pool: &mut Vec<Constant>, line: &FieldLine) -> Result<Field, AllocError>
-    ensures pool { OnOk result (pool.new.items ≡ pool_of_field pool.old.items line.now) }
-    ensures field { IfOk result (λ f. f ≡ field_of pool.new.items (constant_of_value line.now.value) line.now) }
+fn put_field(alloc: Global, pool: &mut ConstantTable, line: &FieldLine) -> Result<Field, AllocError>
+    ensures pool { OnOk result (pool.new ≡ pool_of_field pool.old line.now) }
+    ensures field { IfOk result (λ f. f ≡ field_of pool.new (constant_of_value line.now.value) line.now) }
 {
     let given = constant_of_value(alloc, &line.value)?;
     put_signature(alloc, pool, line.name.bytes(), line.descriptor.bytes())?;
@@ -96,12 +96,12 @@ fn put_field(alloc: Global, pool: &mut Vec<Constant>, line: &FieldLine) -> Resul
 fn with_field(alloc: Global, draft: ClassDraft, line: &FieldLine) -> Result<ClassDraft, AllocError>
     ensures { IfOk result (λ d. d ≡ with_field draft line.now) }
 {
-    let mut pool = draft.pool.into_vec();
+    let mut pool = draft.pool;
     let field = put_field(alloc, &mut pool, line)?;
     let signature = signature_of(alloc, line.name.bytes(), line.descriptor.bytes())?;
     Ok(ClassDraft {
         stage: Stage::Fields,
-        pool: Items::of(pool),
+        pool,
         fields: pushed(draft.fields, field)?,
         field_signatures: pushed(draft.field_signatures, signature)?,
         ..draft

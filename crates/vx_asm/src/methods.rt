@@ -10,7 +10,7 @@ use crate::parts::{has_class, is_taken, signature_of};
 use std::alloc::{AllocError, Global};
 use vx_class::Method;
 use vx_class_parts::{
-    Constant, is_lawful_code, is_lawful_initialiser, is_lawful_method, put_text, text_index,
+    ConstantTable, is_lawful_code, is_lawful_initialiser, is_lawful_method, put_text, text_index,
 };
 use vx_code_parts::{labels_of, pushed};
 use vx_list::Items;
@@ -45,7 +45,7 @@ fn is_lawful_line(alloc: Global, draft: &ClassDraft, line: &MethodLine) -> Resul
 }
 
 /// A method without code.
-fn bare_method(alloc: Global, pool: &[Constant], line: &MethodLine) -> Result<Method, AllocError>
+fn bare_method(alloc: Global, pool: &ConstantTable, line: &MethodLine) -> Result<Method, AllocError>
     ensures { IfOk result (λ m. m ≡ bare_method pool.now line.now) }
 {
     Ok(Method {
@@ -59,11 +59,11 @@ fn bare_method(alloc: Global, pool: &[Constant], line: &MethodLine) -> Result<Me
 /// A method without code, of which the pool gets all that it needs.
 fn put_bare_method(
     alloc: Global,
-    pool: &mut Vec<Constant>,
+    pool: &mut ConstantTable,
     line: &MethodLine,
 ) -> Result<Method, AllocError>
-    ensures pool { OnOk result (pool.new.items ≡ with_signature pool.old.items line.now.name line.now.descriptor) }
-    ensures method { IfOk result (λ m. m ≡ bare_method pool.new.items line.now) }
+    ensures pool { OnOk result (pool.new ≡ with_signature pool.old line.now.name line.now.descriptor) }
+    ensures method { IfOk result (λ m. m ≡ bare_method pool.new line.now) }
 {
     put_signature(alloc, pool, line.name.bytes(), line.descriptor.bytes())?;
     bare_method(alloc, pool, line)
@@ -77,12 +77,12 @@ fn with_bare_method(
 ) -> Result<ClassDraft, AllocError>
     ensures { IfOk result (λ d. d ≡ with_bare_method draft line.now) }
 {
-    let mut pool = draft.pool.into_vec();
+    let mut pool = draft.pool;
     let method = put_bare_method(alloc, &mut pool, line)?;
     let signature = signature_of(alloc, line.name.bytes(), line.descriptor.bytes())?;
     Ok(ClassDraft {
         stage: Stage::Methods,
-        pool: Items::of(pool),
+        pool,
         methods: pushed(draft.methods, method)?,
         method_signatures: pushed(draft.method_signatures, signature)?,
         ..draft
@@ -91,7 +91,7 @@ fn with_bare_method(
 
 fn body_of(
     alloc: Global,
-    pool: &[Constant],
+    pool: &ConstantTable,
     line: &MethodLine,
     room: Room,
     behind: &[SourceLine],
@@ -115,13 +115,13 @@ fn body_of(
 /// A body that begins, of which the pool gets all that its method needs.
 fn put_body(
     alloc: Global,
-    pool: &mut Vec<Constant>,
+    pool: &mut ConstantTable,
     line: &MethodLine,
     room: Room,
     behind: &[SourceLine],
 ) -> Result<Body, AllocError>
-    ensures pool { OnOk result (pool.new.items ≡ pool_of_body pool.old.items line.now) }
-    ensures body { IfOk result (λ b. b ≡ body_of pool.new.items line.now room behind.now) }
+    ensures pool { OnOk result (pool.new ≡ pool_of_body pool.old line.now) }
+    ensures body { IfOk result (λ b. b ≡ body_of pool.new line.now room behind.now) }
 {
     put_signature(alloc, pool, line.name.bytes(), line.descriptor.bytes())?;
     put_text(alloc, pool, b"Code")?;
@@ -138,12 +138,12 @@ fn with_body(
 ) -> Result<ClassDraft, AllocError>
     ensures { IfOk result (λ d. d ≡ with_body draft line.now room behind.now) }
 {
-    let mut pool = draft.pool.into_vec();
+    let mut pool = draft.pool;
     let body = put_body(alloc, &mut pool, line, room, behind)?;
     let signature = signature_of(alloc, line.name.bytes(), line.descriptor.bytes())?;
     Ok(ClassDraft {
         stage: Stage::Methods,
-        pool: Items::of(pool),
+        pool,
         method_signatures: pushed(draft.method_signatures, signature)?,
         body: Some(body),
         ..draft

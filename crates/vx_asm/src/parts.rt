@@ -9,9 +9,8 @@ ghost use Rattle.vx_asm.specs.Parts.{may_have_version, may_have_class, may_have_
 
 use crate::class_draft::{ClassDraft, Signature, Stage};
 use std::alloc::{AllocError, Global};
-use vx_class_parts::{Constant, class_index, is_lawful_class, is_plain_class, put_class};
+use vx_class_parts::{ConstantTable, class_index, is_lawful_class, is_plain_class, put_class};
 use vx_code_parts::pushed;
-use vx_list::Items;
 use vx_source::ClassLine;
 use vx_source_words::{LineFault, refused};
 use vx_value::Name;
@@ -66,11 +65,11 @@ pub fn version_line(draft: ClassDraft, major: u16) -> Result<ClassDraft, LineFau
 /// The indices of a class and of its superclass, which the pool gets.
 fn put_names(
     alloc: Global,
-    pool: &mut Vec<Constant>,
+    pool: &mut ConstantTable,
     line: &ClassLine,
 ) -> Result<(u16, u16), AllocError>
-    ensures pool { OnOk result (pool.new.items ≡ with_names pool.old.items line.now) }
-    ensures indices { IfOk result (λ p. p ≡ (in_file pool.new.items (Class line.now.name), in_file pool.new.items (Class line.now.super_class))) }
+    ensures pool { OnOk result (pool.new ≡ with_names pool.old line.now) }
+    ensures indices { IfOk result (λ p. p ≡ (in_file pool.new (Class line.now.name), in_file pool.new (Class line.now.super_class))) }
 {
     put_class(alloc, pool, line.name.bytes())?;
     put_class(alloc, pool, line.super_class.bytes())?;
@@ -87,14 +86,14 @@ fn with_class_line(
 ) -> Result<ClassDraft, AllocError>
     ensures { IfOk result (λ d. d ≡ with_class_line draft line.now) }
 {
-    let mut pool = draft.pool.into_vec();
+    let mut pool = draft.pool;
     let (this_class, super_class) = put_names(alloc, &mut pool, line)?;
     Ok(ClassDraft {
         stage: Stage::Class,
         flags: line.flags,
         this_class,
         super_class,
-        pool: Items::of(pool),
+        pool,
         ..draft
     })
 }
@@ -121,11 +120,11 @@ pub fn class_line(
 fn with_interface(alloc: Global, draft: ClassDraft, name: &[u8]) -> Result<ClassDraft, AllocError>
     ensures { IfOk result (λ d. d ≡ with_interface draft name.now) }
 {
-    let mut pool = draft.pool.into_vec();
+    let mut pool = draft.pool;
     put_class(alloc, &mut pool, name)?;
     let index = class_index(alloc, &pool, name)?;
     Ok(ClassDraft {
-        pool: Items::of(pool),
+        pool,
         interfaces: pushed(draft.interfaces, index)?,
         ..draft
     })

@@ -18,7 +18,7 @@ use crate::methods::method_line;
 use crate::parts::{class_line, has_class, implements_line, version_line};
 use std::alloc::{AllocError, Global};
 use vx_class::ClassFile;
-use vx_class_parts::{places, pool_of};
+use vx_class_parts::{ConstantTable, pool_of};
 use vx_code_parts::is_of_version;
 use vx_list::Items;
 use vx_source::{Operand, Said, Source, SourceLine, Statement, read_source};
@@ -119,7 +119,7 @@ fn with_line(
 fn is_small(draft: &ClassDraft) -> bool
     ensures { result ≡ is_small draft.now }
 {
-    places(draft.pool.as_slice()) < 65_536
+    draft.pool.places() < 65_536
         && draft.interfaces.len() < 65_536
         && draft.fields.len() < 65_536
         && draft.methods.len() < 65_536
@@ -163,7 +163,7 @@ fn nothing(alloc: Global) -> ClassDraft
         flags: 0,
         this_class: 0,
         super_class: 0,
-        pool: Items::of(Vec::new(alloc)),
+        pool: ConstantTable::new(alloc),
         interfaces: Items::of(Vec::new(alloc)),
         fields: Items::of(Vec::new(alloc)),
         field_signatures: Items::of(Vec::new(alloc)),
@@ -191,7 +191,7 @@ fn file_of(alloc: Global, draft: ClassDraft) -> Result<ClassFile, AllocError>
     Ok(ClassFile {
         minor: 0,
         major: draft.major,
-        pool: pool_of(alloc, draft.pool.as_slice())?,
+        pool: pool_of(alloc, &draft.pool)?,
         flags: draft.flags,
         this_class: draft.this_class,
         super_class: draft.super_class,

@@ -97,8 +97,7 @@ fn attempt_at<S: Space>(
     ensures not_yet { result ≡ Err AttemptFault.NotYet → IsUnbuiltThere site.now.program.now (S.sets space.old) heap.old group }
 {
     let outcomes = by_family(alloc, site, space, heap, family, operation, group)?;
-    let made = carried_out(alloc, site, space, heap, outcomes)?;
-    Ok(made)
+    carried_out(alloc, site, space, heap, outcomes)
 }
 
 /// The attempt in the code of the group's method. Behind the last instruction the run ends (JVMS 4.9.2).

@@ -1,1 +1,2 @@
+mod Indices
 mod Placed

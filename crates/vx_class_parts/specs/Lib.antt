@@ -1,2 +1,4 @@
 pub mod Constants
+pub mod Keys
 pub mod Rules
+pub mod Table

@@ -1,12 +1,15 @@
 //! The constants of a class that is assembled, in the order in which they are first needed.
 
-ghost use Rattle.std.specs.Prelude.{◌≡◌, ◌+◌, ◌%◌, ◌≤◌, ◌<◌, ◌++◌, ◌∷◌, option_copied, OnOk, IfOk};
-ghost use Rattle.std.specs.List.{list_any, flat_map, AllByRecursion};
+ghost use Rattle.std.specs.Prelude.{◌≡◌, ◌%◌, ◌≤◌, ◌<◌, ◌++◌, ◌∷◌, fold, option_copied, OnOk, IfOk};
+ghost use Rattle.std.specs.List.{flat_map, AllByRecursion};
 ghost use Rattle.std.specs.Str.{bytes_eq};
 ghost use Rattle.vx_pool.specs.Spelling.{IsPool};
-ghost use Rattle.vx_class_parts.specs.Constants.{HasRoom, is_same_kind, is_same, with, with_text, with_class, with_literal, with_name_and_type, with_member, with_constant, width, index_of, places, in_file, in_file_or_zero, text_entry, member_entry, entry_of, entries_of, pool_of};
+ghost use Rattle.vx_class_parts.specs.Constants.{HasRoom, is_same_kind, is_same, with, with_text, with_class, with_literal, with_name_and_type, with_member, with_constant, width, places, in_file, in_file_or_zero, text_entry, member_entry, entry_of, entries_of, pool_of};
+ghost use Rattle.vx_class_parts.specs.Keys.{hashed_text};
 
+use crate::table::ConstantTable;
 use std::alloc::{AllocError, Global};
+use std::hash::{Hash, Hasher};
 use vx_list::Items;
 use vx_pool::{Entry, Pool, Utf8};
 use vx_value::Name;
@@ -30,6 +33,66 @@ pub enum Constant {
     NameAndType(Name, Name),
     /// A class, a name and a descriptor.
     Member(Kind, Name, Name, Name),
+}
+
+impl PartialEq for Constant {
+    ghost use Rattle.vx_class_parts.specs.Constants.{is_same};
+    ghost use Rattle.vx_class_parts.specs.Keys.{is_same_partial_equivalence};
+
+    ghost eq = { is_same };
+
+    ghost laws = { is_same_partial_equivalence };
+
+    fn eq(&self, other: &Constant) -> bool {
+        is_same(self, other)
+    }
+}
+
+impl Eq for Constant {
+    ghost use Rattle.vx_class_parts.specs.Keys.{is_same_equivalence};
+
+    ghost laws = { is_same_equivalence };
+}
+
+/// By the tag of its entry (JVMS 4.4), where members share one, and then by its texts or its number.
+impl Hash for Constant {
+    ghost use Rattle.vx_class_parts.specs.Keys.{hashed, same_hashed};
+
+    ghost hash_input = { hashed };
+
+    ghost respects_eq = { same_hashed };
+
+    fn hash<H: Hasher>(&self, state: &mut H) {
+        match self {
+            Constant::Text(text) => hash_text(1, text, state),
+            Constant::Integer(number) => {
+                state.write_u8(3);
+                number.hash(state);
+            }
+            Constant::Long(number) => {
+                state.write_u8(5);
+                number.hash(state);
+            }
+            Constant::Class(name) => hash_text(7, name, state),
+            Constant::Literal(text) => hash_text(8, text, state),
+            Constant::NameAndType(name, descriptor) => {
+                hash_text(12, name, state);
+                descriptor.bytes().hash(state);
+            }
+            Constant::Member(_, class, name, descriptor) => {
+                hash_text(10, class, state);
+                name.bytes().hash(state);
+                descriptor.bytes().hash(state);
+            }
+        }
+    }
+}
+
+fn hash_text<H: Hasher>(tag: u8, text: &Name, state: &mut H)
+    ensures { state.new ≡ fold H.write state.old (hashed_text tag text.now) }
+{
+    state.write_u8(tag);
+    text.bytes().hash(state);
 }
 
 fn is_equal(first: &Name, second: &Name) -> bool
@@ -69,92 +132,75 @@ fn is_same(first: &Constant, second: &Constant) -> bool
     }
 }
 
-fn has(pool: &[Constant], constant: &Constant) -> bool
-    ensures { result ≡ list_any (is_same constant.now) pool.now }
-{
-    pool.iter().any(|other| is_same(constant, other))
-}
-
-/// A constant behind the others, unless it is there.
-#[tactic(auto, unfolding(crate::specs::Constants::with))]
-fn put(pool: &mut Vec<Constant>, constant: Constant) -> Result<(), AllocError>
-    ensures { OnOk result (pool.new.items ≡ with pool.old.items constant) }
-{
-    if !has(pool, &constant) {
-        pool.push(constant)?;
-    }
-    Ok(())
-}
-
 /// A text behind the others, unless it is there.
-pub fn put_text(alloc: Global, pool: &mut Vec<Constant>, text: &[u8]) -> Result<(), AllocError>
-    ensures { OnOk result (pool.new.items ≡ with_text pool.old.items text.now) }
+pub fn put_text(alloc: Global, pool: &mut ConstantTable, text: &[u8]) -> Result<(), AllocError>
+    ensures { OnOk result (pool.new ≡ with_text pool.old text.now) }
 {
-    put(pool, Constant::Text(Name::of(alloc, text)?))
+    pool.put(Constant::Text(Name::of(alloc, text)?))
 }
 
-fn put_number(pool: &mut Vec<Constant>, number: i32) -> Result<(), AllocError>
-    ensures { OnOk result (pool.new.items ≡ with pool.old.items (Constant.Integer number)) }
+fn put_number(pool: &mut ConstantTable, number: i32) -> Result<(), AllocError>
+    ensures { OnOk result (pool.new ≡ with pool.old (Constant.Integer number)) }
 {
-    put(pool, Constant::Integer(number))
+    pool.put(Constant::Integer(number))
 }
 
-fn put_long(pool: &mut Vec<Constant>, number: i64) -> Result<(), AllocError>
-    ensures { OnOk result (pool.new.items ≡ with pool.old.items (Constant.Long number)) }
+fn put_long(pool: &mut ConstantTable, number: i64) -> Result<(), AllocError>
+    ensures { OnOk result (pool.new ≡ with pool.old (Constant.Long number)) }
 {
-    put(pool, Constant::Long(number))
+    pool.put(Constant::Long(number))
 }
 
 /// A class and its name behind the others, unless they are there.
-pub fn put_class(alloc: Global, pool: &mut Vec<Constant>, name: &[u8]) -> Result<(), AllocError>
-    ensures { OnOk result (pool.new.items ≡ with_class pool.old.items name.now) }
+pub fn put_class(alloc: Global, pool: &mut ConstantTable, name: &[u8]) -> Result<(), AllocError>
+    ensures { OnOk result (pool.new ≡ with_class pool.old name.now) }
 {
-    put(pool, Constant::Class(Name::of(alloc, name)?))?;
+    pool.put(Constant::Class(Name::of(alloc, name)?))?;
     put_text(alloc, pool, name)
 }
 
-fn put_literal(alloc: Global, pool: &mut Vec<Constant>, text: &[u8]) -> Result<(), AllocError>
-    ensures { OnOk result (pool.new.items ≡ with_literal pool.old.items text.now) }
+fn put_literal(alloc: Global, pool: &mut ConstantTable, text: &[u8]) -> Result<(), AllocError>
+    ensures { OnOk result (pool.new ≡ with_literal pool.old text.now) }
 {
-    put(pool, Constant::Literal(Name::of(alloc, text)?))?;
+    pool.put(Constant::Literal(Name::of(alloc, text)?))?;
     put_text(alloc, pool, text)
 }
 
 fn put_name_and_type(
     alloc: Global,
-    pool: &mut Vec<Constant>,
+    pool: &mut ConstantTable,
     name: &[u8],
     descriptor: &[u8],
 ) -> Result<(), AllocError>
-    ensures { OnOk result (pool.new.items ≡ with_name_and_type pool.old.items name.now descriptor.now) }
+    ensures { OnOk result (pool.new ≡ with_name_and_type pool.old name.now descriptor.now) }
 {
     let first = Name::of(alloc, name)?;
     let second = Name::of(alloc, descriptor)?;
-    put(pool, Constant::NameAndType(first, second))?;
+    pool.put(Constant::NameAndType(first, second))?;
     put_text(alloc, pool, name)?;
     put_text(alloc, pool, descriptor)
 }
 
 fn put_member(
     alloc: Global,
-    pool: &mut Vec<Constant>,
+    pool: &mut ConstantTable,
     kind: Kind,
     class: &[u8],
     name: &[u8],
     descriptor: &[u8],
 ) -> Result<(), AllocError>
-    ensures { OnOk result (pool.new.items ≡ with_member pool.old.items kind class.now name.now descriptor.now) }
+    ensures { OnOk result (pool.new ≡ with_member pool.old kind class.now name.now descriptor.now) }
 {
     let first = Name::of(alloc, class)?;
     let second = Name::of(alloc, name)?;
     let third = Name::of(alloc, descriptor)?;
-    put(pool, Constant::Member(kind, first, second, third))?;
+    pool.put(Constant::Member(kind, first, second, third))?;
     put_class(alloc, pool, class)?;
     put_name_and_type(alloc, pool, name, descriptor)
 }
 
 /// How many places a constant takes.
-fn width(constant: &Constant) -> u8
+pub(crate) fn width(constant: &Constant) -> u8
     ensures value { result ≡ width constant.now }
     ensures few { result ≤ 2 }
 {
@@ -164,41 +210,15 @@ fn width(constant: &Constant) -> u8
     }
 }
 
-/// The index of a constant that is there.
-#[tactic(auto, unfolding(crate::specs::Constants::index_of))]
-pub fn index_of(pool: &[Constant], constant: &Constant) -> u128
-    ensures { result ≡ index_of pool.now constant.now }
-{
-    let mut index = 1;
-    for other in pool {
-        if is_same(constant, other) {
-            return index;
-        }
-        index += u128::from(width(other));
-    }
-    index
-}
-
-/// How many places the pool has, place 0 among them.
-pub fn places(pool: &[Constant]) -> u128
-    ensures { result ≡ places pool.now }
-{
-    let mut count = 1;
-    for constant in pool {
-        count += u128::from(width(constant));
-    }
-    count
-}
-
 /// The index of a constant as it stands in the file.
-fn in_file(pool: &[Constant], constant: &Constant) -> u16
+fn in_file(pool: &ConstantTable, constant: &Constant) -> u16
     ensures { result ≡ in_file pool.now constant.now }
 {
-    (index_of(pool, constant) % 65_536) as u16
+    (pool.index_of(constant) % 65_536) as u16
 }
 
 /// The index of a constant as it stands in the file, or 0 where there is no constant.
-pub fn in_file_or_zero(pool: &[Constant], constant: Option<&Constant>) -> u16
+pub fn in_file_or_zero(pool: &ConstantTable, constant: Option<&Constant>) -> u16
     ensures { result ≡ in_file_or_zero pool.now (option_copied constant.entry) }
 {
     match constant {
@@ -228,7 +248,7 @@ fn member_entry(kind: Kind, class: u16, name: u16) -> Entry
 }
 
 /// The index of a text, as it stands in the file.
-pub fn text_index(alloc: Global, pool: &[Constant], text: &[u8]) -> Result<u16, AllocError>
+pub fn text_index(alloc: Global, pool: &ConstantTable, text: &[u8]) -> Result<u16, AllocError>
     ensures { IfOk result (λ i. i ≡ in_file pool.now (Constant.Text text.now)) }
 {
     let constant = Constant::Text(Name::of(alloc, text)?);
@@ -236,7 +256,7 @@ pub fn text_index(alloc: Global, pool: &[Constant], text: &[u8]) -> Result<u16, 
 }
 
 /// The index of a class, as it stands in the file.
-pub fn class_index(alloc: Global, pool: &[Constant], name: &[u8]) -> Result<u16, AllocError>
+pub fn class_index(alloc: Global, pool: &ConstantTable, name: &[u8]) -> Result<u16, AllocError>
     ensures { IfOk result (λ i. i ≡ in_file pool.now (Constant.Class name.now)) }
 {
     let constant = Constant::Class(Name::of(alloc, name)?);
@@ -245,7 +265,7 @@ pub fn class_index(alloc: Global, pool: &[Constant], name: &[u8]) -> Result<u16,
 
 fn name_and_type_index(
     alloc: Global,
-    pool: &[Constant],
+    pool: &ConstantTable,
     name: &[u8],
     descriptor: &[u8],
 ) -> Result<u16, AllocError>
@@ -258,7 +278,7 @@ fn name_and_type_index(
 }
 
 /// The entry of a constant, whose parts have their indices.
-fn entry_of(alloc: Global, pool: &[Constant], constant: &Constant) -> Result<Entry, AllocError>
+fn entry_of(alloc: Global, pool: &ConstantTable, constant: &Constant) -> Result<Entry, AllocError>
     ensures { IfOk result (λ e. e ≡ entry_of pool.now constant.now) }
 {
     match constant {
@@ -283,7 +303,7 @@ fn entry_of(alloc: Global, pool: &[Constant], constant: &Constant) -> Result<Ent
 fn put_entries(
     alloc: Global,
     entries: &mut Vec<Entry>,
-    pool: &[Constant],
+    pool: &ConstantTable,
     constant: &Constant,
 ) -> Result<(), AllocError>
     ensures { OnOk result (entries.new.items ≡ entries.old.items ++ entries_of pool.now constant.now) }
@@ -295,12 +315,12 @@ fn put_entries(
     Ok(())
 }
 
-fn all_entries(alloc: Global, pool: &[Constant]) -> Result<Vec<Entry>, AllocError>
+fn all_entries(alloc: Global, pool: &ConstantTable) -> Result<Vec<Entry>, AllocError>
     ensures { IfOk result (λ v. v.items ≡ Entry.Unusable ∷ flat_map (entries_of pool.now) pool.now) }
 {
     let mut entries = Vec::new(alloc);
     entries.push(Entry::Unusable)?;
-    for constant in pool {
+    for constant in pool.as_slice() {
         put_entries(alloc, &mut entries, pool, constant)?;
     }
     Ok(entries)
@@ -308,7 +328,7 @@ fn all_entries(alloc: Global, pool: &[Constant]) -> Result<Vec<Entry>, AllocErro
 
 /// The pool of a class file.
 #[tactic(auto, using(crate::proofs::Placed::is_pool))]
-pub fn pool_of(alloc: Global, pool: &[Constant]) -> Result<Pool, AllocError>
+pub fn pool_of(alloc: Global, pool: &ConstantTable) -> Result<Pool, AllocError>
     ensures value { IfOk result (λ p. p ≡ pool_of pool.now) }
     // Where entries can say the constants, and there are at most 65,535 places, it is a pool that a reading can give.
     ensures read { AllByRecursion HasRoom pool.now → places pool.now < 65536 → IfOk result (λ p. IsPool p) }
@@ -321,10 +341,10 @@ pub fn pool_of(alloc: Global, pool: &[Constant]) -> Result<Pool, AllocError>
 /// A constant with what it refers to, behind the others.
 pub fn put_constant(
     alloc: Global,
-    pool: &mut Vec<Constant>,
+    pool: &mut ConstantTable,
     constant: &Constant,
 ) -> Result<(), AllocError>
-    ensures { OnOk result (pool.new.items ≡ with_constant pool.old.items constant.now) }
+    ensures { OnOk result (pool.new ≡ with_constant pool.old constant.now) }
 {
     match constant {
         Constant::Text(text) => put_text(alloc, pool, text.bytes()),

@@ -4,12 +4,14 @@
 
 mod constants;
 mod rules;
+mod table;
 
 pub use constants::{
-    Constant, Kind, class_index, in_file_or_zero, index_of, places, pool_of, put_class,
-    put_constant, put_text, text_index,
+    Constant, Kind, class_index, in_file_or_zero, pool_of, put_class, put_constant, put_text,
+    text_index,
 };
 pub use rules::{
     has_dimensions, interface_slots, is_lawful_class, is_lawful_code, is_lawful_field,
     is_lawful_initialiser, is_lawful_method, is_plain_class, may_have_value,
 };
+pub use table::ConstantTable;

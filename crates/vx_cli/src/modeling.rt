@@ -5,7 +5,7 @@ ghost use Rattle.vx_model.specs.Answers.{Answers};
 ghost use Rattle.vx_model.specs.Models.{HasOptionNames, IsModel, is_allowed};
 ghost use Rattle.vx_model.specs.declared.model.Model.{Model};
 ghost use Rattle.vx_space.specs.Sets.{IsSet};
-ghost use Rattle.vx_cli.specs.Job.{model_of, spelled_model};
+ghost use Rattle.vx_cli.specs.Job.{IsModeled, model_of, spelled_model};
 ghost use Rattle.vx_cli.specs.KeepsFiles.{KeepsFiles};
 ghost use Rattle.vx_cli.specs.Plan.{AllowsNone, AllowsSome, Leads, MayStop, Plan};
 ghost use Rattle.vx_cli.specs.Run.{read_model};
@@ -90,12 +90,7 @@ pub fn read_model_file<F: Files>(
 ) -> Result<Modeled, Status>
     ensures ok { IfOk result (λ found. (next : Model → Plan) →
         Leads (F.seen files.old).held (read_model path.now next) (next found.model)) }
-    ensures lawful { IfOk result (λ found. IsModel found.model) }
-    ensures names { IfOk result (λ found. HasOptionNames found.model) }
-    ensures allows { IfOk result (λ found. AllowsSome found.model) }
-    ensures options { IfOk result (λ found. (⟦<BddSpace as Space>⟧.sets found.space).options ≡ length found.model.options) }
-    ensures allowed { IfOk result (λ found. IsSet (⟦<BddSpace as Space>⟧.sets found.space) found.allowed (is_allowed found.model)) }
-    ensures some { IfOk result (λ found. found.allowed ≢ (⟦<BddSpace as Space>⟧.sets found.space).never) }
+    ensures modeled { IfOk result (λ found. IsModeled found.model (⟦<BddSpace as Space>⟧.sets found.space) found.allowed) }
     ensures err { IfErr result (λ status. (next : Model → Plan) →
         MayStop (F.seen files.old) (F.seen files.new) (read_model path.now next) status) }
     ensures keeps { KeepsFiles (F.seen files.old) (F.seen files.new) }

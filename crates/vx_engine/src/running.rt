@@ -1,14 +1,11 @@
 //! Rounds until no run goes on.
 
-ghost use Rattle.std.specs.Prelude.{◌≡◌, ◌≢◌, ◌<◌, ◌≤◌, Err, IfOk, List, ℕ, true};
-ghost use Rattle.vx_space.specs.Sets.{IsKnown};
+ghost use Rattle.std.specs.Prelude.{◌≡◌, Err, IfOk, List, ℕ};
 ghost use Rattle.vx_lockstep.specs.Findings.{AreAllowed, AreFindings, report_by};
-ghost use Rattle.vx_families.specs.Bounds.{IsBounded};
-ghost use Rattle.vx_heap.specs.Heap.{has_options};
 ghost use Rattle.vx_java.specs.Report.{lock_report};
 ghost use Rattle.vx_java.specs.Step.{Config};
 ghost use Rattle.vx_standing.specs.Rounds.{MeetsUnbuilt};
-ghost use Rattle.vx_standing.specs.State.{most_attempts};
+ghost use Rattle.vx_starting.specs.Starting.{MayStart};
 ghost use Rattle.vx_sched.specs.Picks.{IsFirstKey};
 ghost use Rattle.vx_value.specs.declared.key.KeyPart.{KeyPart};
 
@@ -32,12 +29,7 @@ pub fn run_with<S: Space, K: Picker>(
     limit: u64,
     picker: &mut K,
 ) -> Result<Findings<S>, AttemptFault>
-    requires bounded { IsBounded program.now }
-    requires options { has_options (S.sets space.old).options program.now.fields ≡ true }
-    requires known { IsKnown (S.sets space.old) allowed }
-    requires some { allowed ≢ (S.sets space.old).never }
-    requires least { 0 < limit }
-    requires most { limit ≤ most_attempts }
+    requires { MayStart program.now (S.sets space.old) allowed limit }
 
     // Whatever the picker, each allowed configuration has its own run.
     ensures findings { IfOk result (AreFindings program.now (S.sets space.new) ((S.sets space.old).test allowed) limit) }

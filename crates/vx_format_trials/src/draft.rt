@@ -1,8 +1,8 @@
 use std::alloc::{AllocError, Global};
 use vx_class_parts::{
-    Constant, Kind, class_index, in_file_or_zero, index_of, is_lawful_class, is_lawful_code,
+    Constant, ConstantTable, Kind, class_index, in_file_or_zero, is_lawful_class, is_lawful_code,
     is_lawful_field, is_lawful_initialiser, is_lawful_method, is_plain_class, may_have_value,
-    places, pool_of, put_class, put_constant, put_text, text_index,
+    pool_of, put_class, put_constant, put_text, text_index,
 };
 use vx_code_parts::{
     Draft, Labels, all_reach, check_instruction, code_bytes, constant_of, draft_of, find_label,
@@ -20,7 +20,7 @@ fn method(alloc: Global) -> Result<Constant, AllocError> {
 }
 
 /// Constants of each kind, some of which are there already.
-fn fill(alloc: Global, pool: &mut Vec<Constant>) -> Result<(), AllocError> {
+fn fill(alloc: Global, pool: &mut ConstantTable) -> Result<(), AllocError> {
     put_class(alloc, pool, b"A")?;
     put_constant(alloc, pool, &method(alloc)?)?;
     put_constant(alloc, pool, &Constant::Long(5))?;
@@ -31,23 +31,23 @@ fn fill(alloc: Global, pool: &mut Vec<Constant>) -> Result<(), AllocError> {
 }
 
 /// Whether the constants stand at their places.
-fn are_placed(alloc: Global, pool: &[Constant]) -> Result<bool, AllocError> {
+fn are_placed(alloc: Global, pool: &ConstantTable) -> Result<bool, AllocError> {
     let class = class_index(alloc, pool, b"A")?;
     let text = text_index(alloc, pool, b"g")?;
-    let number = index_of(pool, &Constant::Integer(7));
+    let number = pool.index_of(&Constant::Integer(7));
     let long = in_file_or_zero(pool, Some(&Constant::Long(5)));
-    Ok(places(pool) == 12 && number == 9 && long == 7 && class == 1 && text == 11)
+    Ok(pool.places() == 12 && number == 9 && long == 7 && class == 1 && text == 11)
 }
 
 /// Whether the method stands in the pool's file, with its class and its name and descriptor.
-fn is_written(alloc: Global, pool: &[Constant]) -> Result<bool, AllocError> {
+fn is_written(alloc: Global, pool: &ConstantTable) -> Result<bool, AllocError> {
     let file = pool_of(alloc, pool)?;
     Ok(matches!(file.entries.get(3), Some(Entry::Method(1, 4))))
 }
 
 #[test]
 fn puts_each_constant_once_where_it_is_first_needed(rt: HostRuntime) {
-    let mut pool = Vec::new(rt.alloc());
+    let mut pool = ConstantTable::new(rt.alloc());
     assert!(rt; fill(rt.alloc(), &mut pool).is_ok());
     assert!(rt; matches!(are_placed(rt.alloc(), &pool), Ok(true)));
     assert!(rt; matches!(is_written(rt.alloc(), &pool), Ok(true)));
@@ -59,7 +59,7 @@ const BODY: &[u8] = b"L:\ngoto M\nldc_w int 7\nM:\nreturn\nend";
 /// The index of the constant that an instruction needs, or 0.
 fn index_needed(
     alloc: Global,
-    pool: &mut Vec<Constant>,
+    pool: &mut ConstantTable,
     instruction: &Instruction,
 ) -> Result<u16, AllocError> {
     match constant_of(alloc, instruction.opcode, &instruction.operand)? {
@@ -75,7 +75,7 @@ fn index_needed(
 fn put_draft(
     alloc: Global,
     labels: &Labels,
-    pool: &mut Vec<Constant>,
+    pool: &mut ConstantTable,
     drafts: &mut Vec<Draft>,
     instruction: &Instruction,
 ) -> Result<(), AllocError> {
@@ -91,7 +91,7 @@ fn put_drafts(
     alloc: Global,
     lines: &[SourceLine],
     labels: &Labels,
-    pool: &mut Vec<Constant>,
+    pool: &mut ConstantTable,
     drafts: &mut Vec<Draft>,
 ) -> Result<(), AllocError> {
     for line in lines {
@@ -124,7 +124,7 @@ fn writes_the_code_of_a_body(rt: HostRuntime) {
     let alloc = rt.alloc();
     let source = read_source(alloc, BODY).expect(&rt, "memory");
     let labels = labels_of(alloc, source.lines.as_slice()).expect(&rt, "memory");
-    let (mut pool, mut drafts) = (Vec::new(alloc), Vec::new(alloc));
+    let (mut pool, mut drafts) = (ConstantTable::new(alloc), Vec::new(alloc));
     let put = put_drafts(
         alloc,
         source.lines.as_slice(),

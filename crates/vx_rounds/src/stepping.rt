@@ -3,12 +3,12 @@
 ghost use Rattle.std.specs.Prelude.{◌≡◌, ◌<◌, Err, OnOk, Some, length, map, slice_get, true};
 ghost use Rattle.vx_space.specs.Sets.{Extends};
 ghost use Rattle.vx_space.specs.Under.{IsNumberUnder};
-ghost use Rattle.vx_group.specs.Group.{GroupView, path_of};
-ghost use Rattle.vx_standing.specs.Attempted.{IsUnbuiltThere, MayAttempt};
+ghost use Rattle.vx_group.specs.Group.{GroupView};
+ghost use Rattle.vx_standing.specs.Attempted.{IsUnbuiltThere};
 ghost use Rattle.vx_standing.specs.Rounds.{IsRound, IsStuck};
 ghost use Rattle.vx_standing.specs.State.{IsState, state_ids};
-ghost use Rattle.vx_placing.specs.Placing.{IsUnderway, IsUnwritten, IsVacant};
-ghost use Rattle.vx_turns.specs.Turns.{IsCount, IsMade};
+ghost use Rattle.vx_rounds.specs.Making.{MayMake};
+ghost use Rattle.vx_turns.specs.Turns.{IsMade};
 
 use std::alloc::Global;
 use vx_attempt::attempt;
@@ -33,11 +33,7 @@ fn make<S: Space>(
     group: Group<S>,
     attempts: &Cond<u64, S>,
 ) -> Result<(), AttemptFault>
-    requires given { MayAttempt program.now (S.sets space.old) heap.old group }
-    requires underway { IsUnderway program.now (S.sets space.old) heap.old limit round.old }
-    requires attempts { IsCount (S.sets space.old) group limit attempts.now }
-    requires vacant { IsVacant (S.sets space.old) round.old ((S.sets space.old).test (path_of group)) }
-    requires unwritten { IsUnwritten (S.sets space.old) round.old ((S.sets space.old).test (path_of group)) }
+    requires { MayMake program.now (S.sets space.old) heap.old limit round.old group attempts.now }
     ensures extends { Extends (S.sets space.old) (S.sets space.new) }
     ensures made { OnOk result (IsMade program.now (S.sets space.old) (S.sets space.new) heap.old heap.new limit group round.old round.new) }
     ensures not_yet { result ≡ Err AttemptFault.NotYet → IsUnbuiltThere program.now (S.sets space.old) heap.old group }

@@ -1,12 +1,13 @@
 -- How runs begin: with the initialisation of the class of main (JVMS 5.2, 5.5).
-use Rattle.std.specs.Prelude.{◌≡◌, ◌-◌, ◌∷◌, ℕ, Bool, true, false, List, [], Some, length, map, nat_lt, replicate}
+use Rattle.std.specs.Prelude.{◌≡◌, ◌≢◌, ◌<◌, ◌≤◌, ◌-◌, ◌∷◌, ℕ, Bool, true, false, List, [], Some, length, map, nat_lt, replicate}
 use Rattle.std.specs.List.{list_all}
-use Rattle.vx_space.specs.Sets.{Sets}
+use Rattle.vx_space.specs.Sets.{IsKnown, Sets}
 use Rattle.vx_cond.specs.Cond.{Conditional, IsCond, cond_at}
+use Rattle.vx_families.specs.Bounds.{IsBounded}
 use Rattle.vx_frame.specs.Frame.{PlainFrame, frame_at}
 use Rattle.vx_group.specs.Group.{GroupView, attempts_at, path_of}
 use Rattle.vx_heap.specs.First.{first_globals}
-use Rattle.vx_heap.specs.Heap.{HeapView, IsHeap, IsHeapFor, globals_at, inits_at}
+use Rattle.vx_heap.specs.Heap.{HeapView, IsHeap, IsHeapFor, globals_at, has_options, inits_at}
 use Rattle.vx_java.specs.FirstObjects.{first_words}
 use Rattle.vx_java.specs.Initialisation.{init_chain, max_locals, new_frame, pushed_chain}
 use Rattle.vx_java.specs.Machine.{Ref, State, inits_with, with_inits}
@@ -14,6 +15,7 @@ use Rattle.vx_java.specs.Step.{Config, Live, Over, before_main, first_inits, fre
 use Rattle.vx_link.specs.Parts.{method_at}
 use Rattle.vx_link.specs.declared.program.Program.{Program}
 use Rattle.vx_group_states.specs.Stands.{StandsIn, plain_frame}
+use Rattle.vx_standing.specs.State.{most_attempts}
 use Rattle.vx_value.specs.declared.end.End.{End}
 use Rattle.vx_value.specs.declared.ids.ClassId.{ClassId}
 use Rattle.vx_value.specs.declared.key.Kind.TheVariants.{Call}
@@ -28,6 +30,16 @@ numbers_of classes = map (λ c. c.0) classes
 
 abbrev pub are_below : ℕ → List ℕ → Bool
 are_below n classes = list_all (λ c. nat_lt c n) classes
+
+-- Runs of a program may start in some configurations, each with so many attempts: the program keeps to its bounds, and its fields begin with options of the
+-- space; there is such a configuration; and each run has an attempt, and no more than the most.
+pub record MayStart {I : Type 0} (p : Program) (sets : Sets I) (allowed : I) (limit : ℕ) : Type 0 where
+  pub bounded : IsBounded p
+  pub options : has_options sets.options p.fields ≡ true
+  pub known : IsKnown sets allowed
+  pub some : allowed ≢ sets.never
+  pub least : 0 < limit
+  pub most : limit ≤ most_attempts
 
 -- ---- the class of main
 

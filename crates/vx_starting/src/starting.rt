@@ -1,6 +1,6 @@
 //! The start of all runs.
 
-ghost use Rattle.std.specs.Prelude.{◌≡◌, ◌≢◌, ◌<◌, ◌≤◌, Err, IfOk, IfSome, None, Ok, OnOk, codes, length, option_map, true};
+ghost use Rattle.std.specs.Prelude.{◌≡◌, ◌<◌, Err, IfOk, IfSome, None, Ok, OnOk, codes, length, option_map, true};
 ghost use Rattle.vx_space.specs.Sets.{Extends, IsKnown};
 ghost use Rattle.vx_families.specs.Bounds.{IsBounded};
 ghost use Rattle.vx_frame.specs.Frame.{IsFrameOf, scope_of, shape_of};
@@ -12,8 +12,7 @@ ghost use Rattle.vx_java.specs.Operation.{class_word};
 ghost use Rattle.vx_java.specs.Step.{first_inits};
 ghost use Rattle.vx_link.specs.Parts.{class_at};
 ghost use Rattle.vx_standing.specs.Rounds.{IsStart, MeetsUnbuilt};
-ghost use Rattle.vx_starting.specs.Starting.{AreInitialised, EndAtStart, GoOn, IsDone, IsMainGroup, IsMarkedHeap, are_below, main_chain, main_class, main_frame, main_locals, numbers_of};
-ghost use Rattle.vx_standing.specs.State.{most_attempts};
+ghost use Rattle.vx_starting.specs.Starting.{AreInitialised, EndAtStart, GoOn, IsDone, IsMainGroup, IsMarkedHeap, MayStart, are_below, main_chain, main_class, main_frame, main_locals, numbers_of};
 ghost use Rattle.vx_value.specs.declared.end.End.TheVariants.{Uncaught, Unsupported};
 ghost use Rattle.vx_value.specs.declared.key.Kind.TheVariants.{Call};
 
@@ -102,12 +101,7 @@ fn ended_start<S: Space>(
     limit: u64,
     end: End,
 ) -> Result<State<S>, SpaceFault>
-    requires bounded { IsBounded program.now }
-    requires options { has_options (S.sets space.old).options program.now.fields ≡ true }
-    requires known { IsKnown (S.sets space.old) allowed }
-    requires some { allowed ≢ (S.sets space.old).never }
-    requires least { 0 < limit }
-    requires most { limit ≤ most_attempts }
+    requires start { MayStart program.now (S.sets space.old) allowed limit }
     requires over { EndAtStart program.now end }
     ensures extends { Extends (S.sets space.old) (S.sets space.new) }
     ensures ok { IfOk result (IsStart program.now (S.sets space.new) allowed limit) }
@@ -244,12 +238,7 @@ fn quiet_start<S: Space>(
     limit: u64,
     chain: &[ClassId],
 ) -> Result<State<S>, SpaceFault>
-    requires bounded { IsBounded program.now }
-    requires options { has_options (S.sets space.old).options program.now.fields ≡ true }
-    requires known { IsKnown (S.sets space.old) allowed }
-    requires some { allowed ≢ (S.sets space.old).never }
-    requires least { 0 < limit }
-    requires most { limit ≤ most_attempts }
+    requires start { MayStart program.now (S.sets space.old) allowed limit }
     requires chain { numbers_of chain.now ≡ main_chain program.now }
     requires live { GoOn program.now true }
     ensures extends { Extends (S.sets space.old) (S.sets space.new) }
@@ -280,12 +269,7 @@ pub fn start<S: Space>(
     allowed: S::Id,
     limit: u64,
 ) -> Result<State<S>, AttemptFault>
-    requires bounded { IsBounded program.now }
-    requires options { has_options (S.sets space.old).options program.now.fields ≡ true }
-    requires known { IsKnown (S.sets space.old) allowed }
-    requires some { allowed ≢ (S.sets space.old).never }
-    requires least { 0 < limit }
-    requires most { limit ≤ most_attempts }
+    requires { MayStart program.now (S.sets space.old) allowed limit }
     ensures extends { Extends (S.sets space.old) (S.sets space.new) }
     ensures ok { IfOk result (IsStart program.now (S.sets space.new) allowed limit) }
     ensures not_yet { result ≡ Err AttemptFault.NotYet → MeetsUnbuilt program.now ((S.sets space.old).test allowed) limit }

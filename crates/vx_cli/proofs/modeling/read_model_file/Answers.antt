@@ -21,11 +21,17 @@ returns-then-is_allowing-clause-ok g c next =
     let some = rw c.in_ok-found.ensures.model at (c.is_allowing.ensures.some c.if-is_allowing.true) in
     rw c.in_ok-found.ensures.model (model_goes (g.F.Files.seen c.args.files.now).held c.args.path.now c.in_ok-text.text.items c.in_ok-model.model next c.in_ok-text.ensures.ok taken some)
 
-pub returns-then-is_allowing-clause-allows : goal.returns-then-is_allowing-clause-allows
-returns-then-is_allowing-clause-allows g c = c.is_allowing.ensures.some c.if-is_allowing.true
-
-pub returns-then-is_allowing-clause-some : goal.returns-then-is_allowing-clause-some
-returns-then-is_allowing-clause-some g c = c.is_allowing.ensures.nonempty c.if-is_allowing.true
+pub returns-then-is_allowing-clause-modeled : goal.returns-then-is_allowing-clause-modeled
+returns-then-is_allowing-clause-modeled g c =
+    let found = c.in_ok-found.ensures in
+    record {
+      lawful = rw found.model c.in_ok-model.ensures.lawful;
+      names = rw found.model c.in_ok-model.ensures.names;
+      allows = c.is_allowing.ensures.some c.if-is_allowing.true;
+      options = rw found.model found.options;
+      is_set = rw found.model found.allowed;
+      some = c.is_allowing.ensures.nonempty c.if-is_allowing.true;
+    }
 
 pub returns-clause-err : goal.returns-clause-err
 returns-clause-err g c next =

@@ -24,21 +24,21 @@ place_all-requires-clause-may g c =
       bounded = c.requires.given.bounded;
       is_heap = a.is_heap;
       underway = IsUnderway-grown c.args.program.now c.in_ok-outcomes.ensures.extends c.args.heap.now c.attempt.new.heap c.requires.given.is_heap a.grows c.args.limit c.args.round.now c.requires.underway;
-      is_cond = IsCond-extends nat_cmp c.in_ok-outcomes.ensures.extends c.args.attempts.now c.requires.attempts.is_cond;
-      bound = made_bound c.args.program.now c.in_ok-outcomes.ensures.extends c.args.heap.now c.args.limit c.args.group c.args.attempts.now c.requires.given c.requires.attempts;
-      vacant = vacant_made c.args.program.now c.in_ok-outcomes.ensures.extends c.args.heap.now c.attempt.new.heap c.args.limit c.args.group c.args.attempts.now c.args.round.now c.requires.given c.requires.attempts c.requires.underway c.requires.vacant;
-      unwritten = unwritten_made c.args.program.now c.in_ok-outcomes.ensures.extends c.args.heap.now c.args.limit c.args.group c.args.attempts.now c.args.round.now c.requires.given c.requires.attempts c.requires.underway c.requires.unwritten;
+      is_cond = IsCond-extends nat_cmp c.in_ok-outcomes.ensures.extends c.args.attempts.now c.requires.counted.is_cond;
+      bound = made_bound c.args.program.now c.in_ok-outcomes.ensures.extends c.args.heap.now c.args.limit c.args.group c.args.attempts.now c.requires.given c.requires.counted;
+      vacant = vacant_made c.args.program.now c.in_ok-outcomes.ensures.extends c.args.heap.now c.attempt.new.heap c.args.limit c.args.group c.args.attempts.now c.args.round.now c.requires.given c.requires.counted c.requires.underway c.requires.vacant;
+      unwritten = unwritten_made c.args.program.now c.in_ok-outcomes.ensures.extends c.args.heap.now c.args.limit c.args.group c.args.attempts.now c.args.round.now c.requires.given c.requires.counted c.requires.underway c.requires.unwritten;
     }
 
 pub place_all-requires-clause-divide : goal.place_all-requires-clause-divide
 place_all-requires-clause-divide g c =
     let a = attempt_of c.args.program.now _ _ c.args.heap.now c.attempt.new.heap c.args.group c.in_ok-outcomes.outcomes.items.items c.requires.given.single c.requires.given c.in_ok-outcomes.ensures.ok in
-    made_divide c.args.program.now c.in_ok-outcomes.ensures.extends c.args.heap.now c.attempt.new.heap c.args.limit c.args.group c.args.attempts.now c.in_ok-outcomes.outcomes.items.items c.requires.given c.requires.attempts a
+    made_divide c.args.program.now c.in_ok-outcomes.ensures.extends c.args.heap.now c.attempt.new.heap c.args.limit c.args.group c.args.attempts.now c.in_ok-outcomes.outcomes.items.items c.requires.given c.requires.counted a
 
 pub place_all-requires-clause-placeable : goal.place_all-requires-clause-placeable
 place_all-requires-clause-placeable g c =
     let a = attempt_of c.args.program.now _ _ c.args.heap.now c.attempt.new.heap c.args.group c.in_ok-outcomes.outcomes.items.items c.requires.given.single c.requires.given c.in_ok-outcomes.ensures.ok in
-    made_placeable c.args.program.now c.in_ok-outcomes.ensures.extends c.args.heap.now c.attempt.new.heap c.args.limit c.args.group c.args.attempts.now c.in_ok-outcomes.outcomes.items.items c.requires.given c.requires.attempts a
+    made_placeable c.args.program.now c.in_ok-outcomes.ensures.extends c.args.heap.now c.attempt.new.heap c.args.limit c.args.group c.args.attempts.now c.in_ok-outcomes.outcomes.items.items c.requires.given c.requires.counted a
 
 pub place_all-requires-clause-places : goal.place_all-requires-clause-places
 place_all-requires-clause-places g c = rw c.deref.ensures.value at (c.have_places.ensures.yes c.if-not-have_places.false)
@@ -52,4 +52,4 @@ returns-clause-extends g c = Extends-trans c.in_ok-outcomes.ensures.extends c.pl
 pub returns-clause-made : goal.returns-clause-made
 returns-clause-made g c =
     let a = attempt_of c.args.program.now _ _ c.args.heap.now c.attempt.new.heap c.args.group c.in_ok-outcomes.outcomes.items.items c.requires.given.single c.requires.given c.in_ok-outcomes.ensures.ok in
-    IsMade-placed c.args.program.now c.in_ok-outcomes.ensures.extends c.place_all.ensures.extends c.args.heap.now c.attempt.new.heap c.args.limit c.args.group c.args.attempts.now c.in_ok-outcomes.outcomes.items.items c.args.round.now c.place_all.new.round c.requires.given c.requires.attempts c.in_ok-outcomes.ensures.ok.is_for a c.requires.underway c.requires.vacant c.in_ok-place_all.ensures.placed
+    IsMade-placed c.args.program.now c.in_ok-outcomes.ensures.extends c.place_all.ensures.extends c.args.heap.now c.attempt.new.heap c.args.limit c.args.group c.args.attempts.now c.in_ok-outcomes.outcomes.items.items c.args.round.now c.place_all.new.round c.requires.given c.requires.counted c.in_ok-outcomes.ensures.ok.is_for a c.requires.underway c.requires.vacant c.in_ok-place_all.ensures.placed

@@ -22,34 +22,25 @@ spend-requires-clause-below g c =
     let h = compacted_state c.args.program.now _ _ c.args.state.now.heap.allowed c.args.state.now c.requires.state c.in_ok-compact.ensures.compacted in
     may_spend c.args.program.now _ c.args.state.now.heap.allowed c.args.state.now c.begin_round-begun.new.state c.args.which c.begin_round-begun.result.0 c.begin_round-begun.result.1 h c.begin_round-begun.ensures
 
-pub make-requires-clause-given : goal.make-requires-clause-given
-make-requires-clause-given g c =
+pub make-requires : goal.make-requires
+make-requires g c =
     let h = compacted_state c.args.program.now _ _ c.args.state.now.heap.allowed c.args.state.now c.requires.state c.in_ok-compact.ensures.compacted in
-    rw (ap (λ (x : StateView g.row.S.Denot g.row.S-Id.Denot). x.heap) (c.state.view_is ∙ c.begin_round-begun.ensures.state))
-    (spent_may c.args.program.now c.in_ok-spent.ensures.extends c.args.state.now.heap.allowed c.args.state.now c.begin_round-begun.new.state c.args.which c.begin_round-begun.result.0 c.begin_round-begun.result.1 c.in_ok-spent.spent c.in_ok-spent.attempts h c.begin_round-begun.ensures c.in_ok-spent.ensures.spent)
-
-pub make-requires-clause-underway : goal.make-requires-clause-underway
-make-requires-clause-underway g c =
-    let h = compacted_state c.args.program.now _ _ c.args.state.now.heap.allowed c.args.state.now c.requires.state c.in_ok-compact.ensures.compacted in
-    let u = begun_underway c.args.program.now _ c.args.state.now.heap.allowed c.args.state.now c.begin_round-begun.new.state c.args.which c.begin_round-begun.result.0 c.begin_round-begun.result.1 h c.begin_round-begun.ensures in
-    rw (ap (λ (x : StateView g.row.S.Denot g.row.S-Id.Denot). x.heap) (c.state.view_is ∙ c.begin_round-begun.ensures.state), ap (λ (x : StateView g.row.S.Denot g.row.S-Id.Denot). x.limit) (c.state.view_is ∙ c.begin_round-begun.ensures.state))
-    (IsUnderway-extends c.args.program.now c.in_ok-spent.ensures.extends c.args.state.now.heap h.is_heap c.args.state.now.limit c.begin_round-begun.result.0 u)
-
-pub make-requires-clause-attempts : goal.make-requires-clause-attempts
-make-requires-clause-attempts g c =
-    let h = compacted_state c.args.program.now _ _ c.args.state.now.heap.allowed c.args.state.now c.requires.state c.in_ok-compact.ensures.compacted in
-    rw (ap (λ (x : StateView g.row.S.Denot g.row.S-Id.Denot). x.limit) (c.state.view_is ∙ c.begin_round-begun.ensures.state))
-    (spent_count c.args.program.now c.in_ok-spent.ensures.extends c.args.state.now.heap.allowed c.args.state.now c.begin_round-begun.new.state c.args.which c.begin_round-begun.result.0 c.begin_round-begun.result.1 c.in_ok-spent.spent c.in_ok-spent.attempts h c.begin_round-begun.ensures c.in_ok-spent.ensures.spent)
-
-pub make-requires-clause-vacant : goal.make-requires-clause-vacant
-make-requires-clause-vacant g c =
-    let h = compacted_state c.args.program.now _ _ c.args.state.now.heap.allowed c.args.state.now c.requires.state c.in_ok-compact.ensures.compacted in
-    let u = begun_underway c.args.program.now _ c.args.state.now.heap.allowed c.args.state.now c.begin_round-begun.new.state c.args.which c.begin_round-begun.result.0 c.begin_round-begun.result.1 h c.begin_round-begun.ensures in
-    let n = begun_vacant c.args.program.now c.in_ok-spent.ensures.extends c.args.state.now.heap.allowed c.args.state.now c.begin_round-begun.new.state c.args.which c.begin_round-begun.result.0 c.begin_round-begun.result.1 c.in_ok-spent.spent c.in_ok-spent.attempts h c.begin_round-begun.ensures c.in_ok-spent.ensures.spent in
-    IsVacant-inside c.args.program.now c.in_ok-spent.ensures.extends c.args.state.now.heap h.is_heap c.args.state.now.limit c.begin_round-begun.result.0 _ _ u (λ d t. t) n
-
-pub make-requires-clause-unwritten : goal.make-requires-clause-unwritten
-make-requires-clause-unwritten g c = begun_unwritten c.args.state.now c.begin_round-begun.new.state c.args.which c.begin_round-begun.result.0 c.begin_round-begun.result.1 _ _ c.begin_round-begun.ensures
+    let b = c.begin_round-begun.ensures in
+    let x = c.in_ok-spent.ensures.extends in
+    let u = begun_underway c.args.program.now _ c.args.state.now.heap.allowed c.args.state.now c.begin_round-begun.new.state c.args.which c.begin_round-begun.result.0 c.begin_round-begun.result.1 h b in
+    let n = begun_vacant c.args.program.now x c.args.state.now.heap.allowed c.args.state.now c.begin_round-begun.new.state c.args.which c.begin_round-begun.result.0 c.begin_round-begun.result.1 c.in_ok-spent.spent c.in_ok-spent.attempts h b c.in_ok-spent.ensures.spent in
+    let is_heap = ap (λ (x : StateView g.row.S.Denot g.row.S-Id.Denot). x.heap) (c.state.view_is ∙ b.state) in
+    let is_limit = ap (λ (x : StateView g.row.S.Denot g.row.S-Id.Denot). x.limit) (c.state.view_is ∙ b.state) in
+    record {
+      given = rw is_heap
+          (spent_may c.args.program.now x c.args.state.now.heap.allowed c.args.state.now c.begin_round-begun.new.state c.args.which c.begin_round-begun.result.0 c.begin_round-begun.result.1 c.in_ok-spent.spent c.in_ok-spent.attempts h b c.in_ok-spent.ensures.spent);
+      underway = rw (is_heap, is_limit)
+          (IsUnderway-extends c.args.program.now x c.args.state.now.heap h.is_heap c.args.state.now.limit c.begin_round-begun.result.0 u);
+      counted = rw is_limit
+          (spent_count c.args.program.now x c.args.state.now.heap.allowed c.args.state.now c.begin_round-begun.new.state c.args.which c.begin_round-begun.result.0 c.begin_round-begun.result.1 c.in_ok-spent.spent c.in_ok-spent.attempts h b c.in_ok-spent.ensures.spent);
+      vacant = IsVacant-inside c.args.program.now x c.args.state.now.heap h.is_heap c.args.state.now.limit c.begin_round-begun.result.0 _ _ u (λ d t. t) n;
+      unwritten = begun_unwritten c.args.state.now c.begin_round-begun.new.state c.args.which c.begin_round-begun.result.0 c.begin_round-begun.result.1 _ _ b;
+    }
 
 pub returns-in_err-make-clause-not_yet : goal.returns-in_err-make-clause-not_yet
 returns-in_err-make-clause-not_yet g c e =
