@@ -13,8 +13,8 @@ use Rattle.vx_java.specs.Initialisation.{begin, begin_chain, begin_free, chain_b
 use Rattle.vx_java.specs.Machine.{Go, Raise, State, init_at, with_inits}
 use Rattle.vx_kept_facts.proofs.CallRows.{begins}
 use Rattle.vx_kept_facts.proofs.Sites.{MayCome, StandsAtInstruction, StandsAtPlace, chosen, is_raised, length_inits, throwable}
-use Rattle.vx_kept_facts.specs.Kept.{is_at_instruction, is_end, is_instruction}
-use Rattle.vx_kept_facts.specs.Law.{IsWhole}
+use Rattle.vx_kept_facts.specs.Kept.{is_at_instruction, is_code_end, is_instruction}
+use Rattle.vx_kept_facts.specs.Law.{IsRunnable}
 use Rattle.vx_link.specs.Hierarchy.{superclasses}
 use Rattle.vx_link.specs.Parts.{class_at, class_count, method_at, no_class}
 use Rattle.vx_link.specs.declared.program.LinkedClass.{LinkedClass}
@@ -56,11 +56,11 @@ has_initialiser p [] c all less = absurd (omega (arith, less))
 has_initialiser p (class ∷ classes) zero all less = (and_true _ _ all).0
 has_initialiser p (class ∷ classes) (suc c) all less = has_initialiser p classes c (and_true _ _ all).1 (omega (arith, less))
 
-class_begins : (p : Program) → IsWhole p → (inits : List InitState) → length inits ≡ class_count p → (c : ℕ) → is_not (init_at inits c) ≡ true → is_beginning p c ≡ true
+class_begins : (p : Program) → IsRunnable p → (inits : List InitState) → length inits ≡ class_count p → (c : ℕ) → is_not (init_at inits c) ≡ true → is_beginning p c ≡ true
 class_begins p whole inits same c is =
     begins p whole (class_at p c).initialiser.0 (has_initialiser p p.classes c whole.initialisers (is_there inits p.classes c same is))
 
-chain_begins : (p : Program) → IsWhole p → (inits : List InitState) → length inits ≡ class_count p → (c : ℕ) → list_all (is_beginning p) (init_chain p inits c) ≡ true
+chain_begins : (p : Program) → IsRunnable p → (inits : List InitState) → length inits ≡ class_count p → (c : ℕ) → list_all (is_beginning p) (init_chain p inits c) ≡ true
 chain_begins p whole inits same c =
     taken_pass (λ d. is_not (init_at inits d)) (is_beginning p) (class_begins p whole inits same) (superclasses p c)
 
@@ -74,12 +74,12 @@ reversed_pass test (x ∷ xs) all =
 
 frames_stand : (p : Program) (s : State) → StandsAtInstruction p s → (chain : List ℕ) → list_all (is_beginning p) chain ≡ true → StandsAtPlace p (with_frames p s chain)
 frames_stand p s stands [] all = record {
-  top = or_left (is_instruction (method_at p s.top.method).code s.top.position) (is_end (method_at p s.top.method).code s.top.position) stands.top;
+  top = or_left (is_instruction (method_at p s.top.method).code s.top.position) (is_code_end (method_at p s.top.method).code s.top.position) stands.top;
   below = stands.below;
   classes = stands.classes;
 }
 frames_stand p s stands (c ∷ below) all = record {
-  top = or_left (is_beginning p c) (is_end (method_at p (class_at p c).initialiser.0).code 0) (and_true _ _ all).0;
+  top = or_left (is_beginning p c) (is_code_end (method_at p (class_at p c).initialiser.0).code 0) (and_true _ _ all).0;
   below =
       list_all-append (is_at_instruction p) (map (init_frame p Wait) below) (s.top ∷ s.callers)
       ∙ both_true (list_all-map (is_at_instruction p) (init_frame p Wait) below ∙ (and_true _ _ all).1) (both_true stands.top stands.below);
@@ -94,25 +94,25 @@ marked p s stands i classes = record {
   classes = length_inits s.inits i classes ∙ stands.classes;
 }
 
-pub pushed_stands : (p : Program) → IsWhole p → (s : State) → StandsAtInstruction p s → (c : ℕ) → StandsAtPlace p (pushed_chain p s (init_chain p s.inits c))
+pub pushed_stands : (p : Program) → IsRunnable p → (s : State) → StandsAtInstruction p s → (c : ℕ) → StandsAtPlace p (pushed_chain p s (init_chain p s.inits c))
 pushed_stands p whole s stands c =
     frames_stand p (with_inits s Running (init_chain p s.inits c)) (marked p s stands Running (init_chain p s.inits c)) (reverse (init_chain p s.inits c))
     (reversed_pass (is_beginning p) (init_chain p s.inits c) (chain_begins p whole s.inits stands.classes c))
 
 -- ---- a beginning
 
-raises_in : (p : Program) → IsWhole p → (s : State) → StandsAtInstruction p s → (name : String) → is_raised name ≡ true → MayCome p (Raise (core_class p name) None s)
+raises_in : (p : Program) → IsRunnable p → (s : State) → StandsAtInstruction p s → (name : String) → is_raised name ≡ true → MayCome p (Raise (core_class p name) None s)
 raises_in p whole s stands name among = record { leaves = (throwable p whole name among, stands) }
 
-pushes : (p : Program) → IsWhole p → (s : State) → StandsAtInstruction p s → (c : ℕ) → MayCome p (Go (pushed_chain p s (init_chain p s.inits c)))
+pushes : (p : Program) → IsRunnable p → (s : State) → StandsAtInstruction p s → (c : ℕ) → MayCome p (Go (pushed_chain p s (init_chain p s.inits c)))
 pushes p whole s stands c = record { leaves = pushed_stands p whole s stands c }
 
-free_comes : (p : Program) → IsWhole p → (s : State) → StandsAtInstruction p s → (c : ℕ) → MayCome p (begin_free p s c (init_chain p s.inits c))
+free_comes : (p : Program) → IsRunnable p → (s : State) → StandsAtInstruction p s → (c : ℕ) → MayCome p (begin_free p s c (init_chain p s.inits c))
 free_comes p whole s stands c =
     chosen p _ _ _ (raises_in p whole (with_inits s Failed (init_chain p s.inits c)) (marked p s stands Failed (init_chain p s.inits c)) "java/lang/NoClassDefFoundError" refl)
     (chosen p _ _ _ (raises_in p whole s stands "java/lang/StackOverflowError" refl) (pushes p whole s stands c))
 
-pub begin_comes : (p : Program) → IsWhole p → (s : State) → StandsAtInstruction p s → (c : ℕ) → MayCome p (begin p s c)
+pub begin_comes : (p : Program) → IsRunnable p → (s : State) → StandsAtInstruction p s → (c : ℕ) → MayCome p (begin p s c)
 begin_comes p whole s stands c = by (chain_blocked p (init_chain p s.inits c))
   where
     by : (blocking : Option ℕ) → MayCome p (begin_chain p s c (init_chain p s.inits c) blocking)

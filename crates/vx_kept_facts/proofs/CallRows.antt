@@ -14,9 +14,9 @@ use Rattle.vx_java.specs.declared.operation.Sort.{Sort}
 use Rattle.vx_java.specs.declared.selected.Selected.{Selected}
 use Rattle.vx_java.specs.declared.selected.Selected.TheVariants.{Abstract, Conflict, Method}
 use Rattle.vx_kept_facts.proofs.Places.{first_start, place_behind}
-use Rattle.vx_kept_facts.proofs.Sites.{AtSite, MayCome, Stand, chosen, class_there, ends, incompatible, is_place, length_inits, object_there, passes, raises, stays, when_ready}
-use Rattle.vx_kept_facts.specs.Kept.{is_at_instruction, is_end, is_instruction}
-use Rattle.vx_kept_facts.specs.Law.{IsWhole, has_bytes}
+use Rattle.vx_kept_facts.proofs.Sites.{AtSite, MayCome, Stand, chosen, class_there, ends, incompatible, is_code_place, length_inits, object_there, passes, raises, stays, when_ready}
+use Rattle.vx_kept_facts.specs.Kept.{is_at_instruction, is_code_end, is_instruction}
+use Rattle.vx_kept_facts.specs.Law.{IsRunnable, has_bytes}
 use Rattle.vx_java.specs.Checks.{same_bool}
 use Rattle.vx_link.specs.Names.{Member, member}
 use Rattle.vx_link.specs.Parts.{is_interface, method_at, no_method}
@@ -41,7 +41,7 @@ begins_code None some bytes = cc
 begins_code (Some code) some bytes = first_start code.bytes (length code.bytes) 0 (ltb-true 0 (length code.bytes) bytes) (omega arith)
 
 -- a method that has code begins with an instruction
-pub begins : (p : Program) → IsWhole p → (m : ℕ) → is_some (method_at p m).code ≡ true → is_instruction (method_at p m).code 0 ≡ true
+pub begins : (p : Program) → IsRunnable p → (m : ℕ) → is_some (method_at p m).code ≡ true → is_instruction (method_at p m).code 0 ≡ true
 begins p whole m some = begins_code (method_at p m).code some (item_passes (λ m. has_bytes m.code) p.methods m no_method whole.bytes refl)
 
 -- ---- calls
@@ -49,7 +49,7 @@ begins p whole m some = begins_code (method_at p m).code some (item_passes (λ m
 pushes : (h : Here) → AtSite h → (m : ℕ) (code : Code) → (method_at h.program m).code ≡ Some code → (values rest : List Value) → MayCome h.program (Go (state_in_callee h m values rest))
 pushes h at m code is values rest = record {
   leaves = record {
-    top = or_left (is_instruction (method_at h.program m).code 0) (is_end (method_at h.program m).code 0) (begins h.program at.whole m (ap is_some is));
+    top = or_left (is_instruction (method_at h.program m).code 0) (is_code_end (method_at h.program m).code 0) (begins h.program at.whole m (ap is_some is));
     below = both_true (stays h at).top at.below;
     classes = at.classes;
   };
@@ -120,16 +120,16 @@ invoke_comes h at mode i =
 
 -- ---- returns
 
-stays_there : (code : Option Code) (at : ℕ) → is_instruction code at ≡ true → is_place code (at + 0) ≡ true
+stays_there : (code : Option Code) (at : ℕ) → is_instruction code at ≡ true → is_code_place code (at + 0) ≡ true
 stays_there code at is =
     let same : at ≡ at + 0 = omega arith in
-    subst (λ k. is_place code k ≡ true) same (or_left (is_instruction code at) (is_end code at) is)
+    subst (λ k. is_code_place code k ≡ true) same (or_left (is_instruction code at) (is_code_end code at) is)
 
-pub behind_call : (code : Option Code) (at : ℕ) → is_instruction code at ≡ true → is_place code (at + instruction_size (instruction_at (bytes_of code) at)) ≡ true
+pub behind_call : (code : Option Code) (at : ℕ) → is_instruction code at ≡ true → is_code_place code (at + instruction_size (instruction_at (bytes_of code) at)) ≡ true
 behind_call None at is = cc
 behind_call (Some code) at is = by (instruction_at code.bytes at) refl
   where
-    by : (i : Option Instruction) → instruction_at code.bytes at ≡ i → is_place (Some code) (at + instruction_size i) ≡ true
+    by : (i : Option Instruction) → instruction_at code.bytes at ≡ i → is_code_place (Some code) (at + instruction_size i) ≡ true
     by None there = stays_there (Some code) at is
     by (Some i) there = place_behind code at i there is
 
@@ -146,9 +146,9 @@ resumed h at f below value callers = record {
 
 -- the frame below an initialisation is attempted again
 again : (h : Here) → AtSite h → (f : Frame) (below : List Frame) → list_all (is_at_instruction h.program) (f ∷ below) ≡ true
-    → Stand is_place h.program (length (with_inits h.state Done (current_class h.program h.state ∷ [])).inits) f.method f.position below
+    → Stand is_code_place h.program (length (with_inits h.state Done (current_class h.program h.state ∷ [])).inits) f.method f.position below
 again h at f below callers = record {
-  top = or_left (is_at_instruction h.program f) (is_end (method_at h.program f.method).code f.position) (and_true _ _ callers).0;
+  top = or_left (is_at_instruction h.program f) (is_code_end (method_at h.program f.method).code f.position) (and_true _ _ callers).0;
   below = (and_true _ _ callers).1;
   classes = length_inits h.state.inits Done (current_class h.program h.state ∷ []) ∙ at.classes;
 }

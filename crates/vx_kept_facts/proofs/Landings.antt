@@ -214,15 +214,15 @@ of_opcode opcode = by_past (nat_lt opcode 202) refl
 -- ---- where it leads
 
 -- where an operation jumps to
-abbrev pub Leads : Here → Operation → Type 0
-Leads h (IfInt test offset) = Lands h offset
-Leads h (IfInts test offset) = Lands h offset
-Leads h (IfSame wanted offset) = Lands h offset
-Leads h (IfNull wanted offset) = Lands h offset
-Leads h (Goto offset) = Lands h offset
-Leads h (SwitchTable fallback low high first) = Lands h fallback × ((k : ℕ) → k < count low high → Lands h (offset_at h (first + 4 * k)))
-Leads h (SwitchLookup fallback pairs first) = Lands h fallback × ((k : ℕ) → k < pairs → Lands h (offset_at h (first + 4 + 8 * k)))
-Leads h _ = Unit {0}
+abbrev pub JumpsLead : Here → Operation → Type 0
+JumpsLead h (IfInt test offset) = Lands h offset
+JumpsLead h (IfInts test offset) = Lands h offset
+JumpsLead h (IfSame wanted offset) = Lands h offset
+JumpsLead h (IfNull wanted offset) = Lands h offset
+JumpsLead h (Goto offset) = Lands h offset
+JumpsLead h (SwitchTable fallback low high first) = Lands h fallback × ((k : ℕ) → k < count low high → Lands h (offset_at h (first + 4 * k)))
+JumpsLead h (SwitchLookup fallback pairs first) = Lands h fallback × ((k : ℕ) → k < pairs → Lands h (offset_at h (first + 4 + 8 * k)))
+JumpsLead h _ = Unit {0}
 
 lands : (starts : List ℕ) (at : ℕ) (offset : ℤ) → is_target starts at offset ≡ true → is_start starts (natural (pos at +ℤ offset)) ≡ true
 lands starts at offset is = by (pos at +ℤ offset) refl
@@ -240,7 +240,7 @@ below_passes (suc n) test k all less = by (eqb_tells k n) (λ lower. below_passe
     by (inr other) later = later (omega (arith, less, other.1))
 
 leads_by : (h : Here) (operation : Operation) (o : Operand) → HasOperand true operation o
-    → all_hold (jump_checks (starts_in h.code) h.code.bytes h.state.top.position o) ≡ true → Leads h operation
+    → all_hold (jump_checks (starts_in h.code) h.code.bytes h.state.top.position o) ≡ true → JumpsLead h operation
 leads_by h operation o has holds = by operation has
   where
     starts : List ℕ
@@ -255,7 +255,7 @@ leads_by h operation o has holds = by operation has
     jump : (offset : ℤ) → o ≡ operand.Jump offset → Lands h offset
     jump offset is = lands starts at offset (and_true _ _ (subst Holds is holds)).0
 
-    by : (operation : Operation) → HasOperand true operation o → Leads h operation
+    by : (operation : Operation) → HasOperand true operation o → JumpsLead h operation
     by (IfInt test offset) has = jump offset (has refl)
     by (IfInts test offset) has = jump offset (has refl)
     by (IfSame wanted offset) has = jump offset (has refl)
@@ -271,7 +271,7 @@ leads_by h operation o has holds = by operation has
 
 -- the jumps of an instruction whose jumps are checked lead to instructions
 pub leads : (h : Here) (i : Instruction) → instruction_at h.code.bytes h.state.top.position ≡ Some i
-    → all_hold (jump_checks (starts_in h.code) h.code.bytes h.state.top.position i.operand) ≡ true → Leads h (operation_of i)
+    → all_hold (jump_checks (starts_in h.code) h.code.bytes h.state.top.position i.operand) ≡ true → JumpsLead h (operation_of i)
 leads h i is holds =
     let form = instruction_form h.code.bytes h.state.top.position i is in
     leads_by h (operation_of i) i.operand

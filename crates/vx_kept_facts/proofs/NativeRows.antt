@@ -16,7 +16,7 @@ use Rattle.vx_kept_facts.proofs.LibraryRows.{absolute_int_comes, absolute_long_c
 use Rattle.vx_kept_facts.proofs.Sites.{AtSite, MayCome, StandsAtInstruction, chosen, ends}
 use Rattle.vx_kept_facts.proofs.TextRows.{Comes, answer_false_comes, answer_receiver_comes, builder_append_comes, builder_delete_comes, builder_init_capacity_comes, builder_reverse_comes, builder_set_length_comes, object_init_comes, print_line_end_comes, print_of_comes, same_object_comes, stream_flush_comes, string_compare_comes, string_concat_comes, string_ends_with_comes, string_equals_comes, string_hash_comes, string_index_of_comes, string_index_of_point_comes, string_init_chars_comes, string_init_comes, string_init_string_comes, string_starts_with_comes, string_substring_comes, string_to_chars_comes, text_char_at_comes, text_is_empty_comes, text_length_comes, text_to_string_comes, value_of_comes}
 use Rattle.vx_kept_facts.specs.Kept.{is_instruction}
-use Rattle.vx_kept_facts.specs.Law.{IsWhole}
+use Rattle.vx_kept_facts.specs.Law.{IsRunnable}
 use Rattle.vx_link.specs.Parts.{class_at, has, method_at}
 use Rattle.vx_link.specs.declared.program.LinkedMethod.{LinkedMethod}
 use Rattle.vx_link.specs.declared.program.Program.{Program}
@@ -96,7 +96,7 @@ seen p s code =
       size = instruction_size (instruction_at (unwrap_or code no_code).bytes s.top.position);
     }
 
-native_site : (p : Program) → IsWhole p → (s : State) → StandsAtInstruction p s → (code : Option Code) → (method_at p s.top.method).code ≡ code → AtSite (seen p s code)
+native_site : (p : Program) → IsRunnable p → (s : State) → StandsAtInstruction p s → (code : Option Code) → (method_at p s.top.method).code ≡ code → AtSite (seen p s code)
 native_site p whole s stands None is =
     let wrong : is_instruction None s.top.position ≡ true = ap (λ code. is_instruction code s.top.position) (sym is) ∙ stands.top in
     cc
@@ -111,6 +111,6 @@ native_site p whole s stands (Some code) is =
       classes = stands.classes;
     }
 
-pub native_comes : (p : Program) → IsWhole p → (s : State) → StandsAtInstruction p s → (m : ℕ) → MayCome p (native p s m)
+pub native_comes : (p : Program) → IsRunnable p → (s : State) → StandsAtInstruction p s → (m : ℕ) → MayCome p (native p s m)
 native_comes p whole s stands m =
     carried_out_comes (seen p s (method_at p s.top.method).code) (native_site p whole s stands (method_at p s.top.method).code refl) (method_at p m)

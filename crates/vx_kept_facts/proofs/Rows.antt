@@ -14,13 +14,13 @@ use Rattle.vx_java.specs.declared.operation.Operation.{Operation}
 use Rattle.vx_java.specs.declared.operation.Operation.TheVariants as operation
 use Rattle.vx_jump_targets.specs.Placed.{has_placed_code, is_well_placed, starts_in}
 use Rattle.vx_kept_facts.proofs.CallRows.{invoke_comes, item_passes, return_from_comes}
-use Rattle.vx_kept_facts.proofs.Landings.{Leads, leads}
+use Rattle.vx_kept_facts.proofs.Landings.{JumpsLead, leads}
 use Rattle.vx_kept_facts.proofs.ObjectRows.{array_length_comes, check_cast_comes, get_field_comes, get_static_comes, instance_of_comes, load_element_comes, monitor_comes, new_grid_comes, new_instance_comes, new_primitives_comes, new_references_comes, put_field_comes, put_static_comes, store_element_comes, throw_top_comes}
 use Rattle.vx_kept_facts.proofs.Places.{jump_checked, place_behind}
 use Rattle.vx_kept_facts.proofs.PlainRows.{Lands, if_int_comes, if_ints_comes, if_null_comes, if_same_comes, increase_comes, int_arithmetic_comes, int_shift_comes, jump_comes, load_comes, long_arithmetic_comes, long_compare_comes, long_shift_comes, on_int_comes, on_long_comes, push_entry_comes, stack_comes, store_comes}
 use Rattle.vx_kept_facts.proofs.Sites.{AtSite, MayCome, StandsAtPlace, ends, passes, settles}
-use Rattle.vx_kept_facts.specs.Kept.{is_end, is_instruction}
-use Rattle.vx_kept_facts.specs.Law.{IsWhole}
+use Rattle.vx_kept_facts.specs.Kept.{is_code_end, is_instruction}
+use Rattle.vx_kept_facts.specs.Law.{IsRunnable}
 use Rattle.vx_link.specs.Names.{class_name}
 use Rattle.vx_link.specs.Parts.{class_at, method_at, no_method}
 use Rattle.vx_link.specs.declared.program.Program.{Program}
@@ -77,7 +77,7 @@ switch_lookup_comes h at fallback pairs first _ falls lands = ends h
 
 -- ---- operations
 
-pub operation_comes : (h : Here) → AtSite h → (o : Operation) → Leads h o → (operands : List Value) → MayCome h.program (row_of h o operands)
+pub operation_comes : (h : Here) → AtSite h → (o : Operation) → JumpsLead h o → (operands : List Value) → MayCome h.program (row_of h o operands)
 operation_comes h at operation.Nop leads operands = passes h at
 operation_comes h at operation.PushNull leads operands = settles h at (Null ∷ operands)
 operation_comes h at (operation.PushInt n) leads operands = settles h at (Int n ∷ operands)
@@ -126,11 +126,11 @@ operation_comes h at (operation.Refuse word) leads operands = ends h
 -- ---- rows
 
 -- each code of the program leads from instruction to instruction
-pub placed : (p : Program) → IsWhole p → (m : ℕ) → has_placed_code (method_at p m).code ≡ true
+pub placed : (p : Program) → IsRunnable p → (m : ℕ) → has_placed_code (method_at p m).code ≡ true
 placed p whole m = item_passes (λ m. has_placed_code m.code) p.methods m no_method whole.placed refl
 
 -- an instruction begins where one is read, and not at the end
-begins_there : (code : Code) (at : ℕ) (i : Instruction) → instruction_at code.bytes at ≡ Some i → (is_instruction (Some code) at || is_end (Some code) at) ≡ true
+begins_there : (code : Code) (at : ℕ) (i : Instruction) → instruction_at code.bytes at ≡ Some i → (is_instruction (Some code) at || is_code_end (Some code) at) ≡ true
     → is_start (starts_in code) at ≡ true
 begins_there code at i is place = by (eqb_tells at (length code.bytes))
   where
@@ -142,14 +142,14 @@ begins_there code at i is place = by (eqb_tells at (length code.bytes))
     by (inl last) = let b = lies code.bytes at i is in absurd (omega (arith, b.some, b.within, last.1))
     by (inr other) = first_of_two (is_start (starts_in code) at) (rw other.0 at place)
 
-pub row_comes : (p : Program) → IsWhole p → (s : State) → StandsAtPlace p s → MayCome p (row p s)
+pub row_comes : (p : Program) → IsRunnable p → (s : State) → StandsAtPlace p s → MayCome p (row p s)
 row_comes p whole s stands = by_code (method_at p s.top.method).code refl
   where
     at_instruction : (code : Code) → (method_at p s.top.method).code ≡ Some code → (i : Instruction) → instruction_at code.bytes s.top.position ≡ Some i → MayCome p (row_at p s code i)
     at_instruction code is i there =
         let h : Here = record { program = p; state = s; code = code; pool = (class_at p (current_class p s)).pool; size = i.length } in
         let start : is_start (starts_in code) s.top.position ≡ true =
-        begins_there code s.top.position i there (ap (λ c. is_instruction c s.top.position || is_end c s.top.position) (sym is) ∙ stands.top) in
+        begins_there code s.top.position i there (ap (λ c. is_instruction c s.top.position || is_code_end c s.top.position) (sym is) ∙ stands.top) in
         let is_placed : is_well_placed code ≡ true = ap has_placed_code (sym is) ∙ placed p whole s.top.method in
         let site : AtSite h = record {
           whole = whole;

@@ -13,8 +13,8 @@ use Rattle.vx_java.specs.Checks.{if_there, non_null, with_class}
 use Rattle.vx_java.specs.Initialisation.{by_state, init_chain, when_initialised, when_not}
 use Rattle.vx_java.specs.Machine.{Begin, Ended, Frame, Go, Here, Native, Object, Outcome, Raise, Ref, State, Throw, Value, Write, fit, go, illegal, in_state, init_at, inits_with, object_at, raise, settle, when, with_inits}
 use Rattle.vx_jump_targets.specs.Placed.{starts_in}
-use Rattle.vx_kept_facts.specs.Kept.{is_at_instruction, is_end, is_instruction, is_throwable}
-use Rattle.vx_kept_facts.specs.Law.{IsWhole, raised}
+use Rattle.vx_kept_facts.specs.Kept.{is_at_instruction, is_code_end, is_instruction, is_throwable}
+use Rattle.vx_kept_facts.specs.Law.{IsRunnable, raised}
 use Rattle.vx_link.specs.ClassNames.{class_named, class_of_name, core_class}
 use Rattle.vx_link.specs.Parts.{class_count, method_at}
 use Rattle.vx_link.specs.declared.program.Program.{Program}
@@ -26,8 +26,8 @@ use Rattle.vx_value.specs.declared.slot.InitState.TheVariants.{Done, Failed, Not
 -- ---- where frames stand
 
 -- an instruction of a code begins there, or the code ends
-abbrev pub is_place : Option Code → ℕ → Bool
-is_place code at = is_instruction code at || is_end code at
+abbrev pub is_code_place : Option Code → ℕ → Bool
+is_code_place code at = is_instruction code at || is_code_end code at
 
 -- the frame on top stands at a place that passes a test, each caller at an instruction, and each class has a state of initialisation
 pub record Stand (test : Option Code → ℕ → Bool) (p : Program) (states method position : ℕ) (callers : List Frame) : Type 0 where
@@ -36,7 +36,7 @@ pub record Stand (test : Option Code → ℕ → Bool) (p : Program) (states met
   pub classes : states ≡ class_count p
 
 abbrev pub StandsAtPlace : Program → State → Type 0
-StandsAtPlace p s = Stand is_place p (length s.inits) s.top.method s.top.position s.callers
+StandsAtPlace p s = Stand is_code_place p (length s.inits) s.top.method s.top.position s.callers
 
 abbrev pub StandsAtInstruction : Program → State → Type 0
 StandsAtInstruction p s = Stand is_instruction p (length s.inits) s.top.method s.top.position s.callers
@@ -58,10 +58,10 @@ pub record MayCome (p : Program) (o : Outcome) : Type 0 where
 -- ---- where an instruction stands
 
 pub record AtSite (h : Here) : Type 0 where
-  pub whole : IsWhole h.program
+  pub whole : IsRunnable h.program
   pub code : (method_at h.program h.state.top.method).code ≡ Some h.code
   pub here : is_start (starts_in h.code) h.state.top.position ≡ true
-  pub behind : is_place (Some h.code) (h.state.top.position + h.size) ≡ true
+  pub behind : is_code_place (Some h.code) (h.state.top.position + h.size) ≡ true
   pub below : list_all (is_at_instruction h.program) h.state.callers ≡ true
   pub classes : length h.state.inits ≡ class_count h.program
 
@@ -88,7 +88,7 @@ moved h heap statics locals operands position =
 pub passes : (h : Here) {heap : List Object} {statics locals operands : List Value} → AtSite h → MayCome h.program (Go (moved h heap statics locals operands (h.state.top.position + h.size)))
 passes h at = record {
   leaves = record {
-    top = ap (λ code. is_place code (h.state.top.position + h.size)) at.code ∙ at.behind;
+    top = ap (λ code. is_code_place code (h.state.top.position + h.size)) at.code ∙ at.behind;
     below = at.below;
     classes = at.classes;
   };
@@ -98,7 +98,7 @@ pub writes : (h : Here) {heap : List Object} {statics locals operands : List Val
     → MayCome h.program (Write stream units (moved h heap statics locals operands (h.state.top.position + h.size)))
 writes h at = record {
   leaves = record {
-    top = ap (λ code. is_place code (h.state.top.position + h.size)) at.code ∙ at.behind;
+    top = ap (λ code. is_code_place code (h.state.top.position + h.size)) at.code ∙ at.behind;
     below = at.below;
     classes = at.classes;
   };
@@ -109,7 +109,7 @@ pub reaches : (h : Here) {heap : List Object} {statics locals operands : List Va
     → MayCome h.program (Go (moved h heap statics locals operands to))
 reaches h at to start = record {
   leaves = record {
-    top = ap (λ code. is_place code to) at.code ∙ or_left (is_start (starts_in h.code) to) (is_end (Some h.code) to) start;
+    top = ap (λ code. is_code_place code to) at.code ∙ or_left (is_start (starts_in h.code) to) (is_code_end (Some h.code) to) start;
     below = at.below;
     classes = at.classes;
   };
@@ -152,7 +152,7 @@ throwable_among p (n ∷ names) name all among =
 abbrev pub is_raised : String → Bool
 is_raised name = list_any (λ n. bytes_eq (codes n) (codes name)) raised
 
-pub throwable : (p : Program) → IsWhole p → (name : String) → is_raised name ≡ true → is_throwable p (core_class p name) ≡ true
+pub throwable : (p : Program) → IsRunnable p → (name : String) → is_raised name ≡ true → is_throwable p (core_class p name) ≡ true
 throwable p whole name among = throwable_among p raised name whole.throwable among
 
 pub raises : (h : Here) {message : Option (List ℕ)} {heap : List Object} → AtSite h → (name : String) → is_raised name ≡ true

@@ -11,8 +11,8 @@ use Rattle.vx_jump_targets.specs.Placed.{has_placed_code}
 use Rattle.vx_kept_facts.proofs.Places.{handler_start}
 use Rattle.vx_kept_facts.proofs.Rows.{placed}
 use Rattle.vx_kept_facts.proofs.Sites.{StandsAtPlace, length_inits}
-use Rattle.vx_kept_facts.specs.Kept.{is_at_instruction, is_end, is_instruction}
-use Rattle.vx_kept_facts.specs.Law.{IsWhole}
+use Rattle.vx_kept_facts.specs.Kept.{is_at_instruction, is_code_end, is_instruction}
+use Rattle.vx_kept_facts.specs.Law.{IsRunnable}
 use Rattle.vx_link.specs.Parts.{class_count, method_at}
 use Rattle.vx_link.specs.declared.program.Program.{Program}
 use Rattle.vx_pool.specs.declared.pool.Pool.{Pool}
@@ -33,7 +33,7 @@ handler_begins p pool None position thrown handler placed found = cc
 handler_begins p pool (Some code) position thrown handler placed found = handler_start p pool code position thrown handler placed found
 
 -- the handler of a frame is an instruction of its method
-handled : (p : Program) → IsWhole p → (s : State) (kind : Kind) (r handler : ℕ) → handler_of p s kind r ≡ Some handler → is_instruction (method_at p s.top.method).code handler ≡ true
+handled : (p : Program) → IsRunnable p → (s : State) (kind : Kind) (r handler : ℕ) → handler_of p s kind r ≡ Some handler → is_instruction (method_at p s.top.method).code handler ≡ true
 handled p whole s Wait r handler found = cc
 handled p whole s Call r handler found =
     handler_begins p _ (method_at p s.top.method).code s.top.position (object_at s r).class handler (placed p whole s.top.method) found
@@ -52,15 +52,15 @@ same_count p s Call r = refl
 same_count p s Wait r = failed_count p s r (is_error p s r)
 same_count p s Init r = failed_count p s r (is_error p s r)
 
-in_handler : (p : Program) → IsWhole p → (s : State) (r handler : ℕ) → handler_of p s s.top.kind r ≡ Some handler
+in_handler : (p : Program) → IsRunnable p → (s : State) (r handler : ℕ) → handler_of p s s.top.kind r ≡ Some handler
     → list_all (is_at_instruction p) s.callers ≡ true → length s.inits ≡ class_count p → NextStands p (next_in_handler s r handler)
 in_handler p whole s r handler found below classes = record {
-  top = or_left (is_instruction (method_at p s.top.method).code handler) (is_end (method_at p s.top.method).code handler) (handled p whole s s.top.kind r handler found);
+  top = or_left (is_instruction (method_at p s.top.method).code handler) (is_code_end (method_at p s.top.method).code handler) (handled p whole s s.top.kind r handler found);
   below = below;
   classes = classes;
 }
 
-unwinds : (p : Program) → IsWhole p → (callers : List Frame) (s : State) (r : ℕ) → s.callers ≡ callers → list_all (is_at_instruction p) callers ≡ true
+unwinds : (p : Program) → IsRunnable p → (callers : List Frame) (s : State) (r : ℕ) → s.callers ≡ callers → list_all (is_at_instruction p) callers ≡ true
     → length s.inits ≡ class_count p → NextStands p (unwind p s r callers)
 unwinds p whole [] s r are below classes = by (handler_of p s s.top.kind r) refl
   where
@@ -84,10 +84,10 @@ unwinds p whole (f ∷ rest) s r are below classes =
 
 -- ---- an object is thrown, a class is raised
 
-pub thrown_stands : (p : Program) → IsWhole p → (s : State) (r : ℕ) → list_all (is_at_instruction p) s.callers ≡ true → length s.inits ≡ class_count p
+pub thrown_stands : (p : Program) → IsRunnable p → (s : State) (r : ℕ) → list_all (is_at_instruction p) s.callers ≡ true → length s.inits ≡ class_count p
     → NextStands p (next_after_throw p s r)
 thrown_stands p whole s r below classes = unwinds p whole s.callers s r refl below classes
 
-pub raised_stands : (p : Program) → IsWhole p → (s : State) (class : ℕ) (message : Option (List ℕ)) → list_all (is_at_instruction p) s.callers ≡ true → length s.inits ≡ class_count p
+pub raised_stands : (p : Program) → IsRunnable p → (s : State) (class : ℕ) (message : Option (List ℕ)) → list_all (is_at_instruction p) s.callers ≡ true → length s.inits ≡ class_count p
     → NextStands p (next_after_raise p s class message)
 raised_stands p whole s class message below classes = thrown_stands p whole (with_objects s (exception_objects p s class message)) _ below classes

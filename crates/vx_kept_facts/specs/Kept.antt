@@ -19,32 +19,32 @@ is_instruction None at = false
 is_instruction (Some code) at = is_start (starts_in code) at
 
 -- the code ends there
-abbrev pub is_end : Option Code → ℕ → Bool
-is_end None at = false
-is_end (Some code) at = at == length code.bytes
+abbrev pub is_code_end : Option Code → ℕ → Bool
+is_code_end None at = false
+is_code_end (Some code) at = at == length code.bytes
 
 abbrev pub has_code : Program → Frame → Bool
 has_code p f = is_some (method_at p f.method).code
 
--- a frame stands at an instruction of its method, or at the end of its code
+-- a frame stands at an instruction of its method, or where the method's code ends
 abbrev pub is_at_instruction : Program → Frame → Bool
 is_at_instruction p f = is_instruction (method_at p f.method).code f.position
 
 abbrev pub is_at_end : Program → Frame → Bool
-is_at_end p f = is_end (method_at p f.method).code f.position
+is_at_end p f = is_code_end (method_at p f.method).code f.position
 
 -- ---- states
 
 -- each frame's method has code; each frame stands at an instruction of it, but the frame on top may stand at its end
-pub record IsKept (p : Program) (s : State) : Type 0 where
+pub record HasPlacedFrames (p : Program) (s : State) : Type 0 where
   pub codes : list_all (has_code p) (frames_of s) ≡ true
   pub top : (is_at_instruction p s.top || is_at_end p s.top) ≡ true
   pub callers : list_all (is_at_instruction p) s.callers ≡ true
 
 -- the state that a run has come to, or in which its last attempt was made
-abbrev pub state_of : Run → State
-state_of (Live g) = g.state
-state_of (Over e g) = g.state
+abbrev pub last_state : Run → State
+last_state (Live g) = g.state
+last_state (Over e g) = g.state
 
 -- ---- outcomes
 
@@ -58,12 +58,12 @@ IsThrowing p (Raise class message s) = is_throwable p class ≡ true
 IsThrowing p (Throw object s) = is_throwable p (object_at s object).class ≡ true
 IsThrowing p _ = Unit {0}
 
--- and it goes on in a state of the facts above
-abbrev pub GoesOn : Program → Outcome → Type 0
-GoesOn p (Go s) = IsKept p s
-GoesOn p (Raise class message s) = IsKept p s
-GoesOn p (Throw object s) = IsKept p s
-GoesOn p (Begin class s) = IsKept p s
-GoesOn p (Native method s) = IsKept p s
-GoesOn p (Write stream units s) = IsKept p s
-GoesOn p (Ended end) = Unit {0}
+-- and what goes on does so in such a state
+abbrev pub GoesOnPlaced : Program → Outcome → Type 0
+GoesOnPlaced p (Go s) = HasPlacedFrames p s
+GoesOnPlaced p (Raise class message s) = HasPlacedFrames p s
+GoesOnPlaced p (Throw object s) = HasPlacedFrames p s
+GoesOnPlaced p (Begin class s) = HasPlacedFrames p s
+GoesOnPlaced p (Native method s) = HasPlacedFrames p s
+GoesOnPlaced p (Write stream units s) = HasPlacedFrames p s
+GoesOnPlaced p (Ended end) = Unit {0}

@@ -6,7 +6,7 @@ use Rattle.vx_class.specs.declared.class_file.Code.{Code}
 use Rattle.vx_java.specs.Row.{row}
 use Rattle.vx_java.specs.Step.{Config, Live, Progress, outcome_carried_out, start, steps}
 use Rattle.vx_jump_targets.specs.Placed.{are_well_placed}
-use Rattle.vx_kept_facts.specs.Kept.{GoesOn, IsKept, IsThrowing, is_throwable, state_of}
+use Rattle.vx_kept_facts.specs.Kept.{GoesOnPlaced, HasPlacedFrames, IsThrowing, is_throwable, last_state}
 use Rattle.vx_link.specs.ClassNames.{core_class}
 use Rattle.vx_link.specs.CoreFiles.{core_count}
 use Rattle.vx_link.specs.Parts.{class_count, method_at}
@@ -29,8 +29,8 @@ abbrev pub has_bytes : Option Code → Bool
 has_bytes None = true
 has_bytes (Some code) = nat_lt 0 (length code.bytes)
 
--- the core classes are there, and what is raised of them is below Throwable; each code leads from instruction to instruction; main and what initialises a class have code
-pub record IsWhole (p : Program) : Type 0 where
+-- a program that can be run: the core classes are there, and what is raised of them is below Throwable; each code has a byte and leads from instruction to instruction; main and what initialises a class have code
+pub record IsRunnable (p : Program) : Type 0 where
   pub core : core_count ≤ class_count p
   pub throwable : list_all (λ name. is_throwable p (core_class p name)) raised ≡ true
   pub placed : are_well_placed p ≡ true
@@ -42,9 +42,9 @@ pub record IsWhole (p : Program) : Type 0 where
 
 -- of each run: every state that it comes to, and what each of its attempts comes to, before and after a beginning or a native method is carried out
 pub record KeepsFacts (p : Program) : Type 0 where
-  pub kept : (c : Config) (n : ℕ) → IsKept p (state_of (steps p n (start p c)))
-  pub goes_on : (c : Config) (n : ℕ) (g : Progress) → steps p n (start p c) ≡ Live g → GoesOn p (row p g.state) × GoesOn p (outcome_carried_out p (row p g.state))
+  pub kept : (c : Config) (n : ℕ) → HasPlacedFrames p (last_state (steps p n (start p c)))
+  pub goes_on : (c : Config) (n : ℕ) (g : Progress) → steps p n (start p c) ≡ Live g → GoesOnPlaced p (row p g.state) × GoesOnPlaced p (outcome_carried_out p (row p g.state))
   pub throws : (c : Config) (n : ℕ) (g : Progress) → steps p n (start p c) ≡ Live g → IsThrowing p (row p g.state) × IsThrowing p (outcome_carried_out p (row p g.state))
 
 abbrev pub FactsAreKept : Type 0
-FactsAreKept = (p : Program) → IsWhole p → KeepsFacts p
+FactsAreKept = (p : Program) → IsRunnable p → KeepsFacts p

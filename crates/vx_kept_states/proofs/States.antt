@@ -11,9 +11,9 @@ use Rattle.vx_java.specs.Step.{Live, Over, Progress, Run, RunResult, start, step
 use Rattle.vx_kept_facts.proofs.Rows.{row_comes}
 use Rattle.vx_kept_facts.proofs.Runs.{RunStands, carried_out_comes, goes_on, is_throwing, kept, start_stands, step_stands}
 use Rattle.vx_kept_facts.proofs.Sites.{StandsAtPlace}
-use Rattle.vx_kept_facts.specs.Kept.{GoesOn, IsThrowing}
-use Rattle.vx_kept_facts.specs.Law.{IsWhole}
-use Rattle.vx_kept_states.specs.Reached.{Begins, Follows, IsReached, KeepsFrames, KeepsOutcomes}
+use Rattle.vx_kept_facts.specs.Kept.{GoesOnPlaced, IsThrowing}
+use Rattle.vx_kept_facts.specs.Law.{IsRunnable}
+use Rattle.vx_kept_states.specs.ByRounds.{Begins, Follows, ComesByRounds, KeepsFrames, KeepsOutcomes}
 use Rattle.vx_link.specs.declared.program.Program.{Program}
 use Rattle.vx_outcome.specs.declared.outcome.Outcome.{Outcome}
 use Rattle.vx_space.specs.Sets.{Sets}
@@ -47,7 +47,7 @@ run_stood p limit (Live g) stands h is = by (nat_lt g.attempts limit) is
     by true is = subst (λ h. StandsAtPlace p h.state) (runs_same g h is) stands
     by false is = cc
 
-round_stood : (p : Program) → IsWhole p → (limit : ℕ) (holds : Bool) (s : Option Standing) → Stood p s → Stood p (after_round p limit holds s)
+round_stood : (p : Program) → IsRunnable p → (limit : ℕ) (holds : Bool) (s : Option Standing) → Stood p s → Stood p (after_round p limit holds s)
 round_stood p whole limit true None stood = stood
 round_stood p whole limit true (Some (Runs g)) stood = run_stood p limit (step p g) (step_stands p whole g (stood g refl))
 round_stood p whole limit true (Some (Came r)) stood = stood
@@ -55,7 +55,7 @@ round_stood p whole limit false s stood = stood
 
 -- ---- a start, and a round
 
-started : {S I : Type 0} (p : Program) → IsWhole p → (allowed : I) (limit : ℕ) (sets : Sets I) (st : StateView S I) → IsStart p sets allowed limit st
+started : {S I : Type 0} (p : Program) → IsRunnable p → (allowed : I) (limit : ℕ) (sets : Sets I) (st : StateView S I) → IsStart p sets allowed limit st
     → (c : List Bool) → Stood p (standing_at sets st c)
 started p whole allowed limit sets st begins c = by (sets.test allowed c) refl
   where
@@ -65,7 +65,7 @@ started p whole allowed limit sets st begins c = by (sets.test allowed c) refl
         subst (λ group. Stood p (standing_in sets st c group)) (sym (begins.is_state.nowhere c other).group)
         (came_stood p (result_at sets st.found st.ends st.spent c))
 
-reached : {S I : Type 0} (p : Program) → IsWhole p → (allowed : I) (limit : ℕ) (sets : Sets I) (st : StateView S I) → IsReached p allowed limit sets st
+reached : {S I : Type 0} (p : Program) → IsRunnable p → (allowed : I) (limit : ℕ) (sets : Sets I) (st : StateView S I) → ComesByRounds p allowed limit sets st
     → (c : List Bool) → Stood p (standing_at sets st c)
 reached p whole allowed limit sets st (Begins _ _ begins) c = started p whole allowed limit sets st begins c
 reached p whole allowed limit new after (Follows old _ before _ group earlier round) c =
@@ -78,7 +78,7 @@ group_stood : {S I : Type 0} (p : Program) (sets : Sets I) (st : StateView S I) 
     → group_of sets st.groups c ≡ Some group → StandsAtPlace p (state_at sets st.heap st.tree group c)
 group_stood p sets st c group stood is = stood (progress_at sets st group c) (ap (standing_in sets st c) is)
 
-state_reached : {S I : Type 0} (p : Program) (allowed : I) (limit : ℕ) (sets : Sets I) (st : StateView S I) → IsReached p allowed limit sets st → IsState p sets allowed st
+state_reached : {S I : Type 0} (p : Program) (allowed : I) (limit : ℕ) (sets : Sets I) (st : StateView S I) → ComesByRounds p allowed limit sets st → IsState p sets allowed st
 state_reached p allowed limit sets st (Begins _ _ begins) = begins.is_state
 state_reached p allowed limit new after (Follows old _ before _ group earlier round) = round.is_state
 
@@ -98,16 +98,16 @@ running_there {S = S} {I = I} p sets st (first ∷ groups) c group are is = by (
         subst (λ (g : GroupView S I). IsRunning p sets st g × (sets.test (path_of g) c ≡ true)) (some_is first group is) (are.0, holds)
     by false other is later = later is
 
-pub keeps_frames : {S I : Type 0} (p : Program) → IsWhole p → (allowed : I) (limit : ℕ) (sets : Sets I) (st : StateView S I) → IsReached p allowed limit sets st → KeepsFrames p sets st
+pub keeps_frames : {S I : Type 0} (p : Program) → IsRunnable p → (allowed : I) (limit : ℕ) (sets : Sets I) (st : StateView S I) → ComesByRounds p allowed limit sets st → KeepsFrames p sets st
 keeps_frames p whole allowed limit sets st is = record {
   kept = λ c group there. kept p (state_at sets st.heap st.tree group c) (group_stood p sets st c group (reached p whole allowed limit sets st is c) there);
 }
 
-pub keeps_outcomes : {S I : Type 0} (p : Program) → IsWhole p → (allowed : I) (limit : ℕ) (sets : Sets I) (st : StateView S I) → IsReached p allowed limit sets st → KeepsOutcomes p sets st
+pub keeps_outcomes : {S I : Type 0} (p : Program) → IsRunnable p → (allowed : I) (limit : ℕ) (sets : Sets I) (st : StateView S I) → ComesByRounds p allowed limit sets st → KeepsOutcomes p sets st
 keeps_outcomes {S = S} {I = I} p whole allowed limit sets st is = record { comes = comes }
   where
     comes : (new : Sets I) (after : HeapView S I) (group : GroupView S I) (outcomes : List (Outcome S I)) → IsAttempted p sets new st.heap after group outcomes
-        → (c : List Bool) → group_of sets st.groups c ≡ Some group → (o : PlainOutcome) → comes_to new after st.tree c outcomes ≡ Some o → GoesOn p o × IsThrowing p o
+        → (c : List Bool) → group_of sets st.groups c ≡ Some group → (o : PlainOutcome) → comes_to new after st.tree c outcomes ≡ Some o → GoesOnPlaced p o × IsThrowing p o
     comes new after group outcomes attempted c there o says =
         let running = running_there p sets st st.groups c group (state_reached p allowed limit sets st is).running there in
         let plain : State = state_at sets st.heap st.tree group c in
@@ -115,4 +115,4 @@ keeps_outcomes {S = S} {I = I} p whole allowed limit sets st is = record { comes
         let same : carried_out_row p plain ≡ o = some_is (carried_out_row p plain) o (sym came ∙ says) in
         let stands = group_stood p sets st c group (reached p whole allowed limit sets st is c) there in
         let may = carried_out_comes p whole (row p plain) (row_comes p whole plain stands) in
-        subst (λ o. GoesOn p o × IsThrowing p o) same (goes_on p (carried_out_row p plain) may, is_throwing p (carried_out_row p plain) may)
+        subst (λ o. GoesOnPlaced p o × IsThrowing p o) same (goes_on p (carried_out_row p plain) may, is_throwing p (carried_out_row p plain) may)

@@ -13,7 +13,7 @@ use Rattle.vx_jump_targets.proofs.Lists.{all_pass}
 use Rattle.vx_jump_targets.proofs.PlacedCore.{placed_core}
 use Rattle.vx_jump_targets.proofs.WellPlaced as well_placed
 use Rattle.vx_jump_targets.specs.Placed.{are_well_placed}
-use Rattle.vx_kept_facts.specs.Law.{IsWhole, has_bytes}
+use Rattle.vx_kept_facts.specs.Law.{IsRunnable, has_bytes}
 use Rattle.vx_kept_states.proofs.Throwables.{AreBelow, AreRows, core_below, new_names, raised_are_throwable}
 use Rattle.vx_kept_states.proofs.WholeFiles.{is_whole_file, whole_core, whole_file}
 use Rattle.vx_kept_states.proofs.WholeMethods.{begins_in, classes_begin, codes_have_bytes}
@@ -77,7 +77,7 @@ found_code methods numbers has =
 
 whole_program : (rows : List WrittenClass) (core : List ClassFile) (numbers : List (List ℕ)) → core ≡ map class_file rows → length core ≡ core_count → AreBelow rows
     → list_all is_whole_file core ≡ true → (classes : List ClassFile) (options : List OptionField) (main : List ℕ) → All Holds classes
-    → link_fault classes core options main ≡ None → are_well_placed (program_of classes core numbers options main) ≡ true → IsWhole (program_of classes core numbers options main)
+    → link_fault classes core options main ≡ None → are_well_placed (program_of classes core numbers options main) ≡ true → IsRunnable (program_of classes core numbers options main)
 whole_program rows core numbers same count below whole_core classes options main holds is placed =
     record {
       core = enough;
@@ -133,10 +133,10 @@ whole_program rows core numbers same count below whole_core classes options main
         []
         (λ from fields last. refl)
 
-pub linked_are_whole : (classes : List ClassFile) (options : List OptionField) (main : List ℕ) (p : Program) → All Holds classes → linked_program classes options main ≡ Ok p → IsWhole p
-linked_are_whole classes options main p holds is =
+pub linked_are_runnable : (classes : List ClassFile) (options : List OptionField) (main : List ℕ) (p : Program) → All Holds classes → linked_program classes options main ≡ Ok p → IsRunnable p
+linked_are_runnable classes options main p holds is =
     let made = no_fault (link_fault classes core_files options main) (program_of classes core_files native_numbers options main) p is in
-    subst IsWhole made.1
+    subst IsRunnable made.1
     (whole_program core_table core_files native_numbers refl (length-map core_table class_file) core_below whole_core classes options main holds made.0
     (well_placed.placed core_files native_numbers placed_core classes options main (program_of classes core_files native_numbers options main) holds
     (ap (λ fault. unless_fault fault (program_of classes core_files native_numbers options main)) made.0)))

@@ -1,13 +1,13 @@
 //! The laws of kept facts for linked programs and for the state of all runs.
 #![tactic(auto)]
 
-ghost use Rattle.vx_kept_states.specs.Law.{LinkedAreWhole, LinkedRunsKeepFacts, ReachedStatesKeepFacts};
+ghost use Rattle.vx_kept_states.specs.Law.{LinkedAreRunnable, LinkedRunsKeepFacts, StatesKeepFacts};
 
 use vx_space::Space;
 
-/// The program that classes which were read are linked to is whole: what the law of kept facts asks of a program.
-pub fn linked_are_whole()
-    ensures { LinkedAreWhole }
+/// The program that classes which were read are linked to can be run: it has what the law of kept facts asks of a program.
+pub fn linked_are_runnable()
+    ensures { LinkedAreRunnable }
 {}
 
 /// So its runs keep the facts.
@@ -18,5 +18,5 @@ pub fn linked_runs_keep_facts()
 /// And so does each state of all runs side by side that rounds lead to: at each configuration of each group, and in what an attempt
 /// of a group comes to there.
 pub fn states_keep_facts<S: Space>()
-    ensures { ReachedStatesKeepFacts S S.Id }
+    ensures { StatesKeepFacts S S.Id }
 {}
