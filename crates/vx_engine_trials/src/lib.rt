@@ -10,9 +10,7 @@ mod findings;
 mod last_key;
 #[cfg(test)]
 mod least_key;
-#[cfg(test)]
-mod long_run;
-#[cfg(test)]
+pub mod long_run;
 mod programs;
 #[cfg(test)]
 mod runs;

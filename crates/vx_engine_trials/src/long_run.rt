@@ -1,4 +1,4 @@
-//! How many sets the space of diagrams knows in a long run over many options.
+//! A long run over many options, and how many sets the space of diagrams knows in it.
 
 ghost use Rattle.std.specs.Prelude.{◌≡◌, ◌<◌, OnOk, length, true};
 ghost use Rattle.vx_families.specs.Bounds.{IsBounded};
@@ -8,7 +8,6 @@ ghost use Rattle.vx_standing.specs.State.{IsState};
 
 use crate::programs::{Example, linked};
 use std::alloc::Global;
-use std::process::Abort;
 use std::test::Fail;
 use vx_bdd::BddSpace;
 use vx_link::Program;
@@ -22,14 +21,17 @@ use vx_starting::start;
 /// How many options there are. Each changes a value in every turn of a loop.
 const OPTIONS: u32 = 20;
 
-/// How many turns the loop makes. That of the worked case `long-run-20-options` makes 200, which is too long for a test.
-const TURNS: u32 = 10;
-
 /// The most attempts of a run, and more rounds than the runs make.
 const LIMIT: u64 = 100_000;
 
-/// The most sets that the space may know after a round.
-const MOST_SETS: u64 = 65_536;
+/// What a run came to.
+#[derive(Clone, Copy, Debug)]
+pub struct Counts {
+    /// How many rounds were made.
+    pub rounds: u64,
+    /// How many sets the space knew after a round, at most.
+    pub most_sets: u64,
+}
 
 /// The model of the options.
 fn model(alloc: Global) -> Result<Vec<u8>, Fail> {
@@ -40,8 +42,8 @@ fn model(alloc: Global) -> Result<Vec<u8>, Fail> {
     Ok(text)
 }
 
-/// A loop. In each of its turns every option adds its own share of the counter to a value that is kept below 4.
-fn source(alloc: Global) -> Result<Vec<u8>, Fail> {
+/// A loop of so many turns. In each of them every option adds its own share of the counter to a value that is kept below 4.
+fn source(alloc: Global, turns: u32) -> Result<Vec<u8>, Fail> {
     let mut text = Vec::new(alloc);
     text.extend_from_slice(b"class 0021 Main java/lang/Object\n")?;
     for i in 0..OPTIONS {
@@ -49,7 +51,7 @@ fn source(alloc: Global) -> Result<Vec<u8>, Fail> {
     }
     text.extend_from_slice(b"method 0009 main ([Ljava/lang/String;)V 6 4\n")?;
     text.extend_from_slice(format!(in alloc;
-        "sipush {TURNS}\nistore_2\nL:\niconst_0\nistore_1\n"
+        "sipush {turns}\nistore_2\nL:\niconst_0\nistore_1\n"
     )?.as_bytes())?;
     for i in 0..OPTIONS {
         let share = 11 + 37 * i;
@@ -80,39 +82,46 @@ fn round<S: Space>(
     Ok(())
 }
 
-/// Makes rounds until no group is left. After each the space knows few sets.
-fn knows_few_sets<S: Space>(
-    rt: &impl Abort,
-    alloc: Global,
-    example: &Example,
-    space: &mut S,
-) -> Result<(), Fail>
+/// Makes rounds until no group is left, and counts after each what the space knows.
+fn make_rounds<S: Space>(alloc: Global, example: &Example, space: &mut S) -> Result<Counts, Fail>
     requires bounded { IsBounded example.now.program }
     requires fields { has_options (length example.now.model.options) example.now.program.fields ≡ true }
     requires lawful { IsModel example.now.model }
     requires options { (S.sets space.old).options ≡ length example.now.model.options }
 {
     let allowed = allowed(space, &example.model)?;
-    assert!(rt; !space.is_never(allowed));
+    if space.is_never(allowed) {
+        return Err(Fail::new("the model allows nothing"));
+    }
     let mut state = start(alloc, &example.program, space, allowed, LIMIT)?;
-    'rounds: for _ in 0..LIMIT {
+    let mut most_sets = 0;
+    'rounds: for rounds in 0..LIMIT {
         if state.groups().is_empty() {
-            return Ok(());
+            return Ok(Counts { rounds, most_sets });
         }
         round(alloc, &example.program, space, &mut state)?;
-        assert!(rt; space.count() <= MOST_SETS);
+        most_sets = most_sets.max(space.count());
     }
     Err(Fail::new("the runs make more rounds"))
 }
 
-#[test]
-fn a_long_run_over_many_options_knows_few_sets(rt: HostRuntime) -> Result<(), Fail> {
-    let alloc = rt.alloc();
-    let source = source(alloc)?;
+/// The run of 20 options with a loop of so many turns, over the space of diagrams.
+pub fn long_run(alloc: Global, turns: u32) -> Result<Counts, Fail> {
+    let source = source(alloc, turns)?;
     let model = model(alloc)?;
     let example = linked(alloc, source.as_slice(), model.as_slice())?;
     let options = example.model.options.len();
-    assert!(rt; options <= 20);
+    if options > 20 {
+        return Err(Fail::new("the model has more options"));
+    }
     let mut space = BddSpace::new(alloc, options as u32)?;
-    knows_few_sets(&rt, alloc, &example, &mut space)
+    make_rounds(alloc, &example, &mut space)
+}
+
+/// Ten turns; the program `vx_long_run` makes the 200 of the worked case.
+#[test]
+fn a_long_run_over_many_options_knows_few_sets(rt: HostRuntime) -> Result<(), Fail> {
+    let counts = long_run(rt.alloc(), 10)?;
+    assert!(rt; counts.most_sets <= 65_536);
+    Ok(())
 }
