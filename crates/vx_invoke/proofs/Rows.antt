@@ -96,7 +96,7 @@ third_false true true c d e = ap (λ x. x && d) e
 third_false true false c d e = refl
 third_false false b c d e = refl
 
-first_false : (a b c d : Bool) → a ≡ false → (a && b && c && d) ≡ false
+pub first_false : (a b c d : Bool) → a ≡ false → (a && b && c && d) ≡ false
 first_false a b c d e = ap (λ x. x && b && c && d) e
 
 -- a state with one frame enters a second one

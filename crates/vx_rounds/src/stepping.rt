@@ -17,7 +17,7 @@ use vx_families::AttemptFault;
 use vx_group::Group;
 use vx_heap::Heap;
 use vx_link::Program;
-use vx_placing::{Round, Setting, have_places, place_all};
+use vx_placing::{Round, Setting, place_all};
 use vx_space::Space;
 use vx_standing::State;
 use vx_turns::{begin_round, compact, end_round, spend};
@@ -33,19 +33,16 @@ fn make<S: Space>(
     group: Group<S>,
     attempts: &Cond<u64, S>,
 ) -> Result<(), AttemptFault>
-    requires given { MayAttempt program.now (S.sets space.old) heap.old group }
+    requires given { MayAttempt program.now (S.sets space.old) heap.old round.old.callers group }
     requires underway { IsUnderway program.now (S.sets space.old) heap.old limit round.old }
     requires attempts { IsCount (S.sets space.old) group limit attempts.now }
     requires vacant { IsVacant (S.sets space.old) round.old ((S.sets space.old).test (path_of group)) }
     requires unwritten { IsUnwritten (S.sets space.old) round.old ((S.sets space.old).test (path_of group)) }
     ensures extends { Extends (S.sets space.old) (S.sets space.new) }
     ensures made { OnOk result (IsMade program.now (S.sets space.old) (S.sets space.new) heap.old heap.new limit group round.old round.new) }
-    ensures not_yet { result ≡ Err AttemptFault.NotYet → IsUnbuiltThere program.now (S.sets space.old) heap.old group }
+    ensures not_yet { result ≡ Err AttemptFault.NotYet → IsUnbuiltThere program.now (S.sets space.old) heap.old round.old.callers group }
 {
-    let outcomes = attempt(alloc, program, space, heap, group)?;
-    if !have_places(program, space, &outcomes.items) {
-        return Err(AttemptFault::NotYet);
-    }
+    let outcomes = attempt(alloc, program, space, heap, &mut round.callers, group)?;
     let setting = Setting {
         program,
         heap,

@@ -111,7 +111,7 @@ quiet_is_state p sets allowed limit heap group b n l m h g = record {
   is_for = h.is_for;
   runs = h.runs;
   groups = (record { is_group = g.stands.is_group; nonempty = λ e. n (sym g.path ∙ e); apart = tt; fresh = tt }, tt);
-  running = (record { stands = g.stands; kind = g.kind; single = g.single; left = λ c t. rw (g.fresh c (ap (λ id. sets.test id c) (sym g.path) ∙ t)) l }, tt);
+  running = (record { stands = g.stands; left = λ c t. rw (g.fresh c (ap (λ id. sets.test id c) (sym g.path) ∙ t)) l }, tt);
   tree = tt;
   found = tt;
   ends = tt;

@@ -25,7 +25,7 @@ spend-requires-clause-below g c =
 pub make-requires-clause-given : goal.make-requires-clause-given
 make-requires-clause-given g c =
     let h = compacted_state c.args.program.now _ _ c.args.state.now.heap.allowed c.args.state.now c.requires.state c.in_ok-compact.ensures.compacted in
-    rw (ap (λ (x : StateView g.row.S.Denot g.row.S-Id.Denot). x.heap) (c.state.view_is ∙ c.begin_round-begun.ensures.state))
+    rw (ap (λ (x : StateView g.row.S.Denot g.row.S-Id.Denot). x.heap) (c.state.view_is ∙ c.begin_round-begun.ensures.state), c.begin_round-begun.ensures.callers)
     (spent_may c.args.program.now c.in_ok-spent.ensures.extends c.args.state.now.heap.allowed c.args.state.now c.begin_round-begun.new.state c.args.which c.begin_round-begun.result.0 c.begin_round-begun.result.1 c.in_ok-spent.spent c.in_ok-spent.attempts h c.begin_round-begun.ensures c.in_ok-spent.ensures.spent)
 
 pub make-requires-clause-underway : goal.make-requires-clause-underway
@@ -55,7 +55,7 @@ pub returns-in_err-make-clause-not_yet : goal.returns-in_err-make-clause-not_yet
 returns-in_err-make-clause-not_yet g c e =
     let b = c.begin_round-begun.ensures in
     let same_heap = ap (λ (x : StateView g.row.S.Denot g.row.S-Id.Denot). x.heap) (c.state.view_is ∙ b.state) in
-    let u = rw same_heap at (c.in_err-make.ensures.not_yet (let k = err_from_is_err_and c.from_residual-in_err-make.result c.from_residual-in_err-make.ensures.1 in cc (e, k.1, k.2))) in (
+    let u = rw (same_heap, b.callers) at (c.in_err-make.ensures.not_yet (let k = err_from_is_err_and c.from_residual-in_err-make.result c.from_residual-in_err-make.ensures.1 in cc (e, k.1, k.2))) in (
       c.begin_round-begun.result.1,
       b.chosen,
       IsStuck-met c.args.program.now (g.S.Space.sets c.args.space.now) (g.S.Space.sets c.compact.new.space) (g.S.Space.sets c.spend.new.space) c.in_ok-spent.ensures.extends c.args.state.now.heap.allowed c.args.state.now c.begin_round-begun.new.state c.args.which c.begin_round-begun.result.0 c.begin_round-begun.result.1 c.in_ok-spent.spent c.in_ok-spent.attempts c.requires.state c.in_ok-compact.ensures.compacted b c.in_ok-spent.ensures.spent u,

@@ -1,12 +1,10 @@
--- Outcomes without a place come from attempts that aren't built.
+-- What is refused after native methods and beginnings were carried out comes from attempts that aren't built.
 use Rattle.std.proofs.Common.{◌≡◌, ℕ, Bool, true, false, List, [], ◌∷◌, ◌++◌, refl, sym, subst, inl, inr}
 use Rattle.std.specs.Prelude.{◌==◌, ◌⊎◌, ◌&&◌, bytes_eq, codes, not, Option, Some, None}
 use Rattle.std.proofs.lemmas.Bool.Decides.{nat_tests}
 use Rattle.std.proofs.Common.{arith}
-use Rattle.vx_space.specs.Sets.{Sets}
-use Rattle.vx_heap.specs.Heap.{HeapView}
 use Rattle.vx_class.specs.Members.{STATIC}
-use Rattle.vx_families.specs.Built.{has_none, is_built, is_built_at, is_built_outcome, is_call, is_single, println_int}
+use Rattle.vx_families.specs.Built.{is_built, is_built_at, is_built_outcome, is_single, println_int}
 use Rattle.vx_java.specs.Calls.{arguments_off, if_arguments}
 use Rattle.vx_java.specs.Checks.{is_instance_of}
 use Rattle.vx_java.specs.Machine.{Begin, Ended, Go, Here, Native, Outcome, Raise, State, Throw, Value, Write, illegal, when}
@@ -19,11 +17,7 @@ use Rattle.vx_link.specs.Parts.{has, method_at}
 use Rattle.vx_link.specs.Signature.{signature}
 use Rattle.vx_link.specs.declared.program.LinkedMethod.{LinkedMethod}
 use Rattle.vx_link.specs.declared.program.Program.{Program}
-use Rattle.vx_outcome.specs.declared.outcome.Outcome.{Outcome as SharedOutcome}
-use Rattle.vx_outcome.specs.declared.outcome.Outcome.TheVariants as shared
-use Rattle.vx_group_states.specs.Stands.{outcome_at, state_at}
-use Rattle.vx_placing.specs.Placing.{has_place, is_refused}
-use Rattle.vx_java.specs.Selection.{catches_of}
+use Rattle.vx_attempt.specs.Carrying.{is_refused}
 
 -- ---- println of an int comes to no native method
 
@@ -126,20 +120,3 @@ unbuilt p a o h = cases (refused_how p (outcome_carried_out p o) h)
 
 pub refused_unbuilt : (p : Program) (s : State) → is_refused p (outcome_carried_out p (row p s)) ≡ true → is_built p s ≡ false
 refused_unbuilt p s h = unbuilt p (is_single s && is_built_at p s) (row p s) h
-
--- ---- an outcome without a place
-
-pub unplaced_refused : {S I : Type 0} (p : Program) (sets : Sets I) (heap : HeapView S I) (x : SharedOutcome S I) → has_place p x ≡ false → (c : List Bool) → is_refused p (outcome_at sets heap [] c x) ≡ true
-unplaced_refused p sets heap (shared.Go group) h c = rw h refl
-unplaced_refused p sets heap (shared.Raise group class message) h c = cases (is_call group.top.kind) (has_none (state_at sets heap [] group c).callers) (has_none (catches_of (method_at p group.top.method.0).code)) h
-  where
-    cases : (a b d : Bool) → (a && d) ≡ false → not ((a && b) && d) ≡ true
-    cases true true true e = cc e
-    cases true true false e = refl
-    cases true false d e = refl
-    cases false b d e = refl
-unplaced_refused p sets heap (shared.Throw group thrown) h c = refl
-unplaced_refused p sets heap (shared.Begin group class) h c = refl
-unplaced_refused p sets heap (shared.Native group method) h c = refl
-unplaced_refused p sets heap (shared.Write group stream text) h c = rw h refl
-unplaced_refused p sets heap (shared.Ended condition end) h c = cc h
