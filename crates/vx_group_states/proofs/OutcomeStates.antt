@@ -124,7 +124,7 @@ abbrev named : Value → ℕ
 named (RefValue n) = n
 named _ = 0
 
-object_named-extends : {S I : Type 0} {old new : Sets I} → Extends old new → (heap : HeapView S I) → IsHeap old heap → (c : List Bool) (s : Slot) → object_named new heap c s ≡ object_named old heap c s
+pub object_named-extends : {S I : Type 0} {old new : Sets I} → Extends old new → (heap : HeapView S I) → IsHeap old heap → (c : List Bool) (s : Slot) → object_named new heap c s ≡ object_named old heap c s
 object_named-extends e heap v c slot.Top = refl
 object_named-extends e heap v c (slot.Int n) = refl
 object_named-extends e heap v c (slot.Long n) = refl

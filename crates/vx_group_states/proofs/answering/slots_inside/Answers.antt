@@ -4,7 +4,7 @@ use Rattle.vx_group_states.specs.Answers.{answer_cmp}
 use Rattle.vx_value.specs.Slot.{slot_cmp}
 use Rattle.vx_group_states.proofs.AnswerLaws.{values_at, values_scope}
 use Rattle.vx_group_states.proofs.SettleLaws.{lifting_cond}
-use Rattle.vx_group_states.proofs.answering.values_inside.Goals as goal
+use Rattle.vx_group_states.proofs.answering.slots_inside.Goals as goal
 
 pub map-requires-clause-valid : goal.map-requires-clause-valid
 map-requires-clause-valid g c = IsCond-of answer_cmp _ _ c.in_ok-inside.inside c.in_ok-inside.ensures.ok
