@@ -1,10 +1,10 @@
 //! The parts of a key below the top, as a stack.
 
-ghost use Rattle.std.specs.Prelude.{◌≡◌, [], ◌∷◌, length, reverse, IfOk, IfSome, IfNone, OnErr};
+ghost use Rattle.std.specs.Prelude.{◌≡◌, ◌↔◌, [], ◌∷◌, IsTrue, length, reverse, IfOk, IfSome, IfNone, OnErr};
 
 use std::alloc::{AllocError, Global};
 use std::marker::Model;
-use vx_value::{Key, KeyPart};
+use vx_value::{Key, KeyPart, are_same_parts};
 
 /// The parts of the frames below the top. Contracts see the list with the nearest first.
 #[derive(Drop)]
@@ -60,6 +60,13 @@ impl Parts {
         Ok(Parts {
             parts: Vec::from_slice(*self.parts.allocator(), self.parts.as_slice())?,
         })
+    }
+
+    /// Whether they are these parts.
+    pub(crate) fn are(&self, other: &Parts) -> bool
+        ensures { IsTrue result ↔ (self.now ≡ other.now) }
+    {
+        are_same_parts(self.parts.as_slice(), other.parts.as_slice())
     }
 
     /// The key of these parts below the part of the frame on top.

@@ -1,9 +1,11 @@
 -- The laws of the order of keys: it is total, and keys that compare equal are one key.
-use Rattle.std.specs.Prelude.{◌≡◌, List, [], ◌∷◌, length, refl}
+use Rattle.std.specs.Prelude.{◌≡◌, ◌≢◌, List, [], ◌∷◌, length, refl, true}
+use Rattle.std.proofs.Common.{◌∙◌, ap, sym}
+use Rattle.std.specs.Bool.{Decides}
 use Rattle.std.proofs.lemmas.Map.Lookups.{exact_unsigned}
 use Rattle.std.specs.declared.cmp.Ordering.{Ordering}
-use Rattle.std.specs.declared.cmp.Ordering.TheVariants.{Equal}
-use Rattle.std.specs.Ordering.{nat_cmp, on, flip_args, ordering_then, eq_by_cmp, as_partial_cmp}
+use Rattle.std.specs.declared.cmp.Ordering.TheVariants.{Equal, Greater, Less}
+use Rattle.std.specs.Ordering.{nat_cmp, on, flip_args, is_eq, ordering_then, eq_by_cmp, as_partial_cmp}
 use Rattle.std.specs.Cmp.{IsTotalOrder, IsPartialOrder, IsEquivalence, IsPartialEquivalence, partial_equiv_from_equiv, partial_order_from_total, eq_by_cmp_equiv, then_total, back_total, on_total, nat_cmp_total}
 use Rattle.std.specs.Cmp.Lexicographic.{slice_cmp, lists_total}
 use Rattle.vx_value.specs.Exact.{then_first, then_second}
@@ -59,3 +61,25 @@ parts_exact (x ∷ xs) (y ∷ ys) h =
 -- keys that compare equal are one key
 pub key_exact : (a b : List KeyPart) → key_cmp a b ≡ Equal → a ≡ b
 key_exact a b h = parts_exact a b (then_second (flip_args (on length nat_cmp) a b) (slice_cmp part_cmp a b) h)
+
+-- ---- what the tests of equality say
+
+is_equal : (o : Ordering) → is_eq o ≡ true → o ≡ Equal
+is_equal Equal h = refl
+is_equal Less h = cc h
+is_equal Greater h = cc h
+
+equal_self : (o : Ordering) → o ≢ Less → o ≢ Greater → is_eq o ≡ true
+equal_self Equal l g = refl
+equal_self Less l g = absurd (l refl)
+equal_self Greater l g = absurd (g refl)
+
+self_equal : {A : Type 0} (cmp : A → A → Ordering) → IsTotalOrder cmp → (a : A) → eq_by_cmp cmp a a ≡ true
+self_equal cmp total a = equal_self (cmp a a) (λ h. cc (total.antisymm a a, h)) (λ h. cc (total.antisymm a a, h))
+
+-- parts that test as equal are one part, and one part tests as equal to itself
+pub part_same : (a b : KeyPart) → Decides (eq_by_cmp part_cmp a b) (a ≡ b)
+part_same a b = (λ h. part_exact a b (is_equal (part_cmp a b) h), λ e. ap (eq_by_cmp part_cmp a) (sym e) ∙ self_equal part_cmp total-law a)
+
+pub parts_same : (a b : List KeyPart) → Decides (eq_by_cmp (slice_cmp part_cmp) a b) (a ≡ b)
+parts_same a b = (λ h. parts_exact a b (is_equal (slice_cmp part_cmp a b) h), λ e. ap (eq_by_cmp (slice_cmp part_cmp) a) (sym e) ∙ self_equal (slice_cmp part_cmp) (lists_total total-law) a)

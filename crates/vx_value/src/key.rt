@@ -1,7 +1,9 @@
 //! Keys of states: where a run stands.
 
 ghost use Rattle.std.specs.Prelude.{◌≡◌, IfOk, refl};
+ghost use Rattle.std.specs.Cmp.Lexicographic.{slice_cmp};
 ghost use Rattle.std.specs.Ordering.{eq_by_cmp, as_partial_cmp};
+ghost use Rattle.vx_value.specs.Key.{part_cmp};
 
 use crate::ids::MethodId;
 use std::alloc::{AllocError, Global};
@@ -25,6 +27,20 @@ pub struct KeyPart {
     pub position: u32,
     pub depth: u32,
     pub kind: Kind,
+}
+
+/// Whether two parts are one part.
+pub fn is_same_part(first: KeyPart, second: KeyPart) -> bool
+    ensures { result ≡ eq_by_cmp part_cmp first second }
+{
+    first.cmp(&second) == Ordering::Equal
+}
+
+/// Whether these are the same parts in the same order.
+pub fn are_same_parts(first: &[KeyPart], second: &[KeyPart]) -> bool
+    ensures { result ≡ eq_by_cmp (slice_cmp part_cmp) first.now second.now }
+{
+    first.cmp(&second) == Ordering::Equal
 }
 
 /// The key of a state: a part for each frame, which contracts see as the list from bottom to top.

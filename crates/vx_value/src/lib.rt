@@ -14,7 +14,7 @@ pub mod texts;
 pub use end::{End, Stream};
 pub use exact::Exact;
 pub use ids::{ClassId, FieldId, MethodId};
-pub use key::{Key, KeyPart, Kind};
+pub use key::{Key, KeyPart, Kind, are_same_parts, is_same_part};
 pub use name::Name;
 pub use operation::{IntOp, Narrow, ShiftOp};
 pub use slot::{InitState, Slot};
