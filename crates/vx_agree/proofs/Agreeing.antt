@@ -13,7 +13,7 @@ use Rattle.vx_space.specs.Sets.{Sets, IsSet, Extends}
 use Rattle.vx_bdd_tools.specs.declared.node.Node.{Node}
 use Rattle.vx_bdd_tools.specs.Listing.{IsListing}
 use Rattle.vx_bdd_tools.specs.Nodes.{holds}
-use Rattle.vx_bdd_tools.specs.Numbering.{HoldAll, IsNumbered}
+use Rattle.vx_bdd_tools.specs.Numbering.{IsNumbered}
 use Rattle.vx_bdd_tools.proofs.OneNumbering.{IsOnlyListing-of}
 use Rattle.vx_report.specs.Projection.{end_at, output_at}
 use Rattle.vx_report.specs.declared.report.Report.{Report}

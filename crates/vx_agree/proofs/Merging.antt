@@ -14,7 +14,7 @@ use Rattle.vx_bdd_tools.specs.declared.node.Node.{Node}
 use Rattle.vx_bdd_tools.specs.Nodes.{holds}
 use Rattle.vx_report.specs.declared.report.EndLine.{EndLine}
 use Rattle.vx_report.specs.declared.report.Report.{Report}
-use Rattle.vx_report_reader.specs.Lawful.{EachFollows, IsLawful as lawful}
+use Rattle.vx_report_reader.specs.Lawful.{IsLawful as lawful}
 use Rattle.vx_report_reader.specs.Rules.{comes_after, is_less, last_of}
 use Rattle.vx_agree.specs.Ends.{AreAscending, AreEndings, IsBefore, are_one_end, first_end, have_same_end, is_end, is_same_end}
 use Rattle.vx_agree.specs.declared.ends.Endings.{Endings}

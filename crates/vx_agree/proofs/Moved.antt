@@ -12,13 +12,13 @@ use Rattle.vx_report.specs.declared.report.Report.{Report}
 use Rattle.vx_value.specs.declared.end.Stream.{Stream}
 use Rattle.vx_agree.specs.declared.reached.Reached.{Reached}
 use Rattle.vx_agree.specs.Equal.{are_equal, common_from}
-use Rattle.vx_agree.specs.Left.{bytes_if, left_from, written}
+use Rattle.vx_agree.specs.Left.{bytes_if, left_from}
 use Rattle.vx_agree.specs.Places.{AreKnownPlaces, IsAdded, IsPlaced, IsRightAtEach, is_covered}
 use Rattle.vx_agree.specs.Taking.{IsBehind, IsTaken, from_place}
 use Rattle.vx_agree.specs.Moving.{AreMoved, GoesAlong, HaveMoved, IsLeft, IsMoved, SaysTheSame}
 use Rattle.vx_agree.proofs.Equal.{common_from-within, none_left, with_common}
 use Rattle.vx_agree.proofs.Left.{left_end, left_here, left_silent}
-use Rattle.vx_agree.proofs.Places.{and_left, and_right, at_each, both_or, covered-push, each-value, not_both, not_true, places-extends}
+use Rattle.vx_agree.proofs.Places.{and_left, and_right, at_each, both_or, covered-push, each-value, not_both, not_true}
 use Rattle.vx_agree.proofs.Sharing.{IsAdded-later, IsAdded-trans}
 
 -- ---- a place slides

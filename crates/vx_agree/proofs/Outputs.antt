@@ -19,7 +19,7 @@ use Rattle.vx_agree.specs.Moving.{AreBehind, HaveMoved, IsAllSaid, IsLeft, IsSam
 use Rattle.vx_agree.proofs.Equal.{equal_lists, equal_self, none_left, some_left}
 use Rattle.vx_agree.proofs.Left.{left_end, left_here, left_start, said_more, said_output}
 use Rattle.vx_agree.proofs.Moved.{IsLeft-value}
-use Rattle.vx_agree.proofs.Places.{and_left, and_right, at_each, both_or, covered-push, not_both, or_left, or_right, place_known}
+use Rattle.vx_agree.proofs.Places.{and_left, and_right, at_each, both_or, covered-push, not_both, or_left, or_right}
 
 -- ---- along the first output
 

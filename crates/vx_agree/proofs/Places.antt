@@ -1,11 +1,11 @@
 -- Places with conditions: what a later space keeps of them, and one place more.
-use Rattle.std.proofs.Common.{◌≡◌, ◌⊎◌, ℕ, ◌+◌, ◌<◌, Bool, true, false, List, [], ◌∷◌, ◌++◌, length, set, get_or, refl, sym, ◌∙◌, ap, arith, zero, suc, inl, inr}
+use Rattle.std.proofs.Common.{◌≡◌, ◌⊎◌, ℕ, ◌<◌, Bool, true, false, List, [], ◌∷◌, ◌++◌, length, set, get_or, refl, sym, ◌∙◌, ap, arith, zero, suc, inl, inr}
 use Rattle.std.specs.Prelude.{Some, None, ◌||◌, ◌&&◌, ◌==◌, not, insert, slice_get}
 use Rattle.std.proofs.lemmas.Bool.Decides.{nat_tests}
 use Rattle.std.proofs.lemmas.Option.{slice_get-get_or}
 use Rattle.vx_space.specs.Sets.{Sets, IsSet, IsLawful, Extends}
 use Rattle.vx_agree.specs.declared.reached.Reached.{Reached}
-use Rattle.vx_agree.specs.Places.{AreBelow, AreKnownPlaces, IsAdded, IsAtPlace, IsPlaced, IsRightAtEach, is_covered}
+use Rattle.vx_agree.specs.Places.{AreBelow, AreKnownPlaces, IsAtPlace, IsPlaced, IsRightAtEach, is_covered}
 
 -- ---- tests
 

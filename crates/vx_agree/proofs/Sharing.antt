@@ -1,6 +1,5 @@
 -- Places that are added one after another, and beside those that wait.
-use Rattle.std.proofs.Common.{◌≡◌, ◌⊎◌, ℕ, Bool, true, false, List, [], refl, sym, ◌∙◌, inl, inr}
-use Rattle.std.specs.Prelude.{◌||◌}
+use Rattle.std.proofs.Common.{◌≡◌, ◌⊎◌, ℕ, Bool, true, false, List, [], ◌∙◌, inl, inr}
 use Rattle.vx_space.specs.Sets.{Sets, Extends}
 use Rattle.vx_agree.specs.declared.reached.Reached.{Reached}
 use Rattle.vx_agree.specs.Places.{AreKnownPlaces, IsAdded, is_covered}

@@ -12,12 +12,12 @@ use Rattle.vx_report.specs.declared.report.Report.{Report}
 use Rattle.vx_value.specs.declared.end.Stream.{Stream}
 use Rattle.vx_agree.specs.declared.reached.Reached.{Reached}
 use Rattle.vx_agree.specs.Equal.{are_equal, common_from}
-use Rattle.vx_agree.specs.Left.{bytes_if, left_from, written}
-use Rattle.vx_agree.specs.Places.{AreBelow, AreKnownPlaces, IsAdded, IsPlaced, IsRightAtEach, is_covered}
+use Rattle.vx_agree.specs.Left.{bytes_if, left_from}
+use Rattle.vx_agree.specs.Places.{AreBelow, AreKnownPlaces, IsPlaced, IsRightAtEach, is_covered}
 use Rattle.vx_agree.specs.Taking.{HasTaken, IsBegun, IsBehind, IsHere, IsShared, IsTaken, Takes, TakesAll, from_place, with_taken}
 use Rattle.vx_agree.proofs.Equal.{common_from-within, none_left, some_left, with_common, without_common}
 use Rattle.vx_agree.proofs.Left.{left_end, left_here}
-use Rattle.vx_agree.proofs.Places.{and_left, and_right, at_each, both_or, covered-push, each-extends, each-value, not_both, not_true, or_left, places-extends}
+use Rattle.vx_agree.proofs.Places.{and_left, and_right, at_each, both_or, covered-push, each-value, not_both, not_true, places-extends}
 use Rattle.vx_agree.proofs.Sharing.{IsShared-done, IsShared-none, IsShared-then, IsShared-trans, IsShared-waiting}
 
 -- ---- from one piece

@@ -7,7 +7,7 @@ use Rattle.vx_bdd_tools.specs.Nodes.{holds}
 use Rattle.vx_bdd_tools.specs.Support.{IsSupport}
 use Rattle.vx_report.specs.declared.report.Report.{Report}
 use Rattle.vx_interact.specs.declared.interaction.Interaction.{Interaction}
-use Rattle.vx_interact.specs.Interactions.{AreEntries, AreInteractions, IsEntry}
+use Rattle.vx_interact.specs.Interactions.{AreEntries, IsEntry}
 use Rattle.vx_interact.specs.Text.{IsInteractionsText, interactions_text}
 
 -- ---- ascending numbers are told by their members
@@ -54,8 +54,8 @@ members_tell (x ∷ xs) [] h k f g = let p = f x (first_there x xs) in let withi
 members_tell (x ∷ xs) (y ∷ ys) h k f g =
     let first : x ≡ y = same x y (least y ys x k (f x (first_there x xs))) (least x xs y h (g y (first_there y ys))) in
     let rest : xs ≡ ys = members_tell xs ys (behind_increases x xs h) (behind_increases y ys k)
-        (λ i p. elim (first_or_behind y ys i (f i (behind_there x xs i p))) [ inl e ↦ absurd (not_behind x xs i h p (first ∙ e)) | inr q ↦ q ])
-        (λ i p. elim (first_or_behind x xs i (g i (behind_there y ys i p))) [ inl e ↦ absurd (not_behind y ys i k p (sym first ∙ e)) | inr q ↦ q ]) in
+    (λ i p. elim (first_or_behind y ys i (f i (behind_there x xs i p))) [ inl e ↦ absurd (not_behind x xs i h p (first ∙ e)) | inr q ↦ q ])
+    (λ i p. elim (first_or_behind x xs i (g i (behind_there y ys i p))) [ inl e ↦ absurd (not_behind y ys i k p (sym first ∙ e)) | inr q ↦ q ]) in
     λ i. first i ∷ rest i
   where
     same : (a b : ℕ) → (a < b → ⊥) → (b < a → ⊥) → a ≡ b

@@ -3,7 +3,6 @@ use Rattle.std.proofs.lemmas.List.{length-drop}
 use Rattle.vx_space.specs.Sets.{IsSet}
 use Rattle.vx_space.proofs.Spaces.{Extends-trans}
 use Rattle.vx_bdd_tools.specs.Nodes.{holds}
-use Rattle.vx_agree.specs.Equal.{common_from}
 use Rattle.vx_agree.proofs.Equal.{common_from-within}
 use Rattle.vx_agree.proofs.Moved.{GoesAlong-of, IsGoingAlong-next, IsGoingAlong-start}
 use Rattle.vx_agree.proofs.Places.{one_item}

@@ -1,5 +1,5 @@
 use Rattle.std.proofs.Common.{◌≡◌, subst, sym, true}
-use Rattle.vx_agree.proofs.Outputs.{IsAllSaid-of, IsCollecting-start, IsCollecting-step}
+use Rattle.vx_agree.proofs.Outputs.{IsCollecting-step}
 use Rattle.vx_agree.proofs.Places.{place_known}
 use Rattle.vx_agree.proofs.output.all_said.Goals as goal
 

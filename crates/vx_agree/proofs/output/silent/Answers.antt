@@ -1,4 +1,4 @@
-use Rattle.std.proofs.Common.{◌∙◌, sym, ap, length}
+use Rattle.std.proofs.Common.{◌∙◌, sym, length}
 use Rattle.std.proofs.lemmas.Result.{IfOk-weaker}
 use Rattle.vx_agree.proofs.Outputs.{IsSilent-none, IsSilent-some}
 use Rattle.vx_agree.proofs.Places.{is_not_zero, is_zero}

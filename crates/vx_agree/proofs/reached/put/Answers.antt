@@ -1,7 +1,6 @@
 use Rattle.std.proofs.Common.{◌≡◌, ◌∙◌, sym, subst, true}
 use Rattle.std.specs.Prelude.{◌||◌}
 use Rattle.vx_space.specs.Sets.{IsSet}
-use Rattle.vx_agree.specs.Places.{IsAtPlace}
 use Rattle.vx_agree.proofs.Places.{IsPlaced-insert, IsPlaced-never, IsPlaced-set, entry_known, entry_there}
 use Rattle.vx_agree.proofs.reached.put.Goals as goal
 

@@ -1,4 +1,4 @@
-use Rattle.std.proofs.Common.{◌∙◌, arith, sym}
+use Rattle.std.proofs.Common.{arith}
 use Rattle.std.proofs.lemmas.Result.{on_ok_weaker}
 use Rattle.vx_agree.proofs.Equal.{common_from-within}
 use Rattle.vx_agree.proofs.Taken.{HasTaken-none, HasTaken-piece, HasTaken-text}

@@ -1,7 +1,7 @@
 use Rattle.std.proofs.Common.{◌≡◌, ◌<◌, sym, subst, true, length}
 use Rattle.vx_space.proofs.Spaces.{Extends-trans}
 use Rattle.vx_agree.proofs.Places.{place_below, place_known}
-use Rattle.vx_agree.proofs.Taken.{IsTaking-none, IsTaking-step, TakesAll-of}
+use Rattle.vx_agree.proofs.Taken.{IsTaking-step, TakesAll-of}
 use Rattle.vx_agree.proofs.taking.take_from_piece.Goals as goal
 
 pub take_part-requires-clause-entry : goal.take_part-requires-clause-entry

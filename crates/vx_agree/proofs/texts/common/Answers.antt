@@ -1,4 +1,4 @@
-use Rattle.std.proofs.Common.{◌∙◌, arith}
+use Rattle.std.proofs.Common.{arith}
 use Rattle.vx_agree.proofs.Equal.{common_ends, least_ends}
 use Rattle.vx_agree.proofs.texts.common.Goals as goal
 
