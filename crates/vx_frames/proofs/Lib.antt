@@ -1,0 +1,5 @@
+pub mod LocalLaws
+pub mod BegunLaws
+pub mod EnterLaws
+pub mod UncoverLaws
+pub mod UnwindLaws

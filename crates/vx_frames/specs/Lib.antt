@@ -1,0 +1,4 @@
+pub mod Entering
+pub mod Locals
+pub mod Uncovering
+pub mod Unwinding

@@ -1,0 +1,85 @@
+-- Changes one after another, and attempts after a change.
+use Rattle.std.proofs.Common.{◌≡◌, ℕ, Bool, true, false, List, refl, sym, ◌∙◌, ap, subst, length}
+use Rattle.std.specs.Prelude.{Option, ◌||◌, if◌then◌else◌, slice_get}
+use Rattle.vx_space.specs.Sets.{Sets, Extends}
+use Rattle.vx_group.specs.declared.callers.Caller.{Caller}
+use Rattle.vx_group.specs.Callers.{Keeps}
+use Rattle.vx_group.specs.Group.{GroupView, path_of}
+use Rattle.vx_group.proofs.GroupLaws.{IsGroup-path_known, IsGroupIn-group, attempts_at-extends}
+use Rattle.vx_heap.specs.Heap.{Globals, HeapView, IsHeap, IsHeapFor, globals_at}
+use Rattle.vx_heap.proofs.HeapLaws.{IsHeap-extends, globals_at-extends}
+use Rattle.vx_link.specs.declared.program.Program.{Program}
+use Rattle.vx_group_states.specs.Stands.{Continues, Grows, StandsIn, state_at}
+use Rattle.vx_group_states.proofs.OutcomeStates.{CameTo-through}
+use Rattle.vx_growth.specs.Changing.{IsChangedIn, changed_in}
+use Rattle.vx_growth.specs.Laws.{AttemptsFollow, ChangesFollow, StaticsChangeIn}
+use Rattle.vx_growth.proofs.GrownStates.{Grows-trans, StandsIn-grown, state_at-changed}
+
+-- what a change makes at each configuration
+pub changed_at : {S I : Type 0} (old new : Sets I) (before after : HeapView S I) (set : List Bool → Bool) (change : List Bool → Globals → Globals) → IsChangedIn old new before after set change → (c : List Bool) → globals_at new after c ≡ changed_in set change c (globals_at old before c)
+changed_at old new before after set change h c = from (set c) refl
+  where
+    from : (b : Bool) → set c ≡ b → globals_at new after c ≡ (if b then change c (globals_at old before c) else globals_at old before c)
+    from true t = h.inside c t
+    from false t = h.outside c t
+
+neither : (a b : Bool) → (a || b) ≡ false → (a ≡ false) × (b ≡ false)
+neither false false h = (refl, refl)
+neither false true h = cc h
+neither true b h = cc h
+
+pub changes_follow : {S I : Type 0} → ChangesFollow S I
+changes_follow s0 s1 s2 before middle after a b f g h k = record {
+  is_heap = k.is_heap;
+  grows = Grows-trans before middle after h.grows k.grows;
+  keeps = λ p q. k.keeps p (h.keeps p q);
+  inside = λ c t. changed_at s1 s2 middle after b g k c ∙ ap (changed_in b g c) (changed_at s0 s1 before middle a f h c);
+  outside = λ c t. let parts = neither (a c) (b c) t in k.outside c parts.1 ∙ h.outside c parts.0;
+}
+
+pub statics_change_in : {S I : Type 0} → StaticsChangeIn S I
+statics_change_in {S = S} {I = I} old new before after set change v same statics inits at stays = record {
+  is_heap = v;
+  grows = record {
+    allowed = ap (λ (h : HeapView S I). h.allowed) same;
+    objects = λ i o h. (o, ap (λ (x : HeapView S I). slice_get x.objects i) same ∙ h, refl);
+    texts = λ n text h. ap (λ (x : HeapView S I). slice_get x.texts n) same ∙ h;
+  };
+  keeps = λ p h. (
+  let P : HeapView S I → Type 0 = λ heap. IsHeapFor p heap in
+  subst P (sym same) (record {
+    static_count = statics ∙ h.static_count;
+    init_count = inits ∙ h.init_count;
+    literals = h.literals;
+    words = h.words;
+    enough = h.enough;
+    first = h.first;
+  }));
+  inside = λ c t. at c;
+  outside = λ c t. at c ∙ stays c t (globals_at old before c);
+}
+
+pub attempts_follow : {S I : Type 0} → AttemptsFollow S I
+attempts_follow {S = S} {I = I} p says there s0 s1 s2 before after set change tree later group outcomes v s e changed inside f k law came =
+    let known = IsGroup-path_known s0 group (IsGroupIn-group s0 tree group s.is_group) in
+    let continues : Continues p s0 s1 after later group group = record {
+      stands = StandsIn-grown p e k before after v changed.grows group s;
+      inside = λ c t. sym (e.test (path_of group) c known) ∙ t;
+      attempts = λ c t. attempts_at-extends e group (IsGroupIn-group s0 tree group s.is_group) c;
+    } in
+    record {
+      is_heap = IsHeap-extends f after changed.is_heap;
+      grows = changed.grows;
+      keeps = k;
+      came = CameTo-through p s0 s1 s2 after later group group (λ c. there c (state_at s1 after later group c)) (λ c. says (state_at s0 before tree group c)) (s0.test (path_of group)) outcomes continues (λ c. e.test (path_of group) c known)
+          (λ c t. ap (there c) (state_at-changed p e k before after v changed.grows group s c t (changed_in set change c (globals_at s0 before c)) (changed_at s0 s1 before after set change changed c)) ∙ law c t)
+          came;
+      outside = λ c t. globals_at-extends f after changed.is_heap c ∙ changed.outside c (not_inside c t);
+    }
+  where
+    not_inside : (c : List Bool) → s0.test (path_of group) c ≡ false → set c ≡ false
+    not_inside c t = from (set c) refl
+      where
+        from : (b : Bool) → set c ≡ b → b ≡ false
+        from false q = refl
+        from true q = cc (inside c q, t)
