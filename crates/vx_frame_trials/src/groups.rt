@@ -18,11 +18,7 @@ use vx_space::{Space, SpaceFault};
 use vx_value::{Kind, MethodId, Slot};
 
 /// 2 inside a condition, and 1 outside.
-fn differing<S: Space>(
-    alloc: Global,
-    space: &mut S,
-    on: S::Id,
-) -> Result<Cond<Slot, S>, SpaceFault>
+fn differing<S: Space>(alloc: Global, space: &mut S, on: S::Id) -> Result<Cond<Slot, S>, SpaceFault>
     requires { IsKnown (S.sets space.old) on }
     ensures extends { Extends (S.sets space.old) (S.sets space.new) }
     ensures short { IfOk result (IsShort (S.sets space.new)) }
@@ -34,11 +30,7 @@ fn differing<S: Space>(
 }
 
 /// All configurations in method 0, with an operand that differs.
-fn caller<S: Space>(
-    alloc: Global,
-    space: &mut S,
-    on: S::Id,
-) -> Result<Group<S>, SpaceFault>
+fn caller<S: Space>(alloc: Global, space: &mut S, on: S::Id) -> Result<Group<S>, SpaceFault>
     requires { IsKnown (S.sets space.old) on }
     ensures extends { Extends (S.sets space.old) (S.sets space.new) }
     ensures alone { IfOk result (IsAlone (S.sets space.new)) }

@@ -1,7 +1,7 @@
 //! What stands where a frame was pushed, and where it was taken off again.
 
 ghost use Rattle.std.specs.Prelude.{◌≡◌, ◌≤◌, ◌<◌};
-ghost use Rattle.vx_space.specs.Sets.{IsKnown};
+ghost use Rattle.vx_space.specs.Sets.{Extends};
 ghost use Rattle.vx_group.specs.Group.{IsGroupIn, depth_of};
 ghost use Rattle.vx_java.specs.Initialisation.{max_locals};
 ghost use Rattle.vx_link.specs.Parts.{method_at};
@@ -12,11 +12,11 @@ use crate::options::first_option;
 use std::alloc::Global;
 use vx_cond::{Cond, Row};
 use vx_frame::Frame;
-use vx_frames::{frames_are_passed, max_locals, uncovered};
+use vx_frames::{begun, frames_are_passed, max_locals, uncovered, woken};
 use vx_group::{Callers, Group};
 use vx_link::Program;
 use vx_space::{Space, SpaceFault};
-use vx_value::{MethodId, Slot};
+use vx_value::{Kind, MethodId, Slot};
 
 /// Whether a value is one in all its configurations.
 fn is_one<S: Space>(value: &Cond<Slot, S>, slot: Slot) -> bool {
@@ -53,11 +53,10 @@ fn entered_and_left<S: Space>(
     program: &Program,
     space: &mut S,
     callers: &mut Callers<S>,
-    on: S::Id,
 ) -> Result<bool, SpaceFault>
-    requires known { IsKnown (S.sets space.old) on }
-    requires room { 3 ≤ max_locals (method_at program.now 1).code }
+    requires { 3 ≤ max_locals (method_at program.now 1).code }
 {
+    let on = first_option(space)?;
     let group = called(alloc, program, space, callers, on)?;
     let is_entered = group.depth() == 2 && is_begun(group.top_frame());
     let (group, frame) = uncovered(space, callers, group)?;
@@ -75,6 +74,8 @@ fn keeps_its_own<S: Space>(
 ) -> Result<bool, SpaceFault>
     requires group { IsGroupIn (S.sets space.old) callers.old group }
     requires called { 1 < depth_of group }
+    ensures extends { Extends (S.sets space.old) (S.sets space.new) }
+    ensures callers { callers.new ≡ callers.old }
 {
     let path = group.path();
     let (group, _frame) = uncovered(space, callers, group)?;
@@ -88,11 +89,10 @@ fn shared<S: Space>(
     program: &Program,
     space: &mut S,
     callers: &mut Callers<S>,
-    on: S::Id,
 ) -> Result<bool, SpaceFault>
-    requires known { IsKnown (S.sets space.old) on }
-    requires room { 3 ≤ max_locals (method_at program.now 1).code }
+    requires { 3 ≤ max_locals (method_at program.now 1).code }
 {
+    let on = first_option(space)?;
     let group = called(alloc, program, space, callers, on)?;
     let (inside, outside) = group.split(space, on)?;
     let is_two = keeps_its_own(space, callers, inside, Slot::Int(2))?;
@@ -100,16 +100,36 @@ fn shared<S: Space>(
     Ok(is_two && is_one && callers.len() == 1)
 }
 
+/// A frame that waits is the next to initialise once it wakes.
+fn woke<S: Space>(alloc: Global, program: &Program, space: &S) -> Result<bool, SpaceFault> {
+    let path = space.always();
+    let attempts = Cond::one(alloc, space, 0, path)?;
+    let arguments = Vec::new(alloc);
+    let frame = begun(
+        alloc,
+        program,
+        space,
+        path,
+        Kind::Wait,
+        MethodId(1),
+        arguments,
+    )?;
+    let waiting = Group::new(alloc, attempts, frame);
+    let group = woken(space, waiting);
+    let top = group.top_frame();
+    Ok(top.kind == Kind::Init && top.locals.len() == 4)
+}
+
 /// What trials of frames show over a space with an option.
 pub(crate) fn are_right<S: Space>(alloc: Global, space: &mut S) -> Result<bool, SpaceFault> {
-    let on = first_option(space)?;
     let program = program(alloc)?;
     frames_are_passed();
     if max_locals(&program, MethodId(1)) < 3 {
         return Ok(false);
     }
     Ok(
-        entered_and_left(alloc, &program, space, &mut Callers::new(alloc), on)?
-            && shared(alloc, &program, space, &mut Callers::new(alloc), on)?,
+        woke(alloc, &program, space)?
+            && entered_and_left(alloc, &program, space, &mut Callers::new(alloc))?
+            && shared(alloc, &program, space, &mut Callers::new(alloc))?,
     )
 }

@@ -72,16 +72,16 @@ module _ {S I : Type 0} (p : Program) (sets : Sets I) (tree later : List (Option
     attempts = attempts;
     depth = sym (stack_depth sets later after w) ∙ ap length stack ∙ ap suc (stack_depth sets tree before v);
     continues = λ heap s h. (
-    let inside : (c : List Bool) → sets.test (path_of after) c ≡ true → sets.test (path_of before) c ≡ true = λ c t. ap (λ id. sets.test id c) (sym same_path) ∙ t in
-    record {
-      stands = record {
-        is_group = w;
-        runs = record { inside = λ c t. s.runs.inside c (inside c t) };
-        held = λ c t. entered_held heap s h c (inside c t);
-        shaped = entered_shaped heap s;
-      };
-      inside = inside;
-      attempts = λ c t. ap (λ (cond : Conditional ℕ S I). Rattle.std.specs.Prelude.unwrap_or (cond_at sets cond c) 0) attempts;
-    });
+        let inside : (c : List Bool) → sets.test (path_of after) c ≡ true → sets.test (path_of before) c ≡ true = λ c t. ap (λ id. sets.test id c) (sym same_path) ∙ t in
+        record {
+          stands = record {
+            is_group = w;
+            runs = record { inside = λ c t. s.runs.inside c (inside c t) };
+            held = λ c t. entered_held heap s h c (inside c t);
+            shaped = entered_shaped heap s;
+          };
+          inside = inside;
+          attempts = λ c t. ap (λ (cond : Conditional ℕ S I). Rattle.std.specs.Prelude.unwrap_or (cond_at sets cond c) 0) attempts;
+        });
     at = entered_state;
   }

@@ -3,3 +3,4 @@ pub mod BegunLaws
 pub mod EnterLaws
 pub mod UncoverLaws
 pub mod UnwindLaws
+pub mod WakeLaws

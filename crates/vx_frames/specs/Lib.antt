@@ -2,3 +2,4 @@ pub mod Entering
 pub mod Locals
 pub mod Uncovering
 pub mod Unwinding
+pub mod Waking

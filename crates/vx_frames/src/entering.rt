@@ -37,15 +37,7 @@ pub fn entered<S: Space>(
     ensures err { OnErr result (callers.new ≡ callers.old) }
 {
     let mut group = group;
-    let frame = begun(
-        alloc,
-        program,
-        space,
-        group.path(),
-        kind,
-        method,
-        arguments,
-    )?;
+    let frame = begun(alloc, program, space, group.path(), kind, method, arguments)?;
     group.push(callers, space, frame)?;
     Ok(group)
 }

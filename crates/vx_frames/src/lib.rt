@@ -7,8 +7,10 @@ pub mod entering;
 mod locals;
 pub mod uncovering;
 pub mod unwinding;
+pub mod waking;
 
 pub use beginning::{begun, max_locals};
 pub use entering::entered;
 pub use uncovering::uncovered;
 pub use unwinding::frames_are_passed;
+pub use waking::woken;

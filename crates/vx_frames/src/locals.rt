@@ -27,11 +27,7 @@ fn begins_long<S: Space>(value: &Cond<Slot, S>) -> bool
 }
 
 /// Appends a local that can't be read.
-fn put_top<S: Space>(
-    alloc: Global,
-    space: &S,
-    locals: &mut Row<Slot, S>,
-) -> Result<(), AllocError>
+fn put_top<S: Space>(alloc: Global, space: &S, locals: &mut Row<Slot, S>) -> Result<(), AllocError>
     requires { IsRow slot_cmp (S.sets space.now) locals.old }
     ensures { OnOk result (AreAppended (S.sets space.now) locals.old 1 (λ _. Top ∷ []) locals.new) }
 {

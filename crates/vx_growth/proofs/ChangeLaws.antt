@@ -46,15 +46,15 @@ statics_change_in {S = S} {I = I} old new before after set change v same statics
     texts = λ n text h. ap (λ (x : HeapView S I). slice_get x.texts n) same ∙ h;
   };
   keeps = λ p h. (
-  let P : HeapView S I → Type 0 = λ heap. IsHeapFor p heap in
-  subst P (sym same) (record {
-    static_count = statics ∙ h.static_count;
-    init_count = inits ∙ h.init_count;
-    literals = h.literals;
-    words = h.words;
-    enough = h.enough;
-    first = h.first;
-  }));
+      let P : HeapView S I → Type 0 = λ heap. IsHeapFor p heap in
+      subst P (sym same) (record {
+        static_count = statics ∙ h.static_count;
+        init_count = inits ∙ h.init_count;
+        literals = h.literals;
+        words = h.words;
+        enough = h.enough;
+        first = h.first;
+      }));
   inside = λ c t. at c;
   outside = λ c t. at c ∙ stays c t (globals_at old before c);
 }

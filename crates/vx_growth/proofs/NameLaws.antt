@@ -115,10 +115,13 @@ pub names_grow : {S I : Type 0} → NamesGrow S I
 names_grow sets heap c i j h l = name_less sets heap.objects c i j h l
 
 pub names_tell : {S I : Type 0} → NamesTell S I
-names_tell sets heap c i j h k = (λ e. ap (name_at sets heap.objects c) e, λ same. elim (cases_order i j) [
-  | inl e ↦ e
-  | inr other ↦ elim other [
-    | inl less ↦ absurd (omega (arith, same, name_less sets heap.objects c i j h less))
-    | inr more ↦ absurd (omega (arith, same, name_less sets heap.objects c j i k more))
-  ]
-])
+names_tell sets heap c i j h k = (
+  λ e. ap (name_at sets heap.objects c) e,
+  λ same. elim (cases_order i j) [
+    | inl e ↦ e
+    | inr other ↦ elim other [
+      | inl less ↦ absurd (omega (arith, same, name_less sets heap.objects c i j h less))
+      | inr more ↦ absurd (omega (arith, same, name_less sets heap.objects c j i k more))
+    ]
+  ],
+)
