@@ -11,6 +11,7 @@ use Rattle.vx_value.specs.declared.slot.Slot.TheVariants.{Top, Int, Long, Null, 
 use Rattle.vx_space.specs.Sets.{Sets}
 use Rattle.vx_cond.specs.Cond.{Conditional}
 use Rattle.vx_cond.specs.Row.{Conditionals}
+use Rattle.vx_cond.specs.Slots.{slots_at}
 use Rattle.vx_frame.specs.declared.frame.Frame.{Frame}
 use Rattle.vx_frame.specs.Frame.{Shape, IsFrameOf, first_frame, scope_of, shape_of}
 use Rattle.vx_frame.proofs.FrameLaws.{IsFrame-one_scope, IsFrame-rows, IsFrame-stack}
@@ -34,7 +35,8 @@ AreLocals-made sets path count rest values put made a e b = record {
   number = b.number ∙ ap (λ k. length put.conds + k) e ∙ add-sub_of_le a.within;
   slots = λ c t.
       let first = a.slots c t in
-      let number : length put.conds ≡ length (slots_in_locals (arguments_at sets values c)) = sym (length-map put.conds _) ∙ sym (length-map _ _) ∙ ap length first in
+      let many : length (slots_at sets put c) ≡ length put.conds = simp length-map in
+      let number : length put.conds ≡ length (slots_in_locals (arguments_at sets values c)) = sym many ∙ ap length first in
       b.slots c ∙ (λ i. first i ++ replicate (e i) Top) ∙ ap (λ k. slots_in_locals (arguments_at sets values c) ++ replicate (count - k) Top) number;
 }
 

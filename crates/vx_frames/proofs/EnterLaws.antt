@@ -2,7 +2,7 @@
 use Rattle.std.proofs.Common.{◌≡◌, ℕ, suc, Bool, true, List, [], ◌∷◌, refl, sym, ◌∙◌, ap, subst, map, length}
 use Rattle.std.proofs.lemmas.Bool.{eq-eqb}
 use Rattle.std.proofs.lemmas.List.{length-map}
-use Rattle.std.specs.Prelude.{Option, ◌==◌, ◌&&◌}
+use Rattle.std.specs.Prelude.{Option, ◌==◌, ◌&&◌, unwrap_or}
 use Rattle.std.specs.List.{list_all}
 use Rattle.vx_value.specs.declared.ids.MethodId.{MethodId}
 use Rattle.vx_value.specs.declared.key.KeyPart.{KeyPart}
@@ -16,7 +16,7 @@ use Rattle.vx_frame.proofs.FrameLaws.{frame_at-of}
 use Rattle.vx_group.specs.declared.callers.Caller.{Caller}
 use Rattle.vx_group.specs.Callers.{callers_of, frames_at}
 use Rattle.vx_group.specs.Group.{GroupView, IsGroupIn, attempts_at, depth_of, path_of, stack_of}
-use Rattle.vx_group.proofs.GroupLaws.{IsGroupIn-parts}
+use Rattle.vx_group.proofs.GroupLaws.{IsGroupIn-parts, tail_of}
 use Rattle.vx_heap.specs.Heap.{HeapView, globals_at}
 use Rattle.vx_heap.proofs.Places.{and_true}
 use Rattle.vx_java.specs.Calls.{in_locals}
@@ -29,9 +29,6 @@ use Rattle.vx_frames.proofs.BegunLaws.{begun_held, begun_plain}
 
 head_of : {A : Type 0} (x y : A) (xs ys : List A) → x ∷ xs ≡ y ∷ ys → x ≡ y
 head_of x y xs ys e = cc
-
-tail_of : {A : Type 0} (x y : A) (xs ys : List A) → x ∷ xs ≡ y ∷ ys → xs ≡ ys
-tail_of x y xs ys e = cc
 
 -- a group has as many frames as it has parts
 pub stack_depth : {S I : Type 0} (sets : Sets I) (tree : List (Option (Caller S I))) (group : GroupView S I) → IsGroupIn sets tree group → length (stack_of tree group) ≡ depth_of group
@@ -81,7 +78,7 @@ module _ {S I : Type 0} (p : Program) (sets : Sets I) (tree later : List (Option
             shaped = entered_shaped heap s;
           };
           inside = inside;
-          attempts = λ c t. ap (λ (cond : Conditional ℕ S I). Rattle.std.specs.Prelude.unwrap_or (cond_at sets cond c) 0) attempts;
+          attempts = λ c t. ap (λ (cond : Conditional ℕ S I). unwrap_or (cond_at sets cond c) 0) attempts;
         });
     at = entered_state;
   }

@@ -1,6 +1,6 @@
 -- Rows of locals that values are put into.
-use Rattle.std.proofs.Common.{◌≡◌, ◌⊎◌, ℕ, ◌+◌, ◌≤◌, zero, suc, Bool, true, false, List, [], ◌∷◌, ◌++◌, refl, sym, ◌∙◌, ap, subst, inl, inr, arith, length, replicate, append_assoc}
-use Rattle.std.proofs.lemmas.Bool.{true_from_ne_false}
+use Rattle.std.proofs.Common.{◌≡◌, ◌⊎◌, ℕ, ◌+◌, ◌≤◌, zero, suc, Bool, true, false, List, [], ◌∷◌, ◌++◌, refl, sym, ◌∙◌, ap, subst, inl, inr, arith, map, length, replicate, append_assoc}
+use Rattle.std.proofs.lemmas.Bool.{true_from_ne_false, true≢false}
 use Rattle.std.proofs.lemmas.List.{append-nil, length-append, replicate_more}
 use Rattle.std.specs.Prelude.{Option, Some, None, if◌then◌else◌, is_some}
 use Rattle.vx_value.specs.declared.slot.Slot.{Slot}
@@ -11,7 +11,7 @@ use Rattle.vx_space.proofs.Differences.{some_difference}
 use Rattle.vx_cond.specs.declared.cond.Leaf.{Leaf}
 use Rattle.vx_cond.specs.Leaves.{AreLeaves, value_at, value_within}
 use Rattle.vx_cond.specs.Cond.{Conditional, IsCond, IsCondOf, cond_at}
-use Rattle.vx_cond.specs.Row.{AreConds, Conditionals, IsRow}
+use Rattle.vx_cond.specs.Row.{AreConds, Conditionals, IsRow, conds_at}
 use Rattle.vx_cond.specs.Slots.{or_top, slot_at, slots_at}
 use Rattle.vx_cond.proofs.CondLaws.{IsCond-of, cond_at-of}
 use Rattle.vx_cond.proofs.RowSteps.{IsRow-push, slots_at-push}
@@ -103,7 +103,7 @@ value_said {sets = sets} lawful path long value v e said = long_said lawful path
 -- it takes no more locals than that says
 taken : (begins long : Bool) → (begins ≡ long) ⊎ (begins ≡ false) → (longs : List Bool) → length (locals_of begins Top) + locals_taken longs ≤ locals_taken (long ∷ longs)
 taken true true h longs = omega arith
-taken true false h longs = elim h [ inl e ↦ cc | inr e ↦ cc ]
+taken true false h longs = elim h [ inl e ↦ cc e | inr e ↦ cc e ]
 taken false true h longs = omega arith
 taken false false h longs = omega arith
 
@@ -117,7 +117,7 @@ none_begins {S = S} {I = I} {sets = sets} lawful path value v e none = from valu
         let found = some_difference lawful leaf.condition sets.never are.0.known lawful.never_known are.0.nonempty in
         let there = true_from_ne_false (sets.test leaf.condition found.0) (λ e. found.1 (e ∙ sym (lawful.never_test found.0))) in
         let value : value_at sets (leaf ∷ leaves) found.0 ≡ Some leaf.value = ap (λ b. if b then Some leaf.value else value_at sets leaves found.0) there in
-        cc (value, h found.0)
+        absurd (true≢false (sym (ap is_some value) ∙ h found.0))
 
 -- the slots of a value and of the values behind it
 behind : (long : Bool) (slot : Slot) (slots : List Slot) → is_long slot ≡ long → locals_of long slot ++ slots_in_locals slots ≡ slots_in_locals (slot ∷ slots)
@@ -149,10 +149,10 @@ ArePutting-start sets most whole row v e a = record {
   conds = a.conds;
   longs = a.longs;
   are_longs = a.are_longs;
-  room = rw e a.room;
+  room = let none : length row.conds ≡ 0 = ap length e in omega (arith, none, a.room);
   scope = refl;
   is_row = v;
-  slots = λ c t. rw e refl;
+  slots = λ c t. ap (λ conds. map or_top (conds_at sets conds c) ++ slots_in_locals (arguments_at sets whole c)) e;
 }
 
 pub ArePutting-step : {S I : Type 0} {sets : Sets I} → IsLawful sets → (path : I) (most : ℕ) (whole : List (Conditional Slot S I)) (value : Conditional Slot S I) (left : List (Conditional Slot S I)) (row made : Conditionals Slot S I) → ArePutting sets path most whole (value ∷ left) row → IsAppended sets row value made → ArePutting sets path most whole left made

@@ -11,7 +11,7 @@ use Rattle.vx_frame.specs.Frame.{PlainFrame, frame_at, shape_of}
 use Rattle.vx_group.specs.declared.callers.Caller.{Caller}
 use Rattle.vx_group.specs.Callers.{callers_of, frames_at}
 use Rattle.vx_group.specs.Group.{GroupView, IsGroupIn, IsPopped, depth_of, path_of, shapes_of, stack_of}
-use Rattle.vx_group.proofs.GroupLaws.{IsGroup-path_known, IsGroupIn-group, attempts_at-extends}
+use Rattle.vx_group.proofs.GroupLaws.{IsGroup-path_known, IsGroupIn-group, attempts_at-extends, tail_of}
 use Rattle.vx_heap.specs.Heap.{HeapView, IsHeap}
 use Rattle.vx_heap.proofs.HeapLaws.{globals_at-extends}
 use Rattle.vx_heap.proofs.Places.{both_true}
@@ -21,7 +21,7 @@ use Rattle.vx_group_states.specs.Stands.{Continues, StandsIn, frame_held, is_sha
 use Rattle.vx_group_states.proofs.StateLaws.{all_same, frame_held-extends, map_same, plain_frame-extends}
 use Rattle.vx_frames.specs.Entering.{with_frame}
 use Rattle.vx_frames.specs.Uncovering.{IsUncovered}
-use Rattle.vx_frames.proofs.EnterLaws.{stack_depth, tail_of}
+use Rattle.vx_frames.proofs.EnterLaws.{stack_depth}
 
 -- a group of more than one frame has a caller
 pub has_below : (below : List KeyPart) → 1 < suc (length below) → below ≡ [] → ⊥

@@ -1,4 +1,5 @@
 pub mod Entering
+pub mod Fitting
 pub mod Locals
 pub mod Uncovering
 pub mod Unwinding

@@ -4,6 +4,7 @@
 
 pub mod beginning;
 pub mod entering;
+pub mod fitting;
 mod locals;
 pub mod uncovering;
 pub mod unwinding;
@@ -11,6 +12,7 @@ pub mod waking;
 
 pub use beginning::{begun, max_locals};
 pub use entering::entered;
+pub use fitting::matching_are_arguments;
 pub use uncovering::uncovered;
 pub use unwinding::frames_are_passed;
 pub use waking::woken;

@@ -1,7 +1,7 @@
 -- What groups and outcomes stand for over a heap that grew, a tree that keeps its nodes and a later space.
 use Rattle.std.proofs.Common.{◌≡◌, ℕ, ◌<◌, Bool, true, false, List, [], ◌∷◌, refl, sym, ◌∙◌, ap, length, map}
 use Rattle.std.proofs.lemmas.Option.{slice_get_within}
-use Rattle.std.specs.Prelude.{Option, Some, None, if◌then◌else◌, not, unwrap_or, ◌&&◌}
+use Rattle.std.specs.Prelude.{Option, Some, None, if◌then◌else◌, not, slice_get, unwrap_or, ◌&&◌}
 use Rattle.std.specs.List.{list_all}
 use Rattle.vx_list.specs.Places.{item_or}
 use Rattle.vx_value.specs.Slot.{slot_cmp}
@@ -108,7 +108,7 @@ module _ {S I : Type 0} (p : Program) {s0 s1 : Sets I} {t0 t1 : List (Option (Ca
 
   -- ---- outcomes
 
-  text_after : (n : ℕ) → n < length before.texts → Rattle.std.specs.Prelude.slice_get after.texts n ≡ Some (text_at before.texts n)
+  text_after : (n : ℕ) → n < length before.texts → slice_get after.texts n ≡ Some (text_at before.texts n)
   text_after n h = grows.texts n (text_at before.texts n) (text_there before.texts n h)
 
   text_known : (n : ℕ) → n < length before.texts → n < length after.texts
@@ -180,10 +180,7 @@ module _ {S I : Type 0} (p : Program) {s0 s1 : Sets I} {t0 t1 : List (Option (Ca
   outcome_at-grown start group (shared.Ended condition end) h c t globals = refl
 
   condition_known : (start : Sets I) (group : GroupView S I) (x : Outcome S I) → IsOutcome p start s0 before t0 group x → s0.is_known (condition_of x) ≡ true
-  condition_known start group (shared.Go next) h = next_known start group next h
-    where
-      next_known : (start : Sets I) (group next : GroupView S I) → Continues p start s0 before t0 group next → s0.is_known (path_of next) ≡ true
-      next_known start group next f = IsGroup-path_known s0 next (IsGroupIn-group s0 t0 next f.stands.is_group)
+  condition_known start group (shared.Go next) h = IsGroup-path_known s0 next (IsGroupIn-group s0 t0 next h.stands.is_group)
   condition_known start group (shared.Raise next class message) h = IsGroup-path_known s0 next (IsGroupIn-group s0 t0 next h.0.stands.is_group)
   condition_known start group (shared.Throw next thrown) h = IsGroup-path_known s0 next (IsGroupIn-group s0 t0 next h.0.stands.is_group)
   condition_known start group (shared.Begin next class) h = IsGroup-path_known s0 next (IsGroupIn-group s0 t0 next h.stands.is_group)
