@@ -28,11 +28,11 @@ use Rattle.vx_frames.specs.Locals.{AreAppended, AreLocals, ArePut}
 
 -- ---- the locals, and the frame that they make
 
-pub AreLocals-made : {S I : Type 0} (sets : Sets I) (path : I) (count rest : ℕ) (values : List (Conditional Slot S I)) (put made : Conditionals Slot S I) → ArePut sets path count values put → rest ≡ count - length put.conds → AreAppended sets put rest (λ _. replicate rest Top) made → AreLocals sets path count values made
-AreLocals-made sets path count rest values put made a e b = record {
+pub AreLocals-made : {S I : Type 0} (sets : Sets I) (path : I) (count rest : ℕ) (values : List (Conditional Slot S I)) (put made : Conditionals Slot S I) → ArePut sets path values put → length put.conds ≤ count → rest ≡ count - length put.conds → AreAppended sets put rest (λ _. replicate rest Top) made → AreLocals sets path count values made
+AreLocals-made sets path count rest values put made a l e b = record {
   scope = b.scope ∙ a.scope;
   is_row = b.is_row;
-  number = b.number ∙ ap (λ k. length put.conds + k) e ∙ add-sub_of_le a.within;
+  number = b.number ∙ ap (λ k. length put.conds + k) e ∙ add-sub_of_le l;
   slots = λ c t.
       let first = a.slots c t in
       let many : length (slots_at sets put c) ≡ length put.conds = simp length-map in

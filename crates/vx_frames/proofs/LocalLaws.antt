@@ -183,13 +183,22 @@ ArePutting-step {S = S} {I = I} {sets = sets} lawful path most whole value left 
       slots = slots long are.0;
     }
 
-pub ArePutting-end : {S I : Type 0} (sets : Sets I) (path : I) (most : ℕ) (whole left : List (Conditional Slot S I)) (row : Conditionals Slot S I) → left ≡ [] → ArePutting sets path most whole left row → ArePut sets path most whole row
+pub ArePutting-within : {S I : Type 0} (sets : Sets I) (path : I) (most : ℕ) (whole left : List (Conditional Slot S I)) (row : Conditionals Slot S I) → ArePutting sets path most whole left row → length row.conds ≤ most
+ArePutting-within sets path most whole left row p = omega (arith, p.room)
+
+pub ArePutting-end : {S I : Type 0} (sets : Sets I) (path : I) (most : ℕ) (whole left : List (Conditional Slot S I)) (row : Conditionals Slot S I) → left ≡ [] → ArePutting sets path most whole left row → ArePut sets path whole row
 ArePutting-end {S = S} {I = I} sets path most whole left row e p = record {
   scope = p.scope;
   is_row = p.is_row;
-  within = omega (arith, p.room);
   slots = λ c t. sym (append-nil (slots_at sets row c)) ∙ ap (λ xs. slots_at sets row c ++ slots_in_locals (arguments_at sets xs c)) (sym e) ∙ p.slots c t;
 }
+
+-- arguments by other names of their path and of the number of locals
+pub AreArguments-at : {S I : Type 0} (sets : Sets I) (path other : I) (m n : ℕ) (values : List (Conditional Slot S I)) → other ≡ path → n ≡ m → AreArguments sets path m values → AreArguments sets other n values
+AreArguments-at {S = S} {I = I} sets path other m n values e f a =
+    let P : I → Type 0 = λ id. AreArguments sets id m values in
+    let Q : ℕ → Type 0 = λ k. AreArguments sets other k values in
+    subst Q (sym f) (subst P (sym e) a)
 
 -- the first of the values that are left
 pub first_left : {S I : Type 0} (sets : Sets I) (path : I) (most : ℕ) (whole : List (Conditional Slot S I)) (value : Conditional Slot S I) (left : List (Conditional Slot S I)) (row : Conditionals Slot S I) → ArePutting sets path most whole (value ∷ left) row → IsCond slot_cmp sets value × (value.scope ≡ row.scope)

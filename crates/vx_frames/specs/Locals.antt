@@ -1,5 +1,5 @@
 -- Values that are put into locals, for the inside (JVMS 2.6.1).
-use Rattle.std.specs.Prelude.{◌≡◌, ◌+◌, ◌++◌, ◌≤◌, ℕ, Bool, true, false, List, [], ◌∷◌, length}
+use Rattle.std.specs.Prelude.{◌≡◌, ◌+◌, ◌++◌, ℕ, Bool, true, false, List, [], ◌∷◌, length}
 use Rattle.vx_value.specs.declared.slot.Slot.{Slot}
 use Rattle.vx_value.specs.declared.slot.Slot.TheVariants.{Top}
 use Rattle.vx_value.specs.Slot.{slot_cmp}
@@ -34,10 +34,9 @@ IsAppended sets before value after =
     AreAppended sets before (length (locals_of long Top)) (λ c. locals_of long (slot_at sets value c)) after
 
 -- a row of the locals that values take, for a path
-pub record ArePut {S I : Type 0} (sets : Sets I) (path : I) (most : ℕ) (values : List (Conditional Slot S I)) (row : Conditionals Slot S I) : Type 0 where
+pub record ArePut {S I : Type 0} (sets : Sets I) (path : I) (values : List (Conditional Slot S I)) (row : Conditionals Slot S I) : Type 0 where
   pub scope : row.scope ≡ path
   pub is_row : IsRow slot_cmp sets row
-  pub within : length row.conds ≤ most
   pub slots : (c : List Bool) → sets.test path c ≡ true → slots_at sets row c ≡ slots_in_locals (arguments_at sets values c)
 
 -- a row of so many locals, which begin with values, for a path; the others can't be read

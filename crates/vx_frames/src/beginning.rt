@@ -42,7 +42,7 @@ pub fn begun<S: Space>(
     requires values { AreArguments (S.sets space.now) path (max_locals (method_at program.now method.0).code) values.items }
     ensures { IfOk result (IsBegun program.now (S.sets space.now) path kind method values.items) }
 {
-    let count = usize::from(max_locals(program, method));
+    let count = max_locals(program, method);
     let mut frame = Frame::new(alloc, space, kind, method, 0, path)?;
     put_locals(alloc, space, &mut frame.locals, values, count)?;
     Ok(frame)

@@ -1,6 +1,6 @@
 //! The locals that values take: two for a long, of which the second can't be read (JVMS 2.6.1).
 
-ghost use Rattle.std.specs.Prelude.{◌≡◌, ◌∷◌, [], OnOk, replicate};
+ghost use Rattle.std.specs.Prelude.{◌≡◌, ◌≤◌, ◌∷◌, [], OnOk, length, replicate};
 ghost use Rattle.vx_cond.specs.Cond.{IsCond};
 ghost use Rattle.vx_cond.specs.Row.{IsRow};
 ghost use Rattle.vx_value.specs.Slot.{slot_cmp};
@@ -79,12 +79,13 @@ fn put_values<S: Space>(
     space: &S,
     locals: &mut Row<Slot, S>,
     values: Vec<Cond<Slot, S>>,
-    most: usize,
+    most: u16,
 ) -> Result<(), AllocError>
     requires row { IsRow slot_cmp (S.sets space.now) locals.old }
     requires none { locals.old.conds ≡ [] }
     requires values { AreArguments (S.sets space.now) locals.old.scope most values.items }
-    ensures { OnOk result (ArePut (S.sets space.now) locals.old.scope most values.items locals.new) }
+    ensures within { OnOk result (length locals.new.conds ≤ most) }
+    ensures put { OnOk result (ArePut (S.sets space.now) locals.old.scope values.items locals.new) }
 {
     for value in values {
         put_value(alloc, space, locals, value)?;
@@ -98,7 +99,7 @@ pub(crate) fn put_locals<S: Space>(
     space: &S,
     locals: &mut Row<Slot, S>,
     values: Vec<Cond<Slot, S>>,
-    count: usize,
+    count: u16,
 ) -> Result<(), AllocError>
     requires row { IsRow slot_cmp (S.sets space.now) locals.old }
     requires none { locals.old.conds ≡ [] }
@@ -106,7 +107,7 @@ pub(crate) fn put_locals<S: Space>(
     ensures { OnOk result (AreLocals (S.sets space.now) locals.old.scope count values.items locals.new) }
 {
     put_values(alloc, space, locals, values, count)?;
-    let rest = count - locals.len();
+    let rest = usize::from(count) - locals.len();
     put_tops(alloc, space, locals, rest)?;
     Ok(())
 }

@@ -1,15 +1,16 @@
-use Rattle.std.proofs.Common.{◌≡◌, ◌∙◌, ap, arith, length}
+use Rattle.std.proofs.Common.{◌≡◌, ◌∙◌, ap, arith, length, refl}
 use Rattle.vx_frame.specs.Frame.{Shape}
 use Rattle.vx_frame.proofs.FrameLaws.{IsFrame-of}
 use Rattle.vx_group.proofs.GroupLaws.{IsGroup-path_known, IsGroupIn-group}
 use Rattle.vx_frames.proofs.EnterLaws.{IsEntered-made}
+use Rattle.vx_frames.proofs.LocalLaws.{AreArguments-at}
 use Rattle.vx_frames.proofs.entering.entered.Goals as goal
 
 pub begun-requires-clause-known : goal.begun-requires-clause-known
 begun-requires-clause-known g c = rw c.path.ensures (IsGroup-path_known _ c.args.group (IsGroupIn-group _ _ c.args.group c.requires.group))
 
 pub begun-requires-clause-values : goal.begun-requires-clause-values
-begun-requires-clause-values g c = rw c.path.ensures c.requires.arguments
+begun-requires-clause-values g c = AreArguments-at _ _ _ _ _ c.args.arguments.items c.path.ensures refl c.requires.arguments
 
 pub push-requires-clause-frame : goal.push-requires-clause-frame
 push-requires-clause-frame g c = IsFrame-of _ _ c.in_ok-frame.frame c.in_ok-frame.ensures.is_frame

@@ -1,7 +1,7 @@
 use Rattle.std.proofs.Common.{ap, arith, length, sym, ◌∙◌}
 use Rattle.std.proofs.lemmas.List.{nil_from_length}
 use Rattle.std.specs.Vec.Iter.{into_iter_items}
-use Rattle.vx_frames.proofs.LocalLaws.{ArePutting-end, ArePutting-start, ArePutting-step, first_left}
+use Rattle.vx_frames.proofs.LocalLaws.{ArePutting-end, ArePutting-start, ArePutting-step, ArePutting-within, first_left}
 use Rattle.vx_frames.proofs.locals.put_values.Goals as goal
 
 pub loop-value-init : goal.loop-value-init
@@ -31,5 +31,8 @@ loop-value-preserved g c =
       ArePutting-step (g.met.S.Space.lawful c.args.space.now) c.args.locals.now.scope c.args.most c.args.values.items c.in-Some.value (into_iter_items c.next.new.self) c.loop-value.locals c.put_value.new.locals k c.in_ok-put_value.ensures,
     )
 
-pub returns : goal.returns
-returns g c = ArePutting-end _ c.args.locals.now.scope c.args.most c.args.values.items (into_iter_items c.loop-value.value-iterator) c.loop-value.locals (nil_from_length (into_iter_items c.loop-value.value-iterator) (sym c.loop-value.invariant.0 ∙ c.in-None.ensures.steps.0)) c.loop-value.invariant.1
+pub returns-clause-within : goal.returns-clause-within
+returns-clause-within g c = ArePutting-within _ c.args.locals.now.scope c.args.most c.args.values.items (into_iter_items c.loop-value.value-iterator) c.loop-value.locals c.loop-value.invariant.1
+
+pub returns-clause-put : goal.returns-clause-put
+returns-clause-put g c = ArePutting-end _ c.args.locals.now.scope c.args.most c.args.values.items (into_iter_items c.loop-value.value-iterator) c.loop-value.locals (nil_from_length (into_iter_items c.loop-value.value-iterator) (sym c.loop-value.invariant.0 ∙ c.in-None.ensures.steps.0)) c.loop-value.invariant.1
