@@ -1,7 +1,6 @@
 -- Laws of the groups that the trials begin with.
 use Rattle.std.proofs.Common.{◌≡◌, ℕ, ◌≤◌, ◌<◌, ◌^◌, suc, Bool, true, false, List, [], ◌∷◌, ◌++◌, refl, sym, ◌∙◌, ap, subst, arith, length}
 use Rattle.std.proofs.lemmas.List.{length-append}
-use Rattle.std.specs.Ordering.{nat_cmp}
 use Rattle.std.specs.Prelude.{Option, Some, None, ◌&&◌, if◌then◌else◌, is_some}
 use Rattle.std.specs.Option.{option_or}
 use Rattle.vx_value.specs.declared.key.KeyPart.{KeyPart}
@@ -9,8 +8,8 @@ use Rattle.vx_value.specs.declared.slot.Slot.{Slot}
 use Rattle.vx_value.specs.Slot.{slot_cmp}
 use Rattle.vx_space.specs.Sets.{Sets, Extends, IsLawful}
 use Rattle.vx_cond.specs.Leaves.{first_of, value_within}
-use Rattle.vx_cond.specs.Cond.{Conditional, IsCond, IsCondOf, IsInside, cond_at}
-use Rattle.vx_cond.specs.Slots.{or_top, slot_at}
+use Rattle.vx_cond.specs.Cond.{Conditional, IsCondOf, IsInside, cond_at}
+use Rattle.vx_cond.specs.Slots.{or_top}
 use Rattle.vx_cond.proofs.CondLaws.{IsCond-of, cond_at-of}
 use Rattle.vx_cond.proofs.RowLaws.{scope_is}
 use Rattle.vx_cond.proofs.RowSteps.{IsRow-push}
@@ -18,8 +17,8 @@ use Rattle.vx_frame.specs.declared.frame.Frame.{Frame}
 use Rattle.vx_frame.specs.Frame.{IsFrame, Shape, scope_of, shape_of}
 use Rattle.vx_frame.proofs.FrameLaws.{IsFrame-locals, IsFrame-one_scope, IsFrame-rows, IsFrame-stack}
 use Rattle.vx_group.specs.declared.callers.Caller.{Caller}
-use Rattle.vx_group.specs.Group.{GroupView, IsGroup, IsGroupIn, IsPartOf, depth_of, path_of}
-use Rattle.vx_group.proofs.GroupLaws.{IsGroup-extends, IsGroup-of_parts, IsGroupIn-of, IsGroupIn-one, IsGroupOf-part}
+use Rattle.vx_group.specs.Group.{GroupView, IsGroupIn, IsPartOf, depth_of, path_of}
+use Rattle.vx_group.proofs.GroupLaws.{IsGroup-extends, IsGroupIn-of, IsGroupIn-one, IsGroupOf-part}
 use Rattle.vx_frames.specs.Entering.{AreArguments, is_long}
 use Rattle.vx_frame_trials.specs.Called.{IsAlone, IsShort}
 

@@ -1,8 +1,7 @@
 -- The frame of a method that begins, and its plain frame.
-use Rattle.std.proofs.Common.{◌≡◌, ℕ, ◌+◌, ◌-◌, ◌≤◌, zero, suc, Bool, true, List, [], ◌∷◌, ◌++◌, refl, sym, ◌∙◌, ap, subst, arith, map, length, replicate}
+use Rattle.std.proofs.Common.{◌≡◌, ℕ, ◌+◌, ◌-◌, ◌≤◌, zero, suc, Bool, true, List, [], ◌∷◌, ◌++◌, refl, sym, ◌∙◌, ap, map, length, replicate}
 use Rattle.std.proofs.lemmas.List.{length-map, map-append, nil_from_length}
 use Rattle.std.proofs.Math.Nat.{add-sub_of_le}
-use Rattle.std.specs.Prelude.{◌&&◌}
 use Rattle.vx_value.specs.declared.ids.MethodId.{MethodId}
 use Rattle.vx_value.specs.declared.key.KeyPart.{KeyPart}
 use Rattle.vx_value.specs.declared.key.Kind.{Kind}

@@ -1,21 +1,20 @@
 -- What stands where a frame was pushed on a group.
-use Rattle.std.proofs.Common.{◌≡◌, ℕ, suc, Bool, true, List, [], ◌∷◌, refl, sym, ◌∙◌, ap, subst, map, length}
+use Rattle.std.proofs.Common.{◌≡◌, ℕ, suc, Bool, true, List, ◌∷◌, refl, sym, ◌∙◌, ap, map, length}
 use Rattle.std.proofs.lemmas.Bool.{eq-eqb}
 use Rattle.std.proofs.lemmas.List.{length-map}
-use Rattle.std.specs.Prelude.{Option, ◌==◌, ◌&&◌, unwrap_or}
+use Rattle.std.specs.Prelude.{Option, unwrap_or}
 use Rattle.std.specs.List.{list_all}
 use Rattle.vx_value.specs.declared.ids.MethodId.{MethodId}
-use Rattle.vx_value.specs.declared.key.KeyPart.{KeyPart}
 use Rattle.vx_value.specs.declared.key.Kind.{Kind}
 use Rattle.vx_value.specs.declared.slot.Slot.{Slot}
 use Rattle.vx_space.specs.Sets.{Sets}
 use Rattle.vx_cond.specs.Cond.{Conditional, cond_at}
 use Rattle.vx_frame.specs.declared.frame.Frame.{Frame}
-use Rattle.vx_frame.specs.Frame.{PlainFrame, Shape, frame_at, part_of, shape_of}
+use Rattle.vx_frame.specs.Frame.{frame_at, part_of, shape_of}
 use Rattle.vx_frame.proofs.FrameLaws.{frame_at-of}
 use Rattle.vx_group.specs.declared.callers.Caller.{Caller}
 use Rattle.vx_group.specs.Callers.{callers_of, frames_at}
-use Rattle.vx_group.specs.Group.{GroupView, IsGroupIn, attempts_at, depth_of, path_of, stack_of}
+use Rattle.vx_group.specs.Group.{GroupView, IsGroupIn, depth_of, path_of, stack_of}
 use Rattle.vx_group.proofs.GroupLaws.{IsGroupIn-parts, tail_of}
 use Rattle.vx_heap.specs.Heap.{HeapView, globals_at}
 use Rattle.vx_heap.proofs.Places.{and_true}
@@ -23,7 +22,7 @@ use Rattle.vx_java.specs.Calls.{in_locals}
 use Rattle.vx_java.specs.Initialisation.{max_locals, new_frame}
 use Rattle.vx_link.specs.Parts.{method_at}
 use Rattle.vx_link.specs.declared.program.Program.{Program}
-use Rattle.vx_group_states.specs.Stands.{Continues, StandsIn, frame_held, is_shaped, plain_frame, state_at, state_of}
+use Rattle.vx_group_states.specs.Stands.{StandsIn, frame_held, is_shaped, plain_frame, state_at, state_of}
 use Rattle.vx_frames.specs.Entering.{AreArgumentsHeld, IsBegun, IsEntered, arguments_at, begun_frame, values_at, with_frame}
 use Rattle.vx_frames.proofs.BegunLaws.{begun_held, begun_plain}
 

@@ -1,5 +1,6 @@
 -- Values that match the types of a descriptor are longs where the types are, and take no more locals than it has slots.
-use Rattle.std.proofs.Common.{◌≡◌, ℕ, ◌+◌, ◌≤◌, suc, Bool, true, false, List, [], ◌∷◌, refl, sym, ◌∙◌, ap, arith, map, length}
+use Rattle.std.proofs.Common.{◌≡◌, ◌+◌, ◌≤◌, Bool, true, false, List, [], ◌∷◌, refl, ◌∙◌, ap, arith, map, length}
+use Rattle.std.proofs.lemmas.List.Sums.{sum_by-cons}
 use Rattle.std.specs.Prelude.{Option, Some, None, if◌then◌else◌, is_some, option_map, sum_by, ◌==◌}
 use Rattle.vx_desc.specs.Descriptors.{slots_of}
 use Rattle.vx_desc.specs.declared.java_type.Base.{Base}
@@ -12,7 +13,7 @@ use Rattle.vx_cond.specs.Cond.{Conditional}
 use Rattle.vx_cond.specs.Slots.{slot_at}
 use Rattle.vx_heap.specs.Heap.{HeapView, value_of}
 use Rattle.vx_java.specs.Calls.{values_matching}
-use Rattle.vx_java.specs.Checks.{fits_type, is_of_sort, sort_of}
+use Rattle.vx_java.specs.Checks.{fits_type, is_of_sort, sort_of, sort_of_base}
 use Rattle.vx_java.specs.Machine.{Value}
 use Rattle.vx_java.specs.declared.operation.Sort.{Sort}
 use Rattle.vx_java.specs.declared.operation.Sort.TheVariants.{Int as IntSort, Long as LongSort, Reference}
@@ -68,21 +69,26 @@ matching_longs sets heap path (t ∷ types) (value ∷ values) n h =
 type_room : (t : JavaType) (longs : List Bool) → locals_taken (is_long_type t ∷ longs) ≤ slots_of t + locals_taken longs
 type_room t longs = from (t.dimensions == 0) refl t.base refl
   where
+    long_base : (d : Base) → (t.dimensions == 0) ≡ true → t.base ≡ d → is_long_type t ≡ is_long_sort (sort_of_base d)
+    long_base d e f = ap (λ b. is_long_sort (elim b [ true ↦ sort_of_base t.base | false ↦ Some Reference ])) e ∙ ap (λ x. is_long_sort (sort_of_base x)) f
+
     from : (b : Bool) → (t.dimensions == 0) ≡ b → (d : Base) → t.base ≡ d → locals_taken (is_long_type t ∷ longs) ≤ slots_of t + locals_taken longs
-    from true e base.Bool f = rw (e, f) (omega arith)
-    from true e base.Byte f = rw (e, f) (omega arith)
-    from true e base.Char f = rw (e, f) (omega arith)
-    from true e base.Double f = rw (e, f) (omega arith)
-    from true e base.Float f = rw (e, f) (omega arith)
-    from true e base.Int f = rw (e, f) (omega arith)
-    from true e base.Long f = rw (e, f) (omega arith)
-    from true e base.Short f = rw (e, f) (omega arith)
-    from true e base.Class f = rw (e, f) (omega arith)
-    from false e d f = rw e (omega arith)
+    from true e base.Bool f = rw (long_base base.Bool e f, e, f) (omega arith)
+    from true e base.Byte f = rw (long_base base.Byte e f, e, f) (omega arith)
+    from true e base.Char f = rw (long_base base.Char e f, e, f) (omega arith)
+    from true e base.Double f = rw (long_base base.Double e f, e, f) (omega arith)
+    from true e base.Float f = rw (long_base base.Float e f, e, f) (omega arith)
+    from true e base.Int f = rw (long_base base.Int e f, e, f) (omega arith)
+    from true e base.Long f = rw (long_base base.Long e f, e, f) (omega arith)
+    from true e base.Short f = rw (long_base base.Short e f, e, f) (omega arith)
+    from true e base.Class f = rw (long_base base.Class e f, e, f) (omega arith)
+    from false e d f =
+        let short : is_long_type t ≡ false = ap (λ b. is_long_sort (elim b [ true ↦ sort_of_base t.base | false ↦ Some Reference ])) e in
+        rw (short, e) (omega arith)
 
 types_room : (types : List JavaType) → locals_taken (map is_long_type types) ≤ sum_by slots_of types
 types_room [] = omega arith
-types_room (t ∷ types) = omega (arith, type_room t (map is_long_type types), types_room types)
+types_room (t ∷ types) = omega (arith, sum_by-cons slots_of t types, type_room t (map is_long_type types), types_room types)
 
 pub matching_are_arguments : {S I : Type 0} → MatchingAreArguments S I
 matching_are_arguments sets heap path types values most m l = record {

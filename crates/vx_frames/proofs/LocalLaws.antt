@@ -1,8 +1,8 @@
 -- Rows of locals that values are put into.
-use Rattle.std.proofs.Common.{◌≡◌, ◌⊎◌, ℕ, ◌+◌, ◌≤◌, zero, suc, Bool, true, false, List, [], ◌∷◌, ◌++◌, refl, sym, ◌∙◌, ap, subst, inl, inr, arith, map, length, replicate, append_assoc}
+use Rattle.std.proofs.Common.{◌≡◌, ◌⊎◌, ℕ, ◌+◌, ◌≤◌, Bool, true, false, List, [], ◌∷◌, ◌++◌, refl, sym, ◌∙◌, ap, subst, inl, inr, arith, map, length, replicate, append_assoc}
 use Rattle.std.proofs.lemmas.Bool.{true_from_ne_false, true≢false}
 use Rattle.std.proofs.lemmas.List.{append-nil, length-append, replicate_more}
-use Rattle.std.specs.Prelude.{Option, Some, None, if◌then◌else◌, is_some}
+use Rattle.std.specs.Prelude.{Some, None, if◌then◌else◌, is_some}
 use Rattle.vx_value.specs.declared.slot.Slot.{Slot}
 use Rattle.vx_value.specs.declared.slot.Slot.TheVariants.{Top, Int, Long, Null, Ref, Text}
 use Rattle.vx_value.specs.Slot.{slot_cmp}
@@ -10,7 +10,7 @@ use Rattle.vx_space.specs.Sets.{Sets, IsLawful}
 use Rattle.vx_space.proofs.Differences.{some_difference}
 use Rattle.vx_cond.specs.declared.cond.Leaf.{Leaf}
 use Rattle.vx_cond.specs.Leaves.{AreLeaves, value_at, value_within}
-use Rattle.vx_cond.specs.Cond.{Conditional, IsCond, IsCondOf, cond_at}
+use Rattle.vx_cond.specs.Cond.{Conditional, IsCond, IsCondOf}
 use Rattle.vx_cond.specs.Row.{AreConds, Conditionals, IsRow, conds_at}
 use Rattle.vx_cond.specs.Slots.{or_top, slot_at, slots_at}
 use Rattle.vx_cond.proofs.CondLaws.{IsCond-of, cond_at-of}

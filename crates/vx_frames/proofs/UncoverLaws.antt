@@ -1,23 +1,23 @@
 -- What stands where the frame on top was taken off a group.
-use Rattle.std.proofs.Common.{◌≡◌, ℕ, suc, ◌<◌, Bool, true, List, [], ◌∷◌, refl, sym, ◌∙◌, ap, arith, map, length}
+use Rattle.std.proofs.Common.{◌≡◌, ℕ, suc, ◌<◌, Bool, true, List, [], ◌∷◌, sym, ◌∙◌, ap, arith, map, length}
 use Rattle.std.proofs.lemmas.List.{length-map}
-use Rattle.std.specs.Prelude.{Option, ◌&&◌, unwrap_or}
+use Rattle.std.specs.Prelude.{Option, unwrap_or}
 use Rattle.std.specs.List.{list_all}
 use Rattle.vx_value.specs.declared.key.KeyPart.{KeyPart}
 use Rattle.vx_space.specs.Sets.{Sets, Extends}
 use Rattle.vx_cond.specs.Cond.{Conditional, cond_at}
 use Rattle.vx_frame.specs.declared.frame.Frame.{Frame}
-use Rattle.vx_frame.specs.Frame.{PlainFrame, frame_at, shape_of}
+use Rattle.vx_frame.specs.Frame.{frame_at, shape_of}
 use Rattle.vx_group.specs.declared.callers.Caller.{Caller}
 use Rattle.vx_group.specs.Callers.{callers_of, frames_at}
-use Rattle.vx_group.specs.Group.{GroupView, IsGroupIn, IsPopped, depth_of, path_of, shapes_of, stack_of}
+use Rattle.vx_group.specs.Group.{GroupView, IsGroupIn, IsPopped, path_of, shapes_of, stack_of}
 use Rattle.vx_group.proofs.GroupLaws.{IsGroup-path_known, IsGroupIn-group, attempts_at-extends, tail_of}
 use Rattle.vx_heap.specs.Heap.{HeapView, IsHeap}
 use Rattle.vx_heap.proofs.HeapLaws.{globals_at-extends}
 use Rattle.vx_heap.proofs.Places.{both_true}
 use Rattle.vx_heap.proofs.Written.{allowed_known}
 use Rattle.vx_link.specs.declared.program.Program.{Program}
-use Rattle.vx_group_states.specs.Stands.{Continues, StandsIn, frame_held, is_shaped, plain_frame, state_at, state_of}
+use Rattle.vx_group_states.specs.Stands.{StandsIn, frame_held, is_shaped, plain_frame, state_at, state_of}
 use Rattle.vx_group_states.proofs.StateLaws.{all_same, frame_held-extends, map_same, plain_frame-extends}
 use Rattle.vx_frames.specs.Entering.{with_frame}
 use Rattle.vx_frames.specs.Uncovering.{IsUncovered}

@@ -1,13 +1,12 @@
 -- One step of unwinding.
-use Rattle.std.proofs.Common.{◌≡◌, ℕ, Bool, true, false, List, [], ◌∷◌, refl, sym, ◌∙◌, ap, subst}
+use Rattle.std.proofs.Common.{◌≡◌, ℕ, Bool, true, false, List, ◌∷◌, refl, sym, ◌∙◌, ap}
 use Rattle.std.specs.Prelude.{Option, Some, None, if◌then◌else◌}
 use Rattle.vx_java.specs.Machine.{Next, State}
 use Rattle.vx_java.specs.Machine.{Frame as MachineFrame}
-use Rattle.vx_java.specs.Throwing.{handler_of, is_error, next_after_throw, next_in_handler, passed_object, passed_state, uncaught, unwind, with_wrapper}
+use Rattle.vx_java.specs.Throwing.{handler_of, is_error, next_in_handler, passed_object, passed_state, unwind, with_wrapper}
 use Rattle.vx_link.specs.declared.program.Program.{Program}
 use Rattle.vx_value.specs.declared.key.Kind.{Kind}
 use Rattle.vx_value.specs.declared.key.Kind.TheVariants.{Call, Init, Wait}
-use Rattle.vx_frames.specs.Entering.{with_frame}
 use Rattle.vx_frames.specs.Unwinding.{PassesFrames}
 
 -- a frame that is passed leaves its callers

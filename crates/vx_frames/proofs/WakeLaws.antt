@@ -1,21 +1,16 @@
 -- What stands in a group whose frame on top wakes.
-use Rattle.std.proofs.Common.{◌≡◌, Bool, List, refl, sym, ap, subst}
-use Rattle.std.specs.Prelude.{Option}
+use Rattle.std.proofs.Common.{◌≡◌, refl, sym, subst}
 use Rattle.vx_space.specs.Sets.{Sets}
 use Rattle.vx_space.proofs.Spaces.{Extends-refl}
 use Rattle.vx_frame.specs.declared.frame.Frame.{Frame}
 use Rattle.vx_frame.specs.Frame.{IsFrame, frame_at}
 use Rattle.vx_frame.proofs.FrameLaws.{IsFrame-locals, IsFrame-one_scope, IsFrame-rows, IsFrame-stack}
-use Rattle.vx_group.specs.declared.callers.Caller.{Caller}
-use Rattle.vx_group.specs.Group.{GroupView, IsGroup, IsGroupIn, path_of}
+use Rattle.vx_group.specs.Group.{GroupView, IsGroup}
 use Rattle.vx_group.proofs.GroupLaws.{IsGroup-attempts, IsGroup-of_parts, IsGroup-one_scope, IsGroup-top}
-use Rattle.vx_heap.specs.Heap.{HeapView, IsHeap}
 use Rattle.vx_java.specs.Returns.{awake}
-use Rattle.vx_link.specs.declared.program.Program.{Program}
 use Rattle.vx_value.specs.declared.key.Kind.{Kind}
-use Rattle.vx_group_states.specs.Stands.{Continues, StandsIn, state_at}
 use Rattle.vx_group_states.proofs.StateLaws.{StandsIn-same_callers, state_at-same_callers, top_held, top_shaped}
-use Rattle.vx_frames.specs.Waking.{IsWoken, state_awake}
+use Rattle.vx_frames.specs.Waking.{IsWoken}
 
 -- a group whose frame on top has another kind
 abbrev of_kind : {S I : Type 0} → GroupView S I → Kind → GroupView S I

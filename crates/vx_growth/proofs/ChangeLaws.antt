@@ -1,15 +1,12 @@
 -- Changes one after another, and attempts after a change.
-use Rattle.std.proofs.Common.{◌≡◌, ℕ, Bool, true, false, List, refl, sym, ◌∙◌, ap, subst, length}
-use Rattle.std.specs.Prelude.{Option, ◌||◌, if◌then◌else◌, slice_get}
-use Rattle.vx_space.specs.Sets.{Sets, Extends}
-use Rattle.vx_group.specs.declared.callers.Caller.{Caller}
-use Rattle.vx_group.specs.Callers.{Keeps}
-use Rattle.vx_group.specs.Group.{GroupView, path_of}
+use Rattle.std.proofs.Common.{◌≡◌, Bool, true, false, List, refl, sym, ◌∙◌, ap, subst}
+use Rattle.std.specs.Prelude.{◌||◌, if◌then◌else◌, slice_get}
+use Rattle.vx_space.specs.Sets.{Sets}
+use Rattle.vx_group.specs.Group.{path_of}
 use Rattle.vx_group.proofs.GroupLaws.{IsGroup-path_known, IsGroupIn-group, attempts_at-extends}
-use Rattle.vx_heap.specs.Heap.{Globals, HeapView, IsHeap, IsHeapFor, globals_at}
+use Rattle.vx_heap.specs.Heap.{Globals, HeapView, IsHeapFor, globals_at}
 use Rattle.vx_heap.proofs.HeapLaws.{IsHeap-extends, globals_at-extends}
-use Rattle.vx_link.specs.declared.program.Program.{Program}
-use Rattle.vx_group_states.specs.Stands.{Continues, Grows, StandsIn, state_at}
+use Rattle.vx_group_states.specs.Stands.{Continues, state_at}
 use Rattle.vx_group_states.proofs.OutcomeStates.{CameTo-through}
 use Rattle.vx_growth.specs.Changing.{IsChangedIn, changed_in}
 use Rattle.vx_growth.specs.Laws.{AttemptsFollow, ChangesFollow, StaticsChangeIn}

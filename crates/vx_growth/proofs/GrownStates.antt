@@ -21,7 +21,7 @@ use Rattle.vx_group.proofs.CallerLaws.{AreCallers-nodes, callers_of-kept, frames
 use Rattle.vx_group.proofs.GroupLaws.{IsGroupIn-callers, IsGroupIn-group, IsGroupIn-later, IsGroup-path_known, IsGroup-top, attempts_at-extends, group_at-later}
 use Rattle.vx_heap.specs.Heap.{Globals, HeapView, IsHeap, are_held, globals_at, is_held, value_of}
 use Rattle.vx_heap.proofs.Written.{allowed_known}
-use Rattle.vx_java.specs.Machine.{State, Value, Go, Raise, Throw, Begin, Native, Write}
+use Rattle.vx_java.specs.Machine.{Value, Go, Raise, Throw, Begin, Native, Write}
 use Rattle.vx_java.specs.Machine.{Outcome as PlainOutcome}
 use Rattle.vx_java.specs.Machine.{Ref as RefValue}
 use Rattle.vx_link.specs.declared.program.Program.{Program}

@@ -1,15 +1,15 @@
 -- Names of references, and the values of slots where the heap grows.
-use Rattle.std.proofs.Common.{◌≡◌, ℕ, ◌<◌, ◌≤◌, zero, suc, Bool, true, false, List, [], ◌∷◌, refl, sym, ◌∙◌, ap, inl, inr, arith, map, length, filter}
+use Rattle.std.proofs.Common.{◌≡◌, ℕ, ◌<◌, ◌≤◌, zero, suc, Bool, true, false, List, [], ◌∷◌, refl, sym, ◌∙◌, ap, inl, inr, arith, length, filter}
 use Rattle.std.proofs.lemmas.Bool.{cases_order, lt-ltb, ltb-true}
 use Rattle.std.proofs.lemmas.List.{length-map}
 use Rattle.std.proofs.lemmas.Option.{slice_get_within}
-use Rattle.std.specs.Prelude.{◌↔◌, Option, Some, None, if◌then◌else◌, nat_lt, slice_get, unwrap_or}
+use Rattle.std.specs.Prelude.{Option, Some, None, if◌then◌else◌, slice_get, unwrap_or}
 use Rattle.vx_value.specs.declared.slot.Slot.{Slot}
 use Rattle.vx_value.specs.declared.slot.Slot.TheVariants.{Top, Int, Long, Null, Ref, Text}
 use Rattle.vx_value.specs.Texts.{text_at}
 use Rattle.vx_space.specs.Sets.{Sets, Extends}
 use Rattle.vx_heap.specs.declared.object.HeapObject.{HeapObject}
-use Rattle.vx_heap.specs.Heap.{HeapView, IsHeap, count_if, is_held, is_object_held, name_at, object_of, objects_at, value_of}
+use Rattle.vx_heap.specs.Heap.{HeapView, IsHeap, count_if, is_held, is_object_held, name_at, object_of, value_of}
 use Rattle.vx_heap.proofs.HeapLaws.{is_held-extends, name_at-extends}
 use Rattle.vx_java.specs.Machine.{Ref as RefValue, Text as TextValue}
 use Rattle.vx_group_states.specs.Stands.{Grows}

@@ -1,4 +1,4 @@
-use Rattle.std.proofs.Common.{◌≡◌, ap, arith, suc, sym, ◌∙◌}
+use Rattle.std.proofs.Common.{ap, arith, suc, sym, ◌∙◌}
 use Rattle.vx_space.proofs.Spaces.{Extends-trans}
 use Rattle.vx_frame_trials.proofs.Trials.{AreArguments-more, alone_depth, alone_in}
 use Rattle.vx_frame_trials.proofs.groups.called.Goals as goal

@@ -1,5 +1,4 @@
 use Rattle.std.proofs.Common.{refl}
-use Rattle.vx_space.proofs.Spaces.{Extends-trans}
 use Rattle.vx_value.specs.Slot.{slot_cmp}
 use Rattle.vx_cond.proofs.CondLaws.{IsCond-of}
 use Rattle.vx_frame_trials.proofs.Trials.{IsShort-made, inside_always}

@@ -1,4 +1,4 @@
-use Rattle.std.proofs.Common.{◌≡◌, arith}
+use Rattle.std.proofs.Common.{arith}
 use Rattle.vx_frame_trials.proofs.trials.entered_and_left.Goals as goal
 
 pub uncovered-requires-clause-called : goal.uncovered-requires-clause-called

@@ -1,5 +1,4 @@
-use Rattle.std.proofs.Common.{◌≡◌, arith}
-use Rattle.vx_space.proofs.Spaces.{Extends-refl, Extends-trans}
+use Rattle.std.proofs.Common.{arith}
 use Rattle.vx_group.proofs.CallerLaws.{Keeps-refl}
 use Rattle.vx_group.proofs.GroupLaws.{IsGroupIn-group, IsGroupIn-later}
 use Rattle.vx_frame_trials.proofs.Trials.{part_depth, part_in}

@@ -1,4 +1,3 @@
-use Rattle.std.proofs.Common.{ap, sym, ◌∙◌}
 use Rattle.vx_frame.proofs.FrameLaws.{IsFrame-locals, IsFrame-of}
 use Rattle.vx_frames.proofs.BegunLaws.{IsBegun-made, no_locals}
 use Rattle.vx_frames.proofs.LocalLaws.{AreArguments-at}
