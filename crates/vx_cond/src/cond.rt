@@ -4,7 +4,8 @@ ghost use Rattle.std.specs.Prelude.{◌≡◌, ◌++◌, false, Some, IfOk, OnOk
 ghost use Rattle.vx_space.specs.Sets.{IsKnown, Extends};
 
 use crate::leaves::{
-    conditions_out, join_leaves, map_leaves, restrict_leaves, value_of_leaves, zip_leaves,
+    conditions_out, copy_leaves, join_leaves, map_leaves, restrict_leaves, value_of_leaves,
+    zip_leaves,
 };
 use crate::projects::Projects;
 use std::alloc::{AllocError, Global};
@@ -99,6 +100,13 @@ impl<T: Exact, S: Space> Cond<T, S> {
         ensures ok { IfOk result (IsCondOf T.cmp (S.sets space.new) (value_within (S.sets space.old) within (cond_at (S.sets space.old) self.now))) }
     {
         let scope = space.and(self.scope(), within)?;
+        if scope == self.scope() {
+            let leaves = copy_leaves(self.allocator(), self.leaves())?;
+            return Ok(Cond::of(scope, leaves));
+        }
+        if space.is_never(scope) {
+            return Ok(Cond::of(scope, Vec::new(self.allocator())));
+        }
         let leaves = restrict_leaves(self.allocator(), space, self.leaves(), within)?;
         Ok(Cond::of(scope, leaves))
     }

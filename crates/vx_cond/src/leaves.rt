@@ -1,8 +1,8 @@
 //! Leaves: ascending values with the conditions under which they hold. Each call is a loop of `add`.
 
-ghost use Rattle.std.specs.Prelude.{◌≡◌, ◌<◌, ◌≤◌, IsTrue, length, OnOk, IfOk, ◌++◌, map};
+ghost use Rattle.std.specs.Prelude.{◌≡◌, ◌<◌, ◌≤◌, ◌⊎◌, IsTrue, IsFalse, length, OnOk, IfOk, ◌++◌, map};
 ghost use Rattle.vx_space.specs.Sets.{IsKnown, Extends};
-ghost use Rattle.vx_cond.specs.Leaves.{IsPlace, AreLeaves, IsApart, AreLeavesOf, value_at, value_under, value_within, first_of, AreLeavesApart, AreLifted, AreLifted2, IsLiftedUnder};
+ghost use Rattle.vx_cond.specs.Leaves.{IsPlace, AreAscending, AreLeaves, IsApart, AreLeavesOf, value_at, value_under, value_within, first_of, AreLeavesApart, AreLifted, AreLifted2, IsLiftedUnder};
 
 use crate::cond::Leaf;
 use std::alloc::{AllocError, Global};
@@ -10,20 +10,26 @@ use std::cmp::Ordering;
 use vx_space::{Config, Space, SpaceFault};
 use vx_value::Exact;
 
-/// Where a value stands among ascending leaves, and whether it is there.
+/// Where a value stands among ascending leaves, and whether it is there. It is looked for by halves, and at the last leaf first, since
+/// values mostly come in ascending order.
 fn place<T: Exact, S: Space>(leaves: &[Leaf<T, S>], value: T) -> (usize, bool)
+    requires { AreAscending T.cmp leaves.now }
     ensures place { IsPlace T.cmp value leaves.now result.0 result.1 }
     ensures within { result.0 ≤ length leaves.now }
     ensures found { IsTrue result.1 → result.0 < length leaves.now }
 {
-    for (i, leaf) in leaves.iter().enumerate() {
-        match leaf.value.cmp(&value) {
-            Ordering::Less => {}
-            Ordering::Equal => return (i, true),
-            Ordering::Greater => return (i, false),
+    let mut low = 0;
+    let mut high = leaves.len();
+    let mut at = high.saturating_sub(1);
+    while low < high {
+        match leaves[at].value.cmp(&value) {
+            Ordering::Less => low = at + 1,
+            Ordering::Equal => return (at, true),
+            Ordering::Greater => high = at,
         }
+        at = low + (high - low) / 2;
     }
-    (leaves.len(), false)
+    (low, false)
 }
 
 /// Adds a value under a condition that is apart from the leaves: its leaf is widened, or a new one is put at its place.
@@ -76,23 +82,22 @@ pub(crate) fn restrict_leaves<T: Exact, S: Space>(
     Ok(made)
 }
 
-/// Adds leaves that are apart from those that are there.
+/// The same leaves.
 #[tactic(auto, using(crate::proofs::LeafLoops::leaf_loops))]
-pub(crate) fn add_all<T: Exact, S: Space>(
-    space: &mut S,
-    made: &mut Vec<Leaf<T, S>>,
+pub(crate) fn copy_leaves<T: Exact, S: Space>(
+    alloc: Global,
     leaves: &[Leaf<T, S>],
-) -> Result<(), SpaceFault>
-    requires made { AreLeaves T.cmp (S.sets space.old) made.old.items }
-    requires leaves { AreLeaves T.cmp (S.sets space.old) leaves.now }
-    requires apart { AreLeavesApart (S.sets space.old) made.old.items leaves.now }
-    ensures extends { Extends (S.sets space.old) (S.sets space.new) }
-    ensures added { OnOk result (AreLeavesOf T.cmp (S.sets space.new) (first_of (value_at (S.sets space.old) made.old.items) (value_at (S.sets space.old) leaves.now)) made.new.items) }
+) -> Result<Vec<Leaf<T, S>>, AllocError>
+    ensures { IfOk result (λ r. r.items ≡ leaves.now) }
 {
+    let mut made = Vec::with_capacity(alloc, leaves.len())?;
     for leaf in leaves {
-        add(space, made, leaf.value, leaf.condition)?;
+        made.push(Leaf {
+            value: leaf.value,
+            condition: leaf.condition,
+        })?;
     }
-    Ok(())
+    Ok(made)
 }
 
 /// The leaves of a function's values.
@@ -164,8 +169,24 @@ pub(crate) fn zip_leaves<T: Exact, U: Exact, V: Exact, S: Space, F: Fn(T, U) -> 
     Ok(made)
 }
 
-/// The leaves of both, which are apart.
-#[tactic(auto, using(crate::proofs::LeafLoops::leaf_joins))]
+/// Whether the next leaf of two ascending lists, from two places on, is the first list's.
+fn comes_first<T: Exact, S: Space>(
+    leaves: &[Leaf<T, S>],
+    i: usize,
+    others: &[Leaf<T, S>],
+    j: usize,
+) -> bool
+    requires { (i < length leaves.now) ⊎ (j < length others.now) }
+    ensures first { IsTrue result → i < length leaves.now }
+    ensures second { IsFalse result → j < length others.now }
+{
+    if i >= leaves.len() {
+        return false;
+    }
+    j >= others.len() || leaves[i].value <= others[j].value
+}
+
+/// The leaves of both, which are apart, by merging the two.
 pub(crate) fn join_leaves<T: Exact, S: Space>(
     alloc: Global,
     space: &mut S,
@@ -179,8 +200,17 @@ pub(crate) fn join_leaves<T: Exact, S: Space>(
     ensures ok { IfOk result (λ r. AreLeavesOf T.cmp (S.sets space.new) (first_of (value_at (S.sets space.old) leaves.now) (value_at (S.sets space.old) others.now)) r.items) }
 {
     let mut made = Vec::new(alloc);
-    add_all(space, &mut made, leaves)?;
-    add_all(space, &mut made, others)?;
+    let mut i = 0;
+    let mut j = 0;
+    while i < leaves.len() || j < others.len() {
+        if comes_first(leaves, i, others, j) {
+            add(space, &mut made, leaves[i].value, leaves[i].condition)?;
+            i += 1;
+        } else {
+            add(space, &mut made, others[j].value, others[j].condition)?;
+            j += 1;
+        }
+    }
     Ok(made)
 }
 

@@ -334,3 +334,31 @@ popped_few old new part bound e l =
 
 pub inner_few : {S I : Type 0} (sets new : Sets I) (path : I) (frame inner : Frame S I) → IsCallerFrame sets path frame → IsFrameInside sets new path frame inner → length inner.stack.conds < 2 ^ 32
 inner_few sets new path frame inner h f = let P : ℕ → Type 0 = λ q. q < 2 ^ 32 in subst P (sym (ap (λ (q : Shape). q.part.depth) f.shape)) h.few
+
+-- where nothing is outside, the group is its part inside
+pub split_whole : {S I : Type 0} {s0 s1 s2 : Sets I} → IsLawful s1 → Extends s0 s1 → Extends s1 s2 → (group : GroupView S I) (within rest : I) → IsGroup s0 group → IsSet s1 rest (λ c. s0.test (path_of group) c && not (s0.test within c)) → rest ≡ s1.never → IsPartOf s0 s2 (λ c. s0.test (path_of group) c && s0.test within c) group group
+unfolding IsPartOf
+split_whole {s0 = s0} {s1 = s1} lawful e f group within rest v u never = record {
+  is_group = IsGroup-extends (Extends-trans e f) group v;
+  path = record {
+    known = (Extends-trans e f).known (path_of group) (IsGroup-path_known s0 group v);
+    test = λ c. (Extends-trans e f).test (path_of group) c (IsGroup-path_known s0 group v) ∙ whole (s0.test (path_of group) c) (s0.test within c) (sym (u.test c) ∙ ap (λ i. s1.test i c) never ∙ lawful.never_test c);
+  };
+  below = refl;
+  caller = refl;
+  shape = refl;
+  at = λ c t. top_at-extends (Extends-trans e f) group v c;
+}
+  where
+    whole : (a b : Bool) → (a && not b) ≡ false → a ≡ (a && b)
+    whole true true h = refl
+    whole true false h = cc
+    whole false b h = refl
+
+-- and the part outside is what is inside of nothing
+pub split_none : {S I : Type 0} {s0 s1 s2 : Sets I} → Extends s0 s1 → Extends s1 s2 → (group part : GroupView S I) (within rest : I) → IsGroup s0 group → IsSet s1 rest (λ c. s0.test (path_of group) c && not (s0.test within c)) → IsPartOf s1 s2 (λ c. s1.test (path_of group) c && s1.test rest c) group part → IsPartOf s0 s2 (λ c. s0.test (path_of group) c && not (s0.test within c)) group part
+split_none {s0 = s0} {s1 = s1} {s2 = s2} e f group part within rest v u p = IsPartOf-before s2 e _ group part v (IsPartOf-set s1 s2 _ _ group part (λ c. ap (λ b. b && s1.test rest c) (e.test (path_of group) c (IsGroup-path_known s0 group v)) ∙ ap (λ b. s0.test (path_of group) c && b) (u.test c) ∙ twice (s0.test (path_of group) c) (not (s0.test within c))) p)
+  where
+    twice : (a b : Bool) → (a && (a && b)) ≡ (a && b)
+    twice true b = refl
+    twice false b = refl

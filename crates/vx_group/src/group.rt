@@ -1,6 +1,6 @@
 //! Groups: a path of configurations at one key, with their attempts and their frames.
 
-ghost use Rattle.std.specs.Prelude.{◌≡◌, ◌∷◌, [], ◌++◌, ◌&&◌, ◌||◌, ◌↔◌, ◌<◌, ◌^◌, ◌+◌, not, ℕ, suc, true, length, List, Bool, IfOk, IfSome, IsNone, None, Ok, OnOk, OnErr};
+ghost use Rattle.std.specs.Prelude.{◌≡◌, ◌≢◌, ◌∷◌, [], ◌++◌, ◌&&◌, ◌||◌, ◌↔◌, ◌<◌, ◌^◌, ◌+◌, not, ℕ, suc, true, length, List, Bool, IfOk, IfSome, IsNone, IsTrue, IsFalse, None, Ok, OnOk, OnErr};
 ghost use Rattle.vx_space.specs.Sets.{IsKnown, IsSet, Extends};
 ghost use Rattle.vx_cond.specs.Cond.{AreDisjoint};
 ghost use Rattle.vx_frame.specs.Frame.{IsFrame, scope_of, side_at};
@@ -130,6 +130,14 @@ impl<S: Space> Group<S> {
         self.below.key(self.top.part())
     }
 
+    /// Whether it stands at a key. It takes no memory.
+    pub fn has_key(&self, key: &Key) -> bool
+        ensures same { IsTrue result → key_of self.now ≡ key.now }
+        ensures other { IsFalse result → key_of self.now ≢ key.now }
+    {
+        self.below.are_of(self.top.part(), key.parts())
+    }
+
     /// Takes the frame on top off, by a move. The frames below stay.
     pub fn take_top(self) -> (Below<S>, Frame<S>)
         ensures { result ≡ (record { attempts = self.attempts; below = self.below; caller = self.caller }, self.top) }
@@ -249,6 +257,10 @@ impl<S: Space> Group<S> {
         ensures outside { IfOk result (λ r. IsPartOf (S.sets space.old) (S.sets space.new) (λ c. (S.sets space.old).test (path_of self) c && not ((S.sets space.old).test within c)) self r.1) }
     {
         let rest = space.minus(self.path(), within)?;
+        if space.is_never(rest) {
+            let nothing = self.inside(space, rest)?;
+            return Ok((self, nothing));
+        }
         let inner = self.inside(space, within)?;
         let outer = self.inside(space, rest)?;
         Ok((inner, outer))

@@ -23,16 +23,16 @@ pub fn keys_of<S: Space>(alloc: Global, groups: &[Group<S>]) -> Result<Vec<Key>,
 }
 
 /// The place of the group that has a key, if there is one.
-fn place_of<S: Space>(groups: &[Group<S>], key: &Key) -> Result<Option<usize>, AllocError>
-    ensures found { IfOk result (λ place. IfSome place (λ i. HasKeyAt groups.now i key.now)) }
-    ensures fresh { IfOk result (λ place. IsNone place → IsFresh key.now groups.now) }
+fn place_of<S: Space>(groups: &[Group<S>], key: &Key) -> Option<usize>
+    ensures found { IfSome result (λ place. HasKeyAt groups.now place key.now) }
+    ensures fresh { IsNone result → IsFresh key.now groups.now }
 {
     for place in 0..groups.len() {
-        if groups[place].key()? == *key {
-            return Ok(Some(place));
+        if groups[place].has_key(key) {
+            return Some(place);
         }
     }
-    Ok(None)
+    None
 }
 
 /// Joins a group with the one at a place, which has its key.
@@ -78,7 +78,7 @@ pub fn place_group<S: Space>(
         return Ok(());
     }
     let key = group.key()?;
-    match place_of(groups.as_slice(), &key)? {
+    match place_of(groups.as_slice(), &key) {
         Some(place) => join_at(callers, space, groups, place, group),
         None => {
             groups.push(group)?;

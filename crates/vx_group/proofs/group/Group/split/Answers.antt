@@ -1,5 +1,5 @@
 use Rattle.vx_space.proofs.Spaces.{Extends-trans}
-use Rattle.vx_group.proofs.GroupLaws.{IsGroup-extends, IsGroup-path_known, split_inside, split_outside}
+use Rattle.vx_group.proofs.GroupLaws.{IsGroup-extends, IsGroup-path_known, split_inside, split_outside, split_whole, split_none}
 use Rattle.vx_group.proofs.group.Group.split.Goals as goal
 
 pub minus-requires-clause-first : goal.minus-requires-clause-first
@@ -9,7 +9,19 @@ pub inside-requires-clause-group : goal.inside-requires-clause-group
 inside-requires-clause-group g c = IsGroup-extends c.in_ok-rest.ensures.extends _ c.requires.group
 
 pub inside-requires-2-clause-group : goal.inside-requires-2-clause-group
-inside-requires-2-clause-group g c = IsGroup-extends (Extends-trans c.in_ok-rest.ensures.extends c.in_ok-inner.ensures.extends) _ c.requires.group
+inside-requires-2-clause-group g c = IsGroup-extends c.in_ok-rest.ensures.extends _ c.requires.group
+
+pub inside-requires-3-clause-group : goal.inside-requires-3-clause-group
+inside-requires-3-clause-group g c = IsGroup-extends (Extends-trans c.in_ok-rest.ensures.extends c.in_ok-inner.ensures.extends) _ c.requires.group
+
+pub returns-then-is_never-clause-extends : goal.returns-then-is_never-clause-extends
+returns-then-is_never-clause-extends g c = Extends-trans c.in_ok-rest.ensures.extends c.in_ok-nothing.ensures.extends
+
+pub returns-then-is_never-clause-inside : goal.returns-then-is_never-clause-inside
+returns-then-is_never-clause-inside g c = split_whole (g.met.S.Space.lawful c.minus.new.self) c.in_ok-rest.ensures.extends c.in_ok-nothing.ensures.extends c.args.self c.args.within _ c.requires.group (rw c.path.ensures at c.in_ok-rest.ensures.ok) (c.is_never.ensures.0 c.if-is_never.true)
+
+pub returns-then-is_never-clause-outside : goal.returns-then-is_never-clause-outside
+returns-then-is_never-clause-outside g c = split_none c.in_ok-rest.ensures.extends c.in_ok-nothing.ensures.extends c.args.self _ c.args.within _ c.requires.group (rw c.path.ensures at c.in_ok-rest.ensures.ok) c.in_ok-nothing.ensures.ok
 
 pub returns-clause-extends : goal.returns-clause-extends
 returns-clause-extends g c = Extends-trans (Extends-trans c.in_ok-rest.ensures.extends c.in_ok-inner.ensures.extends) c.in_ok-outer.ensures.extends
