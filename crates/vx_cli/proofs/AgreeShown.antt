@@ -7,13 +7,13 @@ use Rattle.vx_report.specs.declared.report.Report.{Report}
 use Rattle.vx_cli.specs.declared.status.Status.{Status}
 use Rattle.vx_cli.specs.declared.status.Status.TheVariants.{Done, NoMemory, ReadFault, WriteFault, BadReport, TooLarge, Unlike}
 use Rattle.vx_cli.specs.Agree.{agree_plan, agree_reports, unlike}
-use Rattle.vx_cli.specs.Causes.{AgreeCause, AreUnlike, HasReport, IsReportIn, Shows, IsShown, IsGood, NothingFails}
+use Rattle.vx_cli.specs.Causes.{AgreeCause, AreUnlike, HasReport, IsBadAt, IsReportIn, Shows, IsShown, IsGood, NothingFails}
 use Rattle.vx_cli.specs.Command.{Agree}
 use Rattle.vx_cli.specs.Job.{Agreement}
 use Rattle.vx_cli.specs.Plan.{MayGive, Write}
 use Rattle.vx_cli.specs.Reports.{most_report_bytes, read_report}
 use Rattle.vx_cli.proofs.Alike.{not_both, unlike_alone}
-use Rattle.vx_cli.proofs.ReportTold.{IsBadAt, ReportShows, not_bad, report_shows}
+use Rattle.vx_cli.proofs.ReportTold.{ReportShows, not_bad, report_shows}
 use Rattle.vx_cli.proofs.Told.{told_both, told_map, unless_cases}
 
 -- whatever the plan of `agree` gave is shown by the files

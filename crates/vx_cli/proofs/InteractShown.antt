@@ -5,13 +5,13 @@ use Rattle.vx_io.specs.Sink.{SinkState}
 use Rattle.vx_report.specs.declared.report.Report.{Report}
 use Rattle.vx_cli.specs.declared.status.Status.{Status}
 use Rattle.vx_cli.specs.declared.status.Status.TheVariants.{Done, NoMemory, ReadFault, WriteFault, BadReport, TooLarge}
-use Rattle.vx_cli.specs.Causes.{InteractCause, IsReportIn, Shows, IsShown, IsGood, NothingFails}
+use Rattle.vx_cli.specs.Causes.{InteractCause, IsBadAt, IsReportIn, Shows, IsShown, IsGood, NothingFails}
 use Rattle.vx_cli.specs.Command.{Interact}
 use Rattle.vx_cli.specs.Interact.{interact_plan}
 use Rattle.vx_cli.specs.Job.{Interactions}
 use Rattle.vx_cli.specs.Plan.{MayGive, Write}
 use Rattle.vx_cli.specs.Reports.{most_report_bytes}
-use Rattle.vx_cli.proofs.ReportTold.{IsBadAt, ReportShows, not_bad, report_shows}
+use Rattle.vx_cli.proofs.ReportTold.{ReportShows, not_bad, report_shows}
 use Rattle.vx_cli.proofs.Told.{told_map}
 
 -- whatever the plan of `interact` gave is shown by the files

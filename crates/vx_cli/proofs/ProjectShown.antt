@@ -5,13 +5,13 @@ use Rattle.vx_io.specs.Sink.{SinkState}
 use Rattle.vx_report.specs.declared.report.Report.{Report}
 use Rattle.vx_cli.specs.declared.status.Status.{Status}
 use Rattle.vx_cli.specs.declared.status.Status.TheVariants.{Done, NoMemory, ReadFault, WriteFault, BadReport, NotAllowed, TooLarge}
-use Rattle.vx_cli.specs.Causes.{IsReportIn, ProjectCause, Shows, IsShown, IsGood, NothingFails}
+use Rattle.vx_cli.specs.Causes.{IsBadAt, IsReportIn, ProjectCause, Shows, IsShown, IsGood, NothingFails}
 use Rattle.vx_cli.specs.Command.{Project}
 use Rattle.vx_cli.specs.Job.{Exactly}
 use Rattle.vx_cli.specs.Plan.{MayGive, Write}
 use Rattle.vx_cli.specs.Project.{or_not_allowed, projected, project_report, project_plan}
 use Rattle.vx_cli.specs.Reports.{most_report_bytes}
-use Rattle.vx_cli.proofs.ReportTold.{IsBadAt, ReportShows, not_bad, report_shows}
+use Rattle.vx_cli.proofs.ReportTold.{ReportShows, not_bad, report_shows}
 use Rattle.vx_cli.proofs.Told.{told_map, attempt_cases, ok_and_err}
 
 -- a configuration is refused as not allowed alone

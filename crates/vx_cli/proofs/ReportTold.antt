@@ -6,14 +6,10 @@ use Rattle.vx_report.specs.declared.report.Report.{Report}
 use Rattle.vx_report_reader.specs.Rules.{ReportText}
 use Rattle.vx_cli.specs.declared.status.Status.{Status}
 use Rattle.vx_cli.specs.declared.status.Status.TheVariants.{ReadFault, BadReport, TooLarge}
-use Rattle.vx_cli.specs.Causes.{IsReportIn}
+use Rattle.vx_cli.specs.Causes.{IsBadAt, IsReportIn}
 use Rattle.vx_cli.specs.Plan.{Plan, MayGive, As_report, IsBadReport}
 use Rattle.vx_cli.specs.Reports.{most_report_bytes, read_report}
 use Rattle.vx_cli.proofs.Told.{told_map, IsText, SizedShows, sized_shows}
-
--- a file within its room has this first bad line
-abbrev pub IsBadAt : Held → List ℕ → ℕ → Type 0
-IsBadAt held path line = (length (contents held path) ≤ most_report_bytes) × IsBadReport (contents held path) line
 
 -- a read fault, a size, a bad line, or a report with what was made of it
 abbrev pub ReportShows : FilesState → FilesState → List ℕ → (Report → Plan) → Result (List ℕ) Status → Type 0

@@ -52,7 +52,7 @@ pub const CASES: [Case; 17] = [
         other: "varexj report 1\noptions 1\noption A\nlimit 100\nrounds 4\nout 1 abc\nout 1 d\nend 1 return\ndone\n",
         text: "varexj agree 1\noptions 1\noption A\nagree 1\ndone\n",
     },
-    // Texts are the same only where they are cut alike.
+    // A part that only some configurations write is wanting in the others.
     Case {
         one: "varexj report 1\noptions 1\noption A\nlimit 100\nrounds 4\nnode 2 0 0 1\nout 1 a\nout 2 b\nout 1 c\nend 1 return\ndone\n",
         other: "varexj report 1\noptions 1\noption A\nlimit 100\nrounds 4\nout 1 abc\nend 1 return\ndone\n",

@@ -9,8 +9,8 @@ overflow_cast-len c = omega (arith, few_options c.args.one.now c.requires.one, c
 pub new-requires : goal.new-requires
 new-requires c = omega (arith, few_options c.args.one.now c.requires.one, c.len.ensures)
 
-pub returns-then-have_same_options : goal.returns-then-have_same_options
-returns-then-have_same_options c = inr (not_alike c.args.one.now c.args.other.now (sym c.have_same_options.ensures.names ∙ c.if-not-have_same_options.true))
+pub returns-then-not-have_same_options : goal.returns-then-not-have_same_options
+returns-then-not-have_same_options c = inr (not_alike c.args.one.now c.args.other.now (sym c.have_same_options.ensures.names ∙ c.if-not-have_same_options.true))
 
 pub agreement-requires-clause-names : goal.agreement-requires-clause-names
 agreement-requires-clause-names c = rw c.if-not-have_same_options.false at c.have_same_options.ensures.told
