@@ -1,6 +1,6 @@
 //! Where two reports have equal ends.
 
-ghost use Rattle.std.specs.Prelude.{◌≡◌, ◌&&◌, ◌||◌, not, IfOk};
+ghost use Rattle.std.specs.Prelude.{◌&&◌, ◌||◌, not, IfOk};
 ghost use Rattle.vx_space.specs.Sets.{Extends, IsKnown, IsSet};
 ghost use Rattle.vx_bdd_tools.specs.Listing.{AreSetsOf};
 ghost use Rattle.vx_agree.specs.Ends.{AreAscending, AreEndings, have_same_end};

@@ -1,6 +1,6 @@
 //! The configurations at which two reports have equal output.
 
-ghost use Rattle.std.specs.Prelude.{◌≡◌, ◌&&◌, IfOk, [], drop};
+ghost use Rattle.std.specs.Prelude.{◌&&◌, IfOk, [], drop};
 ghost use Rattle.vx_bdd_tools.specs.Listing.{AreSetsOf};
 ghost use Rattle.vx_space.specs.Sets.{Extends, IsKnown, IsSet};
 ghost use Rattle.vx_agree.specs.Equal.{are_equal};

@@ -1,6 +1,6 @@
 //! Places that configurations have come to. Two numbers name a place: how many pieces stand before it, and how many bytes.
 
-ghost use Rattle.std.specs.Prelude.{◌≡◌, ◌<◌, ◌≤◌, true, List, OnOk, length, get_or};
+ghost use Rattle.std.specs.Prelude.{◌≡◌, ◌<◌, ◌≤◌, true, OnOk, length};
 ghost use Rattle.vx_space.specs.Sets.{Extends, IsKnown};
 ghost use Rattle.vx_agree.specs.Places.{AreKnownPlaces, IsAtPlace, IsPlaced};
 

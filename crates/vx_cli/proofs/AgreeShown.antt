@@ -1,5 +1,5 @@
 -- What the plan of `agree` gave shows in terms of the files.
-use Rattle.std.proofs.Common.{◌≡◌, ◌<◌, ℕ, List, length, IfSome, Some, None, Result, Ok, Err, inl, inr, ◌⊎◌, refl, ap, ◌∙◌, arith}
+use Rattle.std.proofs.Common.{◌≡◌, ◌<◌, ℕ, List, length, IfSome, Some, None, Result, Err, inl, inr, ◌⊎◌, refl, ap, ◌∙◌, arith}
 use Rattle.vx_io.specs.Call.{Reading}
 use Rattle.vx_io.specs.Held.{Held, FilesState, contents}
 use Rattle.vx_io.specs.Sink.{SinkState}

@@ -1,5 +1,5 @@
 -- What the plan of `interact` gave shows in terms of the files.
-use Rattle.std.proofs.Common.{◌≡◌, ◌<◌, ℕ, List, length, IfSome, Some, Result, Ok, Err, inl, inr, ◌⊎◌, refl, arith}
+use Rattle.std.proofs.Common.{◌≡◌, ◌<◌, ℕ, List, length, IfSome, Some, Result, Err, inl, inr, ◌⊎◌, refl, arith}
 use Rattle.vx_io.specs.Held.{Held, FilesState, contents}
 use Rattle.vx_io.specs.Sink.{SinkState}
 use Rattle.vx_report.specs.declared.report.Report.{Report}

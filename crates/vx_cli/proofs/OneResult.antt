@@ -10,7 +10,7 @@ use Rattle.vx_model.specs.Models.{is_allowed}
 use Rattle.vx_report_reader.proofs.Verdicts.{report_same}
 use Rattle.vx_reporting.proofs.OneText.{one_text}
 use Rattle.vx_reporting.specs.Reported.{IsReported}
-use Rattle.vx_cli.specs.Causes.{AreClasses, IsAgreeing, IsAssembled, IsInteracting, IsProjection, IsReport, IsResult, IsShown}
+use Rattle.vx_cli.specs.Causes.{AreClasses, IsAgreeing, IsInteracting, IsProjection, IsReport, IsResult, IsShown}
 use Rattle.vx_cli.specs.Command.{Agree, Asm, Command, Interact, Project, Run}
 use Rattle.vx_cli.specs.Ends.{Ends}
 use Rattle.vx_cli.specs.Job.{names_of, program_in}

@@ -1,6 +1,5 @@
 -- The plan of `interact`: the order of its questions and of its refusals.
 use Rattle.std.specs.Prelude.{ℕ, List}
-use Rattle.vx_report.specs.declared.report.Report.{Report}
 use Rattle.vx_cli.specs.Job.{Interactions}
 use Rattle.vx_cli.specs.Plan.{Plan, Write}
 use Rattle.vx_cli.specs.Reports.{read_report}

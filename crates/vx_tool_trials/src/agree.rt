@@ -68,7 +68,11 @@ fn cases_over_diagrams(rt: HostRuntime) {
         let one = report_of(&rt, rt.alloc(), case.one);
         let other = report_of(&rt, rt.alloc(), case.other);
         assert!(rt; have_same_options(&one, &other));
-        assert!(rt; matches!(over_diagrams(rt.alloc(), &one, &other, case.text), Ok(true)), "{}", case.text);
+        assert!(rt;
+            matches!(over_diagrams(rt.alloc(), &one, &other, case.text), Ok(true)),
+            "{}",
+            case.text
+        );
     }
 }
 
@@ -78,7 +82,11 @@ fn cases_over_masks(rt: HostRuntime) {
         let one = report_of(&rt, rt.alloc(), case.one);
         let other = report_of(&rt, rt.alloc(), case.other);
         assert!(rt; have_same_options(&one, &other) && one.options.len() <= 6);
-        assert!(rt; matches!(over_masks(rt.alloc(), &one, &other, case.text), Ok(true)), "{}", case.text);
+        assert!(rt;
+            matches!(over_masks(rt.alloc(), &one, &other, case.text), Ok(true)),
+            "{}",
+            case.text
+        );
     }
 }
 

@@ -39,6 +39,9 @@ fn is_text(alloc: Global, report: &Report, text: &str) -> Result<bool, AllocErro
 fn options_of_pieces_and_ends(rt: HostRuntime) {
     for (bytes, text) in CASES {
         let report = read_report(rt.alloc(), bytes.as_bytes()).expect(&rt, "a report");
-        assert!(rt; matches!(is_text(rt.alloc(), &report, text), Ok(true)), "{text}");
+        assert!(rt;
+            matches!(is_text(rt.alloc(), &report, text), Ok(true)),
+            "{text}"
+        );
     }
 }

@@ -356,15 +356,7 @@ mod tests {
         ("run f e Main 100 1", 7, 0, 0, 3, "", "read fault 5.class\n"),
         ("run f e Main 100 1", 2, 0, 0, 3, "", "read fault f\n"),
         ("run f e Main 100 1", 1, 0, 0, 3, "", "read fault e\n"),
-        (
-            "agree report report",
-            2,
-            0,
-            0,
-            3,
-            "",
-            "read fault report\n",
-        ),
+        ("agree report report", 2, 0, 0, 3, "", "read fault report\n"),
         (
             "agree report part",
             0,
