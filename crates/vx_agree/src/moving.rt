@@ -66,7 +66,10 @@ fn hold_the_same<S: Space>(
     }
     let inside = space.and(condition, one)?;
     let other_inside = space.and(condition, other)?;
-    Ok(inside == other_inside && !space.is_never(inside))
+    if inside == other_inside {
+        return Ok(!space.is_never(inside));
+    }
+    Ok(false)
 }
 
 /// The place to which the configurations of an entry come by a piece of the first output, where they are seen to go on together: just

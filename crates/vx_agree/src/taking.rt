@@ -146,13 +146,14 @@ fn begun<S: Space>(
     ensures { IfOk result (λ entries. IsBegun (S.sets space.now) piece condition entries.items) }
 {
     let mut entries = Vec::new(alloc);
-    if !space.is_never(condition) {
-        entries.push(Reached {
-            piece,
-            byte: 0,
-            condition,
-        })?;
+    if space.is_never(condition) {
+        return Ok(entries);
     }
+    entries.push(Reached {
+        piece,
+        byte: 0,
+        condition,
+    })?;
     Ok(entries)
 }
 

@@ -1,7 +1,7 @@
 use Rattle.std.proofs.Common.{◌≡◌, ◌<◌, sym, subst, true, length}
 use Rattle.vx_space.proofs.Spaces.{Extends-trans}
 use Rattle.vx_agree.proofs.Places.{place_below, place_known}
-use Rattle.vx_agree.proofs.Taken.{IsTaking-step, TakesAll-of}
+use Rattle.vx_agree.proofs.Taken.{IsTaking-none, IsTaking-step, TakesAll-of}
 use Rattle.vx_agree.proofs.taking.take_from_piece.Goals as goal
 
 pub take_part-requires-clause-entry : goal.take_part-requires-clause-entry
@@ -15,3 +15,18 @@ loop-entry-preserved g c = IsTaking-step c.args.index c.args.piece.now c.args.se
 
 pub returns-clause-takes : goal.returns-clause-takes
 returns-clause-takes g c = TakesAll-of c.args.index c.args.piece.now c.args.set c.args.byte c.args.front.now c.args.entries.now c.loop-entry.entry-index c.args.new.now.items _ _ c.loop-entry-test.false c.loop-entry.invariant
+
+pub loop-entry-init : goal.loop-entry-init
+loop-entry-init g c = rw c.new-waiting.ensures.items (IsTaking-none (g.S.Space.sets c.args.space.now) c.args.index c.args.piece.now c.args.set c.args.byte c.args.front.now c.args.entries.now c.args.new.now.items c.requires.places)
+
+pub returns-clause-extends : goal.returns-clause-extends
+returns-clause-extends g c = c.loop-entry.invariant.extends
+
+pub take_part-requires-clause-set : goal.take_part-requires-clause-set
+take_part-requires-clause-set g c = c.loop-entry.invariant.extends.known _ c.requires.set
+
+pub take_part-requires-clause-places : goal.take_part-requires-clause-places
+take_part-requires-clause-places g c = c.loop-entry.invariant.known
+
+pub take_part-requires-clause-waiting : goal.take_part-requires-clause-waiting
+take_part-requires-clause-waiting g c = c.loop-entry.invariant.known_waiting
