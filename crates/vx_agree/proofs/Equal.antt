@@ -1,5 +1,5 @@
 -- Equal outputs, and what two texts have in common at their front.
-use Rattle.std.proofs.Common.{◌≡◌, ◌⊎◌, ℕ, ◌+◌, ◌<◌, ◌≤◌, Bool, true, false, List, [], ◌∷◌, ◌++◌, length, map, drop, get_or, refl, sym, ◌∙◌, ap, subst, arith, zero, suc, inl, inr, min}
+use Rattle.std.proofs.Common.{◌≡◌, ◌⊎◌, ℕ, ◌+◌, ◌<◌, ◌≤◌, Bool, true, false, List, [], ◌∷◌, ◌++◌, length, map, drop, refl, sym, ◌∙◌, ap, subst, arith, zero, suc, inl, inr, min}
 use Rattle.std.specs.Prelude.{◌&&◌, if◌then◌else◌, nat_eq}
 use Rattle.std.proofs.lemmas.Bool.Decides.{nat_tests}
 use Rattle.std.proofs.lemmas.List.{drop-drop, drop-map, drop_all, length-drop, length-map}
@@ -81,37 +81,6 @@ common-within (x ∷ xs) (y ∷ ys) = by (common-within xs ys) (nat_eq x y)
     by : (common xs ys ≤ length xs) × (common xs ys ≤ length ys) → (b : Bool) → ((if b then suc (common xs ys) else 0) ≤ length (x ∷ xs)) × ((if b then suc (common xs ys) else 0) ≤ length (y ∷ ys))
     by h true = (omega (arith, h.0), omega (arith, h.1))
     by h false = (omega arith, omega arith)
-
--- one byte more in common, or none
-common_next : (xs ys : List ℕ) (i : ℕ) (d e : ℕ) → i < length xs → i < length ys → common (drop i xs) (drop i ys) ≡ (if nat_eq (get_or xs i d) (get_or ys i e) then suc (common (drop (suc i) xs) (drop (suc i) ys)) else 0)
-common_next [] ys i d e l m = absurd (omega (arith, l))
-common_next (x ∷ xs) [] i d e l m = absurd (omega (arith, m))
-common_next (x ∷ xs) (y ∷ ys) zero d e l m = refl
-common_next (x ∷ xs) (y ∷ ys) (suc i) d e l m = common_next xs ys i d e (omega (arith, l)) (omega (arith, m))
-
-pub common_more : (xs ys : List ℕ) (i : ℕ) (x y : ℕ) → i < length xs → i < length ys → x ≡ get_or xs i x → y ≡ get_or ys i y → x ≡ y → common xs ys ≡ i + common (drop i xs) (drop i ys) → common xs ys ≡ i + 1 + common (drop (i + 1) xs) (drop (i + 1) ys)
-common_more xs ys i x y l m p q e h =
-    let one : suc i ≡ i + 1 = omega arith in
-    let here : nat_eq (get_or xs i x) (get_or ys i y) ≡ true = ap (λ n. nat_eq n (get_or ys i y)) (sym p ∙ e ∙ q) ∙ same (get_or ys i y) in
-    let next : common (drop i xs) (drop i ys) ≡ suc (common (drop (suc i) xs) (drop (suc i) ys)) = common_next xs ys i x y l m ∙ ap (λ b. if b then suc (common (drop (suc i) xs) (drop (suc i) ys)) else 0) here in
-    let last : common xs ys ≡ i + 1 + common (drop (suc i) xs) (drop (suc i) ys) = omega (arith, h, next) in
-    subst (λ k. common xs ys ≡ i + 1 + common (drop k xs) (drop k ys)) one last
-  where
-    same : (n : ℕ) → nat_eq n n ≡ true
-    same n = grind (arith, nat_tests)
-
-pub common_stops : (xs ys : List ℕ) (i : ℕ) (x y : ℕ) → i < length xs → i < length ys → x ≡ get_or xs i x → y ≡ get_or ys i y → (x ≡ y → ⊥) → common xs ys ≡ i + common (drop i xs) (drop i ys) → i ≡ common xs ys
-common_stops xs ys i x y l m p q n h =
-    let here : nat_eq (get_or xs i x) (get_or ys i y) ≡ false = not_same (get_or xs i x) (get_or ys i y) (λ e. n (p ∙ e ∙ sym q)) in
-    let none : common (drop i xs) (drop i ys) ≡ 0 = common_next xs ys i x y l m ∙ ap (λ b. if b then suc (common (drop (suc i) xs) (drop (suc i) ys)) else 0) here in
-    omega (arith, h, none)
-  where
-    not_same : (a b : ℕ) → (a ≡ b → ⊥) → nat_eq a b ≡ false
-    not_same a b f = by (nat_eq a b) refl
-      where
-        by : (t : Bool) → nat_eq a b ≡ t → nat_eq a b ≡ false
-        by true q = absurd (f (equal_numbers a b q))
-        by false q = q
 
 pub common_ends : (xs ys : List ℕ) (most i : ℕ) → (length xs ≤ most) ⊎ (length ys ≤ most) → i ≡ most → common xs ys ≡ i + common (drop i xs) (drop i ys) → most ≡ common xs ys
 common_ends xs ys most i (inl l) e h = let none : common (drop i xs) (drop i ys) ≡ 0 = ap (λ zs. common zs (drop i ys)) (drop_all i xs (omega (arith, l, e))) in omega (arith, h, none, e)

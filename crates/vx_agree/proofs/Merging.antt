@@ -1,7 +1,6 @@
 -- The ends of two reports, gone through once in their order.
-use Rattle.std.proofs.Common.{◌≡◌, ◌⊎◌, ℕ, ◌+◌, ◌-◌, ◌<◌, ◌≤◌, Bool, true, false, List, [], ◌∷◌, length, drop, drop-cons, take, get_or, refl, sym, ◌∙◌, ap, subst, arith, zero, suc, inl, inr}
-use Rattle.std.specs.Prelude.{Option, Some, None, ◌||◌, ◌&&◌, not, if◌then◌else◌, find, option_map, slice_get}
-use Rattle.std.proofs.lemmas.List.{drop_all}
+use Rattle.std.proofs.Common.{◌≡◌, ℕ, ◌+◌, ◌-◌, ◌<◌, Bool, true, false, List, [], ◌∷◌, length, drop, drop-cons, take, get_or, refl, sym, ◌∙◌, ap, subst, arith, zero, suc}
+use Rattle.std.specs.Prelude.{Option, Some, ◌||◌, ◌&&◌, not, if◌then◌else◌, find, option_map, slice_get}
 use Rattle.std.specs.Ordering.{is_eq, ordering_reverse}
 use Rattle.std.specs.declared.cmp.Ordering.{Ordering}
 use Rattle.std.specs.declared.cmp.Ordering.TheVariants.{Less, Equal, Greater}
@@ -254,23 +253,3 @@ IsMerging-both {s = s} {s' = s'} one other i j line other_line set other_set end
     step false true true true false o r a b z = b
     step false true true false true o r a b z = z
     step false true true false false o r a b z = refl
-
--- one of the reports has no end any more
-pub IsMerging-end : {I : Type 0} {s0 s : Sets I} (one other : Report) (i j : ℕ) (endings : Endings I) → (length one.ends ≤ i) ⊎ (length other.ends ≤ j) → IsMerging s0 s one other i j endings → IsSet s endings.found (have_same_end one other)
-IsMerging-end {s = s} one other i j endings past w = record {
-  known = w.found;
-  test = λ c. sym (w.told c ∙ ap (λ b. s.test endings.found c || ((s.test endings.one c && s.test endings.other c) && b)) (none c past) ∙ nothing (s.test endings.found c) (s.test endings.one c && s.test endings.other c));
-}
-  where
-    nothing : (a b : Bool) → (a || (b && false)) ≡ a
-    nothing true b = refl
-    nothing false true = refl
-    nothing false false = refl
-
-    missing : (o : Option End) → are_one_end o None ≡ false
-    missing None = refl
-    missing (Some end) = refl
-
-    none : (c : List Bool) → (length one.ends ≤ i) ⊎ (length other.ends ≤ j) → still one other c i j ≡ false
-    none c (inl l) = ap (λ ys. are_one_end (first_end one.nodes c ys) (first_end other.nodes c (drop j other.ends))) (drop_all i one.ends l)
-    none c (inr l) = ap (λ ys. are_one_end (first_end one.nodes c (drop i one.ends)) (first_end other.nodes c ys)) (drop_all j other.ends l) ∙ missing (first_end one.nodes c (drop i one.ends))

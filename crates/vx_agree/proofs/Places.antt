@@ -176,11 +176,6 @@ at_place rs i piece byte e l q p t = record { entry = e; there = slice_get-get_o
     same : (a : ℕ) → (a == byte) ≡ true → a ≡ byte
     same a t = grind (arith, nat_tests)
 
-pub entry_within : {A : Type 0} (rs : List A) (i : ℕ) (e : A) → slice_get rs i ≡ Some e → i < length rs
-entry_within [] i e q = absurd (no_entry e q)
-entry_within (r ∷ rs) zero e q = omega arith
-entry_within (r ∷ rs) (suc i) e q = omega (arith, entry_within rs i e q)
-
 known-set : {I : Type 0} (s : Sets I) (rs : List (Reached I)) (i : ℕ) (r : Reached I) → AreKnownPlaces s rs → s.is_known r.condition ≡ true → AreKnownPlaces s (set rs i r)
 known-set s [] i r k e = tt
 known-set s (x ∷ rs) zero r k e = (e, k.1)
