@@ -1,8 +1,11 @@
-pub mod Saying
+pub mod Equal
+pub mod Left
+pub mod Sets
 pub mod Places
-pub mod Moving
-pub mod Along
-pub mod Ending
-pub mod Spelling
-pub mod FirstEnds
+pub mod Sharing
+pub mod Taken
+pub mod Moved
+pub mod Outputs
+pub mod Merging
+pub mod Names
 pub mod Agreeing

@@ -1,4 +1,9 @@
 pub mod Agreement
-pub mod Letters
-pub mod Matching
+pub mod Left
+pub mod Equal
+pub mod Places
+pub mod Taking
+pub mod Moving
 pub mod Ends
+pub mod Options
+pub mod Text

@@ -5,33 +5,33 @@ ghost use Rattle.vx_space.specs.Sets.{Extends};
 ghost use Rattle.vx_bdd_tools.specs.Listing.{AreSetsOf};
 ghost use Rattle.vx_report_reader.specs.Lawful.{IsLawful};
 ghost use Rattle.vx_agree.specs.Agreement.{IsAgreement};
+ghost use Rattle.vx_agree.specs.Ends.{AreAscending};
 
 use crate::ends::same_end;
-use crate::letter::letters_of;
-use crate::matching::same_output;
+use crate::output::same_output;
 use std::alloc::Global;
 use vx_bdd_tools::sets_of;
 use vx_report::Report;
 use vx_space::{Space, SpaceFault};
 
-/// The agreement of two reports, from the sets of their nodes.
+/// The agreement of two reports, from the sets of their nodes. Outputs are compared only where the ends are equal.
 fn agreement_of<S: Space>(
     alloc: Global,
     space: &mut S,
     one: &Report,
-    sets: &[S::Id],
+    one_sets: &[S::Id],
     other: &Report,
-    other_sets: &[S::Id],
+    sets: &[S::Id],
 ) -> Result<S::Id, SpaceFault>
-    requires sets { AreSetsOf (S.sets space.old) one.now.nodes sets.now }
-    requires other_sets { AreSetsOf (S.sets space.old) other.now.nodes other_sets.now }
+    requires one { AreSetsOf (S.sets space.old) one.now.nodes one_sets.now }
+    requires sets { AreSetsOf (S.sets space.old) other.now.nodes sets.now }
+    requires ends { AreAscending one.now.ends }
+    requires other_ends { AreAscending other.now.ends }
     ensures extends { Extends (S.sets space.old) (S.sets space.new) }
     ensures agreement { IfOk result (IsAgreement (S.sets space.new) one.now other.now) }
 {
-    let letters = letters_of(alloc, space, one, sets)?;
-    let other_letters = letters_of(alloc, space, other, other_sets)?;
-    let output = same_output(alloc, space, letters.as_slice(), other_letters.as_slice())?;
-    let end = same_end(space, one, sets, other, other_sets)?;
+    let end = same_end(space, one, one_sets, other, sets)?;
+    let output = same_output(alloc, space, one, one_sets, other, sets, end)?;
     space.and(output, end)
 }
 
@@ -50,14 +50,14 @@ pub fn agreement<S: Space>(
     ensures extends { Extends (S.sets space.old) (S.sets space.new) }
     ensures agreement { IfOk result (IsAgreement (S.sets space.new) one.now other.now) }
 {
-    let sets = sets_of(alloc, space, one.nodes.as_slice())?;
-    let other_sets = sets_of(alloc, space, other.nodes.as_slice())?;
+    let one_sets = sets_of(alloc, space, one.nodes.as_slice())?;
+    let sets = sets_of(alloc, space, other.nodes.as_slice())?;
     agreement_of(
         alloc,
         space,
         one,
-        sets.as_slice(),
+        one_sets.as_slice(),
         other,
-        other_sets.as_slice(),
+        sets.as_slice(),
     )
 }

@@ -2,12 +2,16 @@
 use Rattle.std.proofs.Common.{◌≡◌, ℕ, List, IfSome, Ok, Some, ap, sym, subst, ◌∙◌}
 use Rattle.vx_io.specs.Held.{FilesState, Held, contents}
 use Rattle.vx_io.specs.Sink.{Gains, SinkState}
+use Rattle.vx_agree.proofs.Agreeing.{one_agreement_text}
+use Rattle.vx_agree.specs.Text.{IsAgreementText}
+use Rattle.vx_interact.proofs.OneText.{one_interactions_text}
+use Rattle.vx_interact.specs.Text.{IsInteractionsText}
 use Rattle.vx_model.specs.Models.{is_allowed}
 use Rattle.vx_report_reader.proofs.Verdicts.{report_same}
 use Rattle.vx_reporting.proofs.OneText.{one_text}
 use Rattle.vx_reporting.specs.Reported.{IsReported}
-use Rattle.vx_cli.specs.Causes.{AreClasses, IsAssembled, IsProjection, IsReport, IsResult, IsShown}
-use Rattle.vx_cli.specs.Command.{Asm, Command, Project, Run}
+use Rattle.vx_cli.specs.Causes.{AreClasses, IsAgreeing, IsInteracting, IsProjection, IsReport, IsResult, IsShown}
+use Rattle.vx_cli.specs.Command.{Agree, Asm, Command, Interact, Project, Run}
 use Rattle.vx_cli.specs.Ends.{Ends}
 use Rattle.vx_cli.specs.Job.{names_of, program_in}
 use Rattle.vx_cli.specs.PlanOf.{plan_of}
@@ -37,9 +41,22 @@ one_projection held path word one other h k =
     let report : h.report ≡ k.report = report_same (contents held path) h.report k.report h.is_report.spells k.is_report.spells in
     same_value one other (projected h.report word) h.is_text (subst (λ r. projected r word ≡ Ok other) (sym report) k.is_text)
 
+one_interacting : (held : Held) (path one other : List ℕ) → IsInteracting held path one → IsInteracting held path other → one ≡ other
+one_interacting held path one other h k =
+    let report : h.report ≡ k.report = report_same (contents held path) h.report k.report h.is_report.spells k.is_report.spells in
+    one_interactions_text h.report one other h.is_text (subst (λ r. IsInteractionsText r other) (sym report) k.is_text)
+
+one_agreeing : (held : Held) (path against one other : List ℕ) → IsAgreeing held path against one → IsAgreeing held path against other → one ≡ other
+one_agreeing held path against one other h k =
+    let report : h.report ≡ k.report = report_same (contents held path) h.report k.report h.is_report.spells k.is_report.spells in
+    let reference : h.against ≡ k.against = report_same (contents held against) h.against k.against h.is_other.spells k.is_other.spells in
+    one_agreement_text h.report h.against one other h.is_text (subst (λ r. IsAgreementText r h.against other) (sym report) (subst (λ r. IsAgreementText k.report r other) (sym reference) k.is_text))
+
 one_result : (held : Held) (command : Command) (one other : List ℕ) → IsResult held command one → IsResult held command other → one ≡ other
 one_result held (Run folder path main limit version) one other h k = one_report held folder path main limit version one other h k
 one_result held (Project path word) one other h k = one_projection held path word one other h k
+one_result held (Interact path) one other h k = one_interacting held path one other h k
+one_result held (Agree path against) one other h k = one_agreeing held path against one other h k
 one_result held (Asm path) one other h k = same_value one other _ h.is_text k.is_text
 
 -- a call that is done has written each text that its command asks for, of which there is one

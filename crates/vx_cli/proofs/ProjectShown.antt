@@ -1,17 +1,18 @@
 -- What the plan of `project` gave shows in terms of the files.
-use Rattle.std.proofs.Common.{◌≡◌, ◌≤◌, ◌<◌, ℕ, List, length, IfSome, Option, None, Some, Result, Ok, Err, inl, inr, ◌⊎◌, refl, ap, sym, ◌∙◌, arith, subst}
+use Rattle.std.proofs.Common.{◌≡◌, ◌<◌, ℕ, List, length, IfSome, Option, None, Some, Result, Ok, Err, inl, inr, ◌⊎◌, refl, ap, sym, ◌∙◌, arith}
 use Rattle.vx_io.specs.Held.{Held, FilesState, contents}
 use Rattle.vx_io.specs.Sink.{SinkState}
 use Rattle.vx_report.specs.declared.report.Report.{Report}
-use Rattle.vx_report_reader.specs.Rules.{ReportText}
 use Rattle.vx_cli.specs.declared.status.Status.{Status}
 use Rattle.vx_cli.specs.declared.status.Status.TheVariants.{Done, NoMemory, ReadFault, WriteFault, BadReport, NotAllowed, TooLarge}
-use Rattle.vx_cli.specs.Causes.{IsReportIn, ProjectCause, Shows, IsShown, IsGood, NothingFails}
+use Rattle.vx_cli.specs.Causes.{IsBadAt, IsReportIn, ProjectCause, Shows, IsShown, IsGood, NothingFails}
 use Rattle.vx_cli.specs.Command.{Project}
 use Rattle.vx_cli.specs.Job.{Exactly}
-use Rattle.vx_cli.specs.Plan.{MayGive, Write, As_report, IsBadReport}
-use Rattle.vx_cli.specs.Project.{most_report_bytes, or_not_allowed, projected, project_report, project_plan}
-use Rattle.vx_cli.proofs.Told.{told_map, IsText, SizedShows, sized_shows, attempt_cases, ok_and_err}
+use Rattle.vx_cli.specs.Plan.{MayGive, Write}
+use Rattle.vx_cli.specs.Project.{or_not_allowed, projected, project_report, project_plan}
+use Rattle.vx_cli.specs.Reports.{most_report_bytes}
+use Rattle.vx_cli.proofs.ReportTold.{ReportShows, not_bad, report_shows}
+use Rattle.vx_cli.proofs.Told.{told_map, attempt_cases, ok_and_err}
 
 -- a configuration is refused as not allowed alone
 not_allowed_alone : (o : Option (List ℕ)) (status : Status) → or_not_allowed o ≡ Err status → status ≡ NotAllowed
@@ -20,34 +21,25 @@ not_allowed_alone (Some text) status e = cc
 
 -- whatever the plan of `project` gave is shown by the files
 pub project_shows : (old new : FilesState) (path word : List ℕ) (outcome : Result (List ℕ) Status) → MayGive old.held old.faults new.faults (project_plan path word) outcome → Shows old new (Project path word) outcome
-project_shows old new path word outcome g = by_file (sized_shows old new most_report_bytes path path _ outcome g)
+project_shows old new path word outcome g = by_file (report_shows old new path (project_report word) outcome g)
   where
     refused : (status : Status) → outcome ≡ Err status → ProjectCause old new path word status → Shows old new (Project path word) outcome
     refused status e cause = rw e cause
 
-    is_report : (bytes : List ℕ) (report : Report) (held : Held) → ReportText bytes report → (length (contents held path) ≤ most_report_bytes) × (bytes ≡ contents held path) → IsReportIn held path report
-    is_report bytes report held spells h = record { fits = h.0; spells = (let P : List ℕ → Type 0 = λ b. ReportText b report in subst P h.1 spells) }
-
-    is_bad : (bytes : List ℕ) (line : ℕ) (held : Held) → IsBadReport bytes line → (length (contents held path) ≤ most_report_bytes) × (bytes ≡ contents held path) → (length (contents held path) ≤ most_report_bytes) × IsBadReport (contents held path) line
-    is_bad bytes line held bad h = (h.0, (let P : List ℕ → Type 0 = λ b. IsBadReport b line in subst P h.1 bad))
-
-    by_text : (bytes : List ℕ) (report : Report) → IsText old most_report_bytes path bytes → ReportText bytes report
+    by_text : (report : Report) → IfSome old.held (λ held. IsReportIn held path report)
         → ((status : Status) × (projected report word ≡ Err status) × (outcome ≡ Err status)) ⊎ ((text : List ℕ) × (projected report word ≡ Ok text) × MayGive old.held old.faults new.faults (Write (Exactly text)) outcome)
         → Shows old new (Project path word) outcome
-    by_text bytes report told spells (inl bad) =
+    by_text report told (inl bad) =
         let is = not_allowed_alone _ bad.0 bad.1 in
-        refused NotAllowed (bad.2 ∙ ap Err is) (told_map old.held _ _ (λ held h. (report, is_report bytes report held spells h, bad.1 ∙ ap Err is)) told)
-    by_text bytes report told spells (inr good) =
-        rw good.2.2 (told_map old.held _ _ (λ held h. record { report = report; is_report = is_report bytes report held spells h; is_text = good.1 ∙ ap Ok (sym good.2.1) }) told)
+        refused NotAllowed (bad.2 ∙ ap Err is) (told_map old.held _ _ (λ held h. (report, h, bad.1 ∙ ap Err is)) told)
+    by_text report told (inr good) =
+        rw good.2.2 (told_map old.held _ _ (λ held h. record { report = report; is_report = h; is_text = good.1 ∙ ap Ok (sym good.2.1) }) told)
 
-    by_report : (bytes : List ℕ) → IsText old most_report_bytes path bytes → MayGive old.held old.faults new.faults (As_report bytes (project_report word)) outcome → Shows old new (Project path word) outcome
-    by_report bytes told (inl bad) = refused (BadReport bad.0) bad.2 (told_map old.held _ _ (λ held h. is_bad bytes bad.0 held bad.1 h) told)
-    by_report bytes told (inr good) = by_text bytes good.0 told good.1 (attempt_cases old.held old.faults new.faults (projected good.0 word) _ outcome good.2)
-
-    by_file : SizedShows old new most_report_bytes path path (λ bytes. As_report bytes (project_report word)) outcome → Shows old new (Project path word) outcome
-    by_file (inl (inl fault)) = refused (ReadFault path) fault.1 (refl, fault.0)
-    by_file (inl (inr large)) = refused (TooLarge path most_report_bytes) large.1 (refl, refl, large.0)
-    by_file (inr read) = by_report read.0 read.1 read.2
+    by_file : ReportShows old new path (project_report word) outcome → Shows old new (Project path word) outcome
+    by_file (inl fault) = refused (ReadFault path) fault.1 (refl, fault.0)
+    by_file (inr (inl large)) = refused (TooLarge path most_report_bytes) large.1 (refl, refl, large.0)
+    by_file (inr (inr (inl bad))) = refused (BadReport bad.0) bad.2 bad.1
+    by_file (inr (inr (inr read))) = by_text read.0 read.1 (attempt_cases old.held old.faults new.faults (projected read.0 word) _ outcome read.2)
 
 -- a projection of a good report, in which nothing fails, is done
 pub project_completes : (old new : FilesState) (out out' : SinkState) (path word : List ℕ) (held : Held) (status : Status) → old.held ≡ Some held → IsGood held (Project path word) → NothingFails held old new out out' (Project path word)
@@ -56,9 +48,6 @@ project_completes old new out out' path word held status told good fails shown =
   where
     here : (P : Held → Type 0) → IfSome old.held P → P held
     here P h = rw told at h
-
-    not_bad : (line : ℕ) → (length (contents held path) ≤ most_report_bytes) × IsBadReport (contents held path) line → ⊥
-    not_bad line h = h.1.none good.0.0 good.0.1.spells
 
     allowed : (r : Report) × IsReportIn held path r × (projected r word ≡ Err NotAllowed) → ⊥
     allowed h = let text = good.1 h.0 h.1 in ok_and_err text.0 NotAllowed (projected h.0 word) text.1 h.2
@@ -69,6 +58,6 @@ project_completes old new out out' path word held status told good fails shown =
     by_status WriteFault h = absurd (fails.1 h.0)
     by_status (ReadFault p) h = absurd (omega (arith, h.0.1, fails.0))
     by_status (TooLarge p room) h = let k = here (λ held. most_report_bytes < length (contents held path)) h.0.2 in absurd (omega (arith, k, good.0.1.fits))
-    by_status (BadReport line) h = absurd (not_bad line (here (λ held. (length (contents held path) ≤ most_report_bytes) × IsBadReport (contents held path) line) h.0))
+    by_status (BadReport line) h = absurd (not_bad held path line good.0.0 good.0.1 (here (λ held. IsBadAt held path line) h.0))
     by_status NotAllowed h = absurd (allowed (here (λ held. (r : Report) × IsReportIn held path r × (projected r word ≡ Err NotAllowed)) h.0))
     by_status s h = absurd h.0

@@ -1,5 +1,5 @@
 -- What a run of a linked program came to, in terms of its class files and its model.
-use Rattle.std.proofs.Common.{◌≡◌, ◌<◌, ◌≤◌, ◌⊎◌, ℕ, Bool, true, List, MatchResult, Result, Ok, Err, Vec, Global, arith, refl, sym, ap, subst, length, inl, inr}
+use Rattle.std.proofs.Common.{◌≡◌, ◌<◌, ◌≤◌, ◌⊎◌, ℕ, Bool, List, MatchResult, Result, Ok, Err, Vec, Global, arith, sym, ap, subst, length, inl, inr}
 use Rattle.std.specs.Prelude.{All}
 use Rattle.vx_class.specs.File.{Holds}
 use Rattle.vx_class.specs.declared.class_file.ClassFile.{ClassFile}

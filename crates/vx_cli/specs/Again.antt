@@ -10,7 +10,7 @@ use Rattle.vx_report.specs.Projection.{projection_text}
 use Rattle.vx_reporting.specs.Reported.{IsReported}
 use Rattle.vx_cli.specs.Configuration.{configuration_of}
 use Rattle.vx_cli.specs.Job.{names_of}
-use Rattle.vx_cli.specs.Project.{most_report_bytes}
+use Rattle.vx_cli.specs.Reports.{most_report_bytes}
 
 -- a report of `run`, by its version, its model, its limit and its program, and a configuration that it is asked for
 pub record Asked : Type 0 where

@@ -7,12 +7,8 @@ use Rattle.vx_cli.specs.declared.status.Status.{Status}
 use Rattle.vx_cli.specs.declared.status.Status.TheVariants.{NotAllowed}
 use Rattle.vx_cli.specs.Configuration.{configuration_of}
 use Rattle.vx_cli.specs.Job.{Exactly}
-use Rattle.vx_cli.specs.Plan.{Plan, Write, As_report, attempt}
-use Rattle.vx_cli.specs.Sized.{read_sized}
-
--- the room for a report
-abbrev pub most_report_bytes : ℕ
-most_report_bytes = 268435456
+use Rattle.vx_cli.specs.Plan.{Plan, Write, attempt}
+use Rattle.vx_cli.specs.Reports.{read_report}
 
 -- what a report says of a configuration, if it says something
 abbrev pub text_at : Report → Option (List Bool) → Option (List ℕ)
@@ -32,4 +28,4 @@ project_report word report = attempt (projected report word) (λ text. Write (Ex
 
 -- the plan of `project`: the report, and then the configuration
 abbrev pub project_plan : List ℕ → List ℕ → Plan
-project_plan path word = read_sized most_report_bytes path path (λ bytes. As_report bytes (project_report word))
+project_plan path word = read_report path (project_report word)

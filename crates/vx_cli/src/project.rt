@@ -1,34 +1,17 @@
 //! The command `project`: reads a report, and gives what it says of one configuration.
 
 ghost use Rattle.std.specs.Prelude.{◌≡◌, ◌⊎◌, Ok, Err, IfOk, IfErr, MatchResult};
-ghost use Rattle.vx_report_reader.specs.Rules.{ReportText};
 ghost use Rattle.vx_cli.specs.KeepsFiles.{KeepsFiles};
-ghost use Rattle.vx_cli.specs.Plan.{IsRefused, MayGive, MayStop};
+ghost use Rattle.vx_cli.specs.Plan.{MayGive, MayStop};
 ghost use Rattle.vx_cli.specs.Project.{projected, project_plan};
 
 use crate::configuration::configuration_of;
-use crate::reading::read_file;
+use crate::reports::read_report_file;
 use crate::status::Status;
 use crate::words::ProjectWords;
 use std::alloc::Global;
 use vx_io::Files;
 use vx_report::{Report, project_text};
-use vx_report_reader::{ReportFault, read_report};
-
-/// The most bytes of a report.
-const MOST_REPORT_BYTES: u64 = 268_435_456;
-
-/// The report that bytes spell, or the refusal of its first bad line.
-fn report_in(alloc: Global, bytes: &[u8]) -> Result<Report, Status>
-    ensures ok { IfOk result (λ report. ReportText bytes.now report) }
-    ensures err { IfErr result (λ status. IsRefused bytes.now status) }
-{
-    match read_report(alloc, bytes) {
-        Ok(report) => Ok(report),
-        Err(ReportFault::NoMemory) => Err(Status::NoMemory),
-        Err(ReportFault::Line { line }) => Err(Status::BadReport { line }),
-    }
-}
 
 /// What a report says of the configuration that a word names.
 fn projected(alloc: Global, report: &Report, word: &str) -> Result<Vec<u8>, Status>
@@ -56,7 +39,6 @@ pub fn projection<F: Files>(
         (project_plan words.entry.report.now words.entry.configuration.now) status) }
     ensures keeps { KeepsFiles (F.seen files.old) (F.seen files.new) }
 {
-    let bytes = read_file(alloc, files, MOST_REPORT_BYTES, words.report, words.report)?;
-    let report = report_in(alloc, bytes.as_slice())?;
+    let report = read_report_file(alloc, files, words.report)?;
     projected(alloc, &report, words.configuration)
 }

@@ -1,3 +1,4 @@
 mod NodeOptions
 mod OptionBits
-mod Entries
+pub mod Entries
+pub mod OneText

@@ -1,8 +1,10 @@
 -- The text of interactions: a head, a line for each entry, and a last line.
-use Rattle.std.specs.Prelude.{ℕ, Bool, true, false, List, [], ◌∷◌, ◌++◌, length, codes, decimal}
+use Rattle.std.specs.Prelude.{◌≡◌, ℕ, Bool, true, false, List, [], ◌∷◌, ◌++◌, length, codes, decimal}
 use Rattle.std.specs.List.{flat_map}
 use Rattle.vx_list.specs.Places.{item_or}
 use Rattle.vx_interact.specs.declared.interaction.Interaction.{Interaction}
+use Rattle.vx_interact.specs.Interactions.{AreInteractions}
+use Rattle.vx_report.specs.declared.report.Report.{Report}
 
 abbrev pub kind_word : Bool → List ℕ
 kind_word true = codes "piece"
@@ -23,3 +25,9 @@ entry_text names entry = kind_word entry.piece ++ codes " " ++ decimal entry.ind
 
 unfoldable pub interactions_text : List (List ℕ) → List Interaction → List ℕ
 interactions_text names entries = codes "varexj interact 1\n" ++ flat_map (entry_text names) entries ++ codes "done\n"
+
+-- the text is that of the interactions of a report
+pub record IsInteractionsText (report : Report) (text : List ℕ) : Type 0 where
+  pub entries : List Interaction
+  pub are : AreInteractions report entries
+  pub spelled : text ≡ interactions_text report.options entries

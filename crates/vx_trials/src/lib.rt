@@ -86,7 +86,7 @@ mod tests {
         ),
     ];
 
-    const FILES: [(&str, &[u8]); 41] = [
+    const FILES: [(&str, &[u8]); 42] = [
         ("m", b"option A Main A\n"),
         ("e", b""),
         ("r", b"option A Main A\nrule true\n"),
@@ -108,6 +108,10 @@ mod tests {
         (
             "part",
             b"varexj report 1\noptions 1\noption A\nlimit 100\nrounds 4\nnode 2 0 0 1\nout 2 1\\0a\nend 2 return\ndone\n",
+        ),
+        (
+            "plain",
+            b"varexj report 1\noptions 0\nlimit 100\nrounds 4\nout 1 2\\0a\nend 1 return\ndone\n",
         ),
         ("word", b"klass 0021 Main java/lang/Object\n"),
         ("e.cnf", b""),
@@ -140,7 +144,7 @@ mod tests {
     ];
 
     /// Words, and what has to come: the code, `out`, and `err`.
-    const CASES: [(&str, u8, &str, &str); 40] = [
+    const CASES: [(&str, u8, &str, &str); 51] = [
         (
             "run a m Main 100 1",
             0,
@@ -299,12 +303,38 @@ mod tests {
         ("project report A", 0, "out 1\\0a\nend return\n", ""),
         ("project part -", 11, "", "not allowed\n"),
         ("project cut -", 10, "", "bad report line 6\n"),
+        (
+            "interact report",
+            0,
+            "varexj interact 1\npiece 1 1 A\npiece 2 1 A\nend 1 0 -\ndone\n",
+            "",
+        ),
+        ("interact cut", 10, "", "bad report line 6\n"),
+        ("interact report A", 2, "", "usage\n"),
+        (
+            "agree report report",
+            0,
+            "varexj agree 1\noptions 1\noption A\nagree 1\ndone\n",
+            "",
+        ),
+        (
+            "agree report part",
+            0,
+            "varexj agree 1\noptions 1\noption A\nnode 2 0 0 1\nagree 2\ndone\n",
+            "",
+        ),
+        ("agree report plain", 14, "", "unlike\n"),
+        ("agree report cut", 10, "", "bad report line 6\n"),
+        ("agree cut absent", 10, "", "bad report line 6\n"),
+        ("agree absent cut", 3, "", "read fault absent\n"),
+        ("agree report absent", 3, "", "read fault absent\n"),
+        ("agree report", 2, "", "usage\n"),
         ("asm word", 12, "", "bad source line 1 reason 1\n"),
         ("asm", 2, "", "usage\n"),
     ];
 
     /// Words, the calls of the files, of `out` and of `err` that fail, and what has to come.
-    const FAULTS: [(&str, u64, u64, u64, u8, &str, &str); 6] = [
+    const FAULTS: [(&str, u64, u64, u64, u8, &str, &str); 8] = [
         (
             "run n e Main 100 1",
             0,
@@ -326,6 +356,16 @@ mod tests {
         ("run f e Main 100 1", 7, 0, 0, 3, "", "read fault 5.class\n"),
         ("run f e Main 100 1", 2, 0, 0, 3, "", "read fault f\n"),
         ("run f e Main 100 1", 1, 0, 0, 3, "", "read fault e\n"),
+        ("agree report report", 2, 0, 0, 3, "", "read fault report\n"),
+        (
+            "agree report part",
+            0,
+            2,
+            0,
+            4,
+            "varexj agr",
+            "write fault\n",
+        ),
         (
             "run f absent Main 100 1",
             0,

@@ -1,43 +1,100 @@
-use Rattle.vx_space.proofs.Spaces.{Extends-trans}
-use Rattle.vx_report.specs.Projection.{end_at}
-use Rattle.vx_agree.proofs.FirstEnds.{AreSetsOf-extends, IsMatching-start, IsMatching-step, IsMatching-all}
+use Rattle.std.proofs.Common.{◌∙◌, ap, get_or, sym, subst}
+use Rattle.vx_value.specs.Ends.{compare_ends}
+use Rattle.vx_space.specs.Sets.{IsSet}
+use Rattle.vx_bdd_tools.specs.Nodes.{holds}
+use Rattle.vx_agree.proofs.Merging.{IsMerging-both, IsMerging-one, IsMerging-other, IsMerging-start}
+use Rattle.vx_agree.proofs.Places.{one_item}
+use Rattle.vx_agree.proofs.Sets.{AreSetsOf-extends}
 use Rattle.vx_agree.proofs.ends.same_end.Goals as goal
 
-pub loop-line-init : goal.loop-line-init
-loop-line-init g c = rw (c.never-found.ensures, c.always-rest.ensures) (IsMatching-start (g.met.S.Space.lawful c.args.space.now) c.args.one.now.nodes (end_at c.args.other.now))
+pub loop-place-preserved-in-Less : goal.loop-place-preserved-in-Less
+loop-place-preserved-in-Less g c =
+    let one = c.args.one.now in
+    let other = c.args.other.now in
+    let s = g.S.Space.sets c.loop-place.space in
+    let line = c.index-ends-place-in-loop-place.result in
+    let other_line = c.index-other_ends-other_place-in-loop-place.result in
+    let l = rw c.as_slice-ends.ensures at c.loop-place-test.true in
+    let m = rw c.as_slice-other_ends.ensures at c.if-other_place-other_ends.true in
+    let is = rw c.as_slice-ends.ensures at c.index-ends-place-in-loop-place.is in
+    let other_is = rw c.as_slice-other_ends.ensures at c.index-other_ends-other_place-in-loop-place.is in
+    let same = one_item one.ends c.loop-place.place c.index-ends-place.result line l (rw c.as_slice-ends.ensures at c.index-ends-place.is) is in
+    let set = subst (λ x. IsSet s c.set_of-set.result (holds one.nodes x.node)) (sym c.index-ends-place.is ∙ same) (c.set_of-set.ensures one.nodes (AreSetsOf-extends c.loop-place.invariant.extends one.nodes c.args.one_sets.now c.requires.one)) in
+    IsMerging-one one other c.loop-place.place c.loop-place.other_place line other_line c.set_of-set.result c.loop-place.endings c.in_ok-endings-in-Less.endings l m is other_is c.requires.other_ends set (ap (λ x. compare_ends x.end other_line.end) c.index-ends-place-in-loop-place.is ∙ ap (λ y. compare_ends (get_or c.as_slice-ends.result.now c.loop-place.place line).end y.end) c.index-other_ends-other_place-in-loop-place.is ∙ sym c.in-Less.ensures) c.past_one.ensures.extends c.loop-place.invariant c.in_ok-endings-in-Less.ensures.ok
 
-pub and-requires-clause-first : goal.and-requires-clause-first
-and-requires-clause-first g c = c.loop-line.invariant.rest_known
+pub loop-place-preserved-in-Greater : goal.loop-place-preserved-in-Greater
+loop-place-preserved-in-Greater g c =
+    let one = c.args.one.now in
+    let other = c.args.other.now in
+    let s = g.S.Space.sets c.loop-place.space in
+    let line = c.index-ends-place-in-loop-place.result in
+    let other_line = c.index-other_ends-other_place-in-loop-place.result in
+    let l = rw c.as_slice-ends.ensures at c.loop-place-test.true in
+    let m = rw c.as_slice-other_ends.ensures at c.if-other_place-other_ends.true in
+    let is = rw c.as_slice-ends.ensures at c.index-ends-place-in-loop-place.is in
+    let other_is = rw c.as_slice-other_ends.ensures at c.index-other_ends-other_place-in-loop-place.is in
+    let same = one_item other.ends c.loop-place.other_place c.index-other_ends-other_place.result other_line m (rw c.as_slice-other_ends.ensures at c.index-other_ends-other_place.is) other_is in
+    let set = subst (λ x. IsSet s c.set_of-other_set.result (holds other.nodes x.node)) (sym c.index-other_ends-other_place.is ∙ same) (c.set_of-other_set.ensures other.nodes (AreSetsOf-extends c.loop-place.invariant.extends other.nodes c.args.sets.now c.requires.sets)) in
+    IsMerging-other one other c.loop-place.place c.loop-place.other_place line other_line c.set_of-other_set.result c.loop-place.endings c.in_ok-endings-in-Greater.endings l m is other_is c.requires.ends set (ap (λ x. compare_ends x.end other_line.end) c.index-ends-place-in-loop-place.is ∙ ap (λ y. compare_ends (get_or c.as_slice-ends.result.now c.loop-place.place line).end y.end) c.index-other_ends-other_place-in-loop-place.is ∙ sym c.in-Greater.ensures) c.past_other.ensures.extends c.loop-place.invariant c.in_ok-endings-in-Greater.ensures.ok
 
-pub and-requires-clause-second : goal.and-requires-clause-second
-and-requires-clause-second g c = (c.set_of-set.ensures c.args.one.now.nodes (AreSetsOf-extends c.loop-line.invariant.extends c.args.one.now.nodes c.args.sets.now c.requires.sets)).known
+pub loop-place-preserved : goal.loop-place-preserved
+loop-place-preserved g c =
+    let one = c.args.one.now in
+    let other = c.args.other.now in
+    let s = g.S.Space.sets c.loop-place.space in
+    let line = c.index-ends-place-in-loop-place.result in
+    let other_line = c.index-other_ends-other_place-in-loop-place.result in
+    let l = rw c.as_slice-ends.ensures at c.loop-place-test.true in
+    let m = rw c.as_slice-other_ends.ensures at c.if-other_place-other_ends.true in
+    let is = rw c.as_slice-ends.ensures at c.index-ends-place-in-loop-place.is in
+    let other_is = rw c.as_slice-other_ends.ensures at c.index-other_ends-other_place-in-loop-place.is in
+    let same = one_item one.ends c.loop-place.place c.index-ends-place.result line l (rw c.as_slice-ends.ensures at c.index-ends-place.is) is in
+    let other_same = one_item other.ends c.loop-place.other_place c.index-other_ends-other_place.result other_line m (rw c.as_slice-other_ends.ensures at c.index-other_ends-other_place.is) other_is in
+    let set = subst (λ x. IsSet s c.set_of-set.result (holds one.nodes x.node)) (sym c.index-ends-place.is ∙ same) (c.set_of-set.ensures one.nodes (AreSetsOf-extends c.loop-place.invariant.extends one.nodes c.args.one_sets.now c.requires.one)) in
+    let other_set = subst (λ x. IsSet s c.set_of-other_set.result (holds other.nodes x.node)) (sym c.index-other_ends-other_place.is ∙ other_same) (c.set_of-other_set.ensures other.nodes (AreSetsOf-extends c.loop-place.invariant.extends other.nodes c.args.sets.now c.requires.sets)) in
+    IsMerging-both one other c.loop-place.place c.loop-place.other_place line other_line c.set_of-set.result c.set_of-other_set.result c.loop-place.endings c.in_ok-endings-in-Equal.endings l m is other_is c.requires.ends c.requires.other_ends set other_set (ap (λ x. compare_ends x.end other_line.end) c.index-ends-place-in-loop-place.is ∙ ap (λ y. compare_ends (get_or c.as_slice-ends.result.now c.loop-place.place line).end y.end) c.index-other_ends-other_place-in-loop-place.is ∙ sym c.in-Equal.ensures) c.past_both.ensures.extends c.loop-place.invariant c.in_ok-endings-in-Equal.ensures.ok
 
-pub joined_with_end-requires-clause-found : goal.joined_with_end-requires-clause-found
-joined_with_end-requires-clause-found g c = c.in_ok-part.ensures.extends.known _ c.loop-line.invariant.found_known
+pub loop-place-init : goal.loop-place-init
+loop-place-init g c = rw (c.never.ensures, c.always.ensures, c.always-2.ensures) (IsMerging-start (g.met.S.Space.lawful c.args.space.now) c.args.one.now c.args.other.now)
 
-pub joined_with_end-requires-clause-sets : goal.joined_with_end-requires-clause-sets
-joined_with_end-requires-clause-sets g c = AreSetsOf-extends (Extends-trans c.loop-line.invariant.extends c.in_ok-part.ensures.extends) c.args.other.now.nodes c.args.other_sets.now c.requires.other_sets
+pub past_one-requires-clause-found : goal.past_one-requires-clause-found
+past_one-requires-clause-found g c = c.loop-place.invariant.found
 
-pub minus-requires-clause-first : goal.minus-requires-clause-first
-minus-requires-clause-first g c = (Extends-trans c.in_ok-part.ensures.extends c.in_ok-found.ensures.extends).known _ c.loop-line.invariant.rest_known
+pub past_one-requires-clause-one : goal.past_one-requires-clause-one
+past_one-requires-clause-one g c = c.loop-place.invariant.one_known
 
-pub minus-requires-clause-second : goal.minus-requires-clause-second
-minus-requires-clause-second g c = (Extends-trans c.in_ok-part.ensures.extends c.in_ok-found.ensures.extends).known _ (c.set_of-set.ensures c.args.one.now.nodes (AreSetsOf-extends c.loop-line.invariant.extends c.args.one.now.nodes c.args.sets.now c.requires.sets)).known
+pub past_one-requires-clause-other : goal.past_one-requires-clause-other
+past_one-requires-clause-other g c = c.loop-place.invariant.other_known
 
-pub returns-in_err-part-clause-extends : goal.returns-in_err-part-clause-extends
-returns-in_err-part-clause-extends g c = Extends-trans c.loop-line.invariant.extends c.and.ensures.extends
+pub past_one-requires-clause-set : goal.past_one-requires-clause-set
+past_one-requires-clause-set g c = (c.set_of-set.ensures c.args.one.now.nodes (AreSetsOf-extends c.loop-place.invariant.extends c.args.one.now.nodes c.args.one_sets.now c.requires.one)).known
 
-pub returns-in_err-found-clause-extends : goal.returns-in_err-found-clause-extends
-returns-in_err-found-clause-extends g c = Extends-trans c.loop-line.invariant.extends (Extends-trans c.in_ok-part.ensures.extends c.joined_with_end.ensures.extends)
+pub past_other-requires-clause-found : goal.past_other-requires-clause-found
+past_other-requires-clause-found g c = c.loop-place.invariant.found
 
-pub returns-in_err-rest-clause-extends : goal.returns-in_err-rest-clause-extends
-returns-in_err-rest-clause-extends g c = Extends-trans c.loop-line.invariant.extends (Extends-trans c.in_ok-part.ensures.extends (Extends-trans c.in_ok-found.ensures.extends c.minus.ensures.extends))
+pub past_other-requires-clause-one : goal.past_other-requires-clause-one
+past_other-requires-clause-one g c = c.loop-place.invariant.one_known
 
-pub loop-line-preserved : goal.loop-line-preserved
-loop-line-preserved g c = IsMatching-step c.args.one.now.nodes _ c.args.one.now.ends c.loop-line.line-index c.line-item.result (end_at c.args.other.now) c.loop-line.found c.loop-line.rest c.set_of-set.result c.in_ok-part.part c.in_ok-found.found c.in_ok-rest.rest c.as_slice-line-items.ensures c.loop-line-test.true c.line-item.is c.loop-line.invariant (c.set_of-set.ensures c.args.one.now.nodes (AreSetsOf-extends c.loop-line.invariant.extends c.args.one.now.nodes c.args.sets.now c.requires.sets)) c.in_ok-part.ensures.extends c.in_ok-found.ensures.extends c.in_ok-rest.ensures.extends c.in_ok-part.ensures.ok c.in_ok-found.ensures.ok c.in_ok-rest.ensures.ok
+pub past_other-requires-clause-other : goal.past_other-requires-clause-other
+past_other-requires-clause-other g c = c.loop-place.invariant.other_known
+
+pub past_other-requires-clause-set : goal.past_other-requires-clause-set
+past_other-requires-clause-set g c = (c.set_of-other_set.ensures c.args.other.now.nodes (AreSetsOf-extends c.loop-place.invariant.extends c.args.other.now.nodes c.args.sets.now c.requires.sets)).known
+
+pub past_both-requires-clause-found : goal.past_both-requires-clause-found
+past_both-requires-clause-found g c = c.loop-place.invariant.found
+
+pub past_both-requires-clause-one : goal.past_both-requires-clause-one
+past_both-requires-clause-one g c = c.loop-place.invariant.one_known
+
+pub past_both-requires-clause-other : goal.past_both-requires-clause-other
+past_both-requires-clause-other g c = c.loop-place.invariant.other_known
+
+pub past_both-requires-clause-set : goal.past_both-requires-clause-set
+past_both-requires-clause-set g c = (c.set_of-set.ensures c.args.one.now.nodes (AreSetsOf-extends c.loop-place.invariant.extends c.args.one.now.nodes c.args.one_sets.now c.requires.one)).known
+
+pub past_both-requires-clause-other_set : goal.past_both-requires-clause-other_set
+past_both-requires-clause-other_set g c = (c.set_of-other_set.ensures c.args.other.now.nodes (AreSetsOf-extends c.loop-place.invariant.extends c.args.other.now.nodes c.args.sets.now c.requires.sets)).known
 
 pub returns-clause-extends : goal.returns-clause-extends
-returns-clause-extends g c = c.loop-line.invariant.extends
-
-pub returns-clause-same : goal.returns-clause-same
-returns-clause-same g c = IsMatching-all c.args.one.now.nodes _ c.args.one.now.ends c.loop-line.line-index (end_at c.args.other.now) c.loop-line.found c.loop-line.rest c.as_slice-line-items.ensures c.loop-line-test.false c.loop-line.invariant
+returns-clause-extends g c = c.loop-place.invariant.extends

@@ -1,0 +1,130 @@
+//! The text of an agreement.
+
+ghost use Rattle.std.specs.Prelude.{◌≡◌, ◌++◌, ℕ, List, IfOk, OnOk, map, length};
+ghost use Rattle.std.specs.List.{flat_map};
+ghost use Rattle.vx_list.specs.Places.{item_or};
+ghost use Rattle.vx_space.specs.Sets.{IsKnown};
+ghost use Rattle.vx_report.specs.declared.line.Line.TheVariants.{Count, Named, Numbered};
+ghost use Rattle.vx_report.specs.declared.report.Report.{Report};
+ghost use Rattle.vx_report.specs.Lines.{whole_line};
+ghost use Rattle.vx_report.specs.Text.{numbered};
+ghost use Rattle.vx_agree.specs.Agreement.{IsAgreement};
+ghost use Rattle.vx_agree.specs.Text.{IsAgreementText, root_lines, set_text};
+
+use std::alloc::{AllocError, Global};
+use vx_bdd_tools::{Node, listing};
+use vx_report::Report;
+use vx_space::Space;
+use vx_value::Name;
+use vx_words::put_number;
+
+#[tactic(auto, unfolding(vx_report::specs::Lines::line_text, vx_report::specs::Lines::whole_line))]
+fn put_option(out: &mut Vec<u8>, name: &Name) -> Result<(), AllocError>
+    ensures { OnOk result (out.new.items ≡ out.old.items ++ whole_line (Named name.now)) }
+{
+    out.extend_from_slice(b"option ")?;
+    out.extend_from_slice(name.bytes())?;
+    out.extend_from_slice(b"\n")
+}
+
+/// Puts how many options there are, and their names.
+#[tactic(auto, unfolding(vx_report::specs::Lines::line_text, vx_report::specs::Lines::whole_line))]
+fn put_options(out: &mut Vec<u8>, options: &[Name]) -> Result<(), AllocError>
+    ensures { OnOk result (out.new.items ≡ out.old.items ++ (whole_line (Count (length options.now)) ++ flat_map whole_line (map Named options.now))) }
+{
+    out.extend_from_slice(b"options ")?;
+    put_number(out, options.len() as u64)?;
+    out.extend_from_slice(b"\n")?;
+    for name in options {
+        put_option(out, name)?;
+    }
+    Ok(())
+}
+
+#[tactic(auto, unfolding(vx_report::specs::Lines::line_text, vx_report::specs::Lines::whole_line))]
+fn put_node(out: &mut Vec<u8>, id: u64, node: &Node) -> Result<(), AllocError>
+    ensures { OnOk result (out.new.items ≡ out.old.items ++ whole_line (Numbered id node.now)) }
+{
+    out.extend_from_slice(b"node ")?;
+    put_number(out, id)?;
+    out.extend_from_slice(b" ")?;
+    put_number(out, u64::from(node.option))?;
+    out.extend_from_slice(b" ")?;
+    put_number(out, node.low)?;
+    out.extend_from_slice(b" ")?;
+    put_number(out, node.high)?;
+    out.extend_from_slice(b"\n")
+}
+
+fn put_nodes(out: &mut Vec<u8>, nodes: &[Node]) -> Result<(), AllocError>
+    ensures { OnOk result (out.new.items ≡ out.old.items ++ flat_map whole_line (numbered 2 nodes.now)) }
+{
+    for (place, node) in nodes.iter().enumerate() {
+        put_node(out, place as u64 + 2, node)?;
+    }
+    Ok(())
+}
+
+/// Puts the number of the set, and the last line.
+fn put_root(out: &mut Vec<u8>, root: u64) -> Result<(), AllocError>
+    ensures { OnOk result (out.new.items ≡ out.old.items ++ root_lines root) }
+{
+    out.extend_from_slice(b"agree ")?;
+    put_number(out, root)?;
+    out.extend_from_slice(b"\n")?;
+    out.extend_from_slice(b"done\n")
+}
+
+/// The text of the set with a number among nodes.
+#[tactic(auto, unfolding(crate::specs::Text::set_text))]
+fn set_text(
+    alloc: Global,
+    options: &[Name],
+    nodes: &[Node],
+    root: u64,
+) -> Result<Vec<u8>, AllocError>
+    ensures { IfOk result (λ text. text.items ≡ set_text options.now nodes.now root) }
+{
+    let mut out = Vec::new(alloc);
+    out.extend_from_slice(b"varexj agree 1\n")?;
+    put_options(&mut out, options)?;
+    put_nodes(&mut out, nodes)?;
+    put_root(&mut out, root)?;
+    Ok(out)
+}
+
+/// The first of some numbers, and 0 where there is none.
+fn first_number(numbers: &[u64]) -> u64
+    ensures { result ≡ item_or numbers.now 0 0 }
+{
+    numbers.first().copied().unwrap_or(0)
+}
+
+/// The text of the set of the configurations at which a report agrees with another over the same options: `varexj agree 1`,
+/// the options as in a report, the nodes of the set's reduced diagram in the numbering of reports, `agree` with the number of the
+/// set, and `done`. Never and always have the numbers 0 and 1 and no node.
+pub fn agreement_text<S: Space>(
+    alloc: Global,
+    space: &S,
+    report: &Report,
+    set: S::Id,
+) -> Result<Vec<u8>, AllocError>
+    requires known { IsKnown (S.sets space.now) set }
+    requires options { length report.now.options ≡ (S.sets space.now).options }
+    ensures text { IfOk result (λ text. (other : Report) → IsAgreement (S.sets space.now) report.now other set → IsAgreementText report.now other text.items) }
+
+    // No other text shows the agreement of the two.
+    ensures only { IfOk result (λ text. (other : Report) (another : List ℕ) → IsAgreement (S.sets space.now) report.now other set →
+        IsAgreementText report.now other another → another ≡ text.items) }
+{
+    let mut roots = Vec::new(alloc);
+    roots.push(set)?;
+    let list = listing(alloc, space, roots.as_slice())?;
+    let root = first_number(list.roots.as_slice());
+    set_text(
+        alloc,
+        report.options.as_slice(),
+        list.nodes.as_slice(),
+        root,
+    )
+}
