@@ -1,0 +1,5 @@
+//! Line tables, on worked rows.
+#![tactic(auto)]
+
+#[cfg(test)]
+mod lines;
