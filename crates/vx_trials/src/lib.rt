@@ -144,7 +144,7 @@ mod tests {
     ];
 
     /// Words, and what has to come: the code, `out`, and `err`.
-    const CASES: [(&str, u8, &str, &str); 51] = [
+    const CASES: [(&str, u8, &str, &str); 49] = [
         (
             "run a m Main 100 1",
             0,
@@ -326,15 +326,13 @@ mod tests {
         ("agree report plain", 14, "", "unlike\n"),
         ("agree report cut", 10, "", "bad report line 6\n"),
         ("agree cut absent", 10, "", "bad report line 6\n"),
-        ("agree absent cut", 3, "", "read fault absent\n"),
-        ("agree report absent", 3, "", "read fault absent\n"),
         ("agree report", 2, "", "usage\n"),
         ("asm word", 12, "", "bad source line 1 reason 1\n"),
         ("asm", 2, "", "usage\n"),
     ];
 
     /// Words, the calls of the files, of `out` and of `err` that fail, and what has to come.
-    const FAULTS: [(&str, u64, u64, u64, u8, &str, &str); 8] = [
+    const FAULTS: [(&str, u64, u64, u64, u8, &str, &str); 10] = [
         (
             "run n e Main 100 1",
             0,
@@ -357,6 +355,8 @@ mod tests {
         ("run f e Main 100 1", 2, 0, 0, 3, "", "read fault f\n"),
         ("run f e Main 100 1", 1, 0, 0, 3, "", "read fault e\n"),
         ("agree report report", 2, 0, 0, 3, "", "read fault report\n"),
+        ("agree absent cut", 0, 0, 0, 3, "", "read fault absent\n"),
+        ("agree report absent", 0, 0, 0, 3, "", "read fault absent\n"),
         (
             "agree report part",
             0,
