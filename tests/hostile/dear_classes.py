@@ -138,6 +138,14 @@ def many_attributes():
     return made
 
 
+def one_long_attribute():
+    """A file of just the greatest size."""
+    made = started()
+    made.text('Other')
+    made.attributes = [made.attribute('Other', bytes(class_files.MOST_BYTES - len(made.bytes()) - 6))]
+    return made
+
+
 def longest_descriptors():
     """Methods of 255 arguments, each with a descriptor of its own."""
     made = started()
@@ -212,7 +220,7 @@ FILES = {
     'names and types of one long descriptor': types_of_one_long_descriptor, 'methods of one long descriptor': methods_of_one_long_descriptor,
     'fields of one long name': fields_of_one_long_name, 'method types of one long descriptor': method_types_of_one_long_descriptor,
     'strings': many_strings, 'interfaces': many_interfaces, 'static fields': many_static_fields, 'instance fields': many_instance_fields,
-    'native methods': many_native_methods, 'methods': many_methods, 'constant values': many_constant_values, 'attributes': many_attributes,
+    'native methods': many_native_methods, 'methods': many_methods, 'constant values': many_constant_values, 'attributes': many_attributes, 'one long attribute': one_long_attribute,
     'descriptors of 255 arguments': longest_descriptors, 'long code': long_code, 'jumps to the end': jumps_to_the_end,
     'table switches': table_switch, 'lookup switches': lookup_switch, 'catch rows': many_catch_rows, 'jumps that run': jumps_that_run}
 
