@@ -2,12 +2,14 @@
 
     python3 tests/hostile/dear.py VAREXJ [WORD]
 
-With WORD only the inputs whose names have it. Each input has a bound, in seconds, beside it in BOUNDS: three times what was
-measured on one quiet processor, and half a second at least. A class file is to take no more than 0.3 seconds; those that take more
-are told. It takes some minutes and, for the largest reports, 8 GB of memory.
+With WORD only the inputs whose names have it. Times are seconds of the processor. Each input has a bound in BOUNDS, of three times what was
+measured, and of half a second at least; the program is stopped there. A class file is to take no more than 0.3 seconds; those that
+take more are told.
 """
 
+import math
 import os
+import resource
 import sys
 import tempfile
 from typing import NamedTuple
@@ -23,8 +25,10 @@ MAGIC = bytes.fromhex('cafebabe')
 JUMPS = 21844
 READS = 2000
 
-# Seconds; what has no line has the least bound.
+# What has no line has the least bound.
 BOUNDS = {}
+# How much longer a call may take on a busy machine than its processor seconds say.
+BUSY = 30
 
 KNOWN = {}
 
@@ -149,17 +153,32 @@ def all_inputs(commands):
                 yield from maker()
 
 
+def processor_seconds():
+    """Those of all children that have ended."""
+    used = resource.getrusage(resource.RUSAGE_CHILDREN)
+    return used.ru_utime + used.ru_stime
+
+
+def measured(varexj, dear, folder):
+    """How the call ended, and its processor seconds."""
+    most = math.ceil(dear.bound())
+    before = processor_seconds()
+    ended = trying.called([varexj, *dear.words], folder, BUSY * most,
+                          preexec_fn=lambda: resource.setrlimit(resource.RLIMIT_CPU, (most, most + 1)))
+    return ended, processor_seconds() - before
+
+
 def problem(varexj, dear):
     """What is wrong with one input, or None; its time is printed."""
     with tempfile.TemporaryDirectory() as folder:
         os.chdir(folder)
         dear.make()
-        ended = trying.called([varexj, *dear.words], folder, dear.bound())
+        ended, seconds = measured(varexj, dear, folder)
         os.chdir('/')
-    late = '   misses the goal' if dear.has_goal and ended.seconds > GOAL else ''
-    print(f'{dear.name:<60} {ended.seconds:8.3f} s of {dear.bound():6.1f}{late}', flush=True)
-    if ended.status is None:
-        return f'not over after {dear.bound()} seconds'
+    late = '   misses the goal' if dear.has_goal and seconds > GOAL else ''
+    print(f'{dear.name:<60} {seconds:8.2f} s of {dear.bound():6.1f}{late}', flush=True)
+    if seconds > dear.bound():
+        return f'{ended.told()}, after {seconds:.1f} seconds'
     return None if dear.is_right(ended) else ended.told()
 
 

@@ -25,9 +25,6 @@ SMALL = ['print-a-number', 'print-an-option', 'project-option-on', 'assemble-cla
 LARGE = 'equal-pairs-24-options'
 REFUSED = 'no-configuration'
 
-SIGNAL = 'SIGPIPE ends the program, as it ends others, unless who calls it has the signal ignored'
-KNOWN = {'no reader, by its signal': SIGNAL, 'a reader that goes away, by its signal': SIGNAL}
-
 # It lets each read and each write take at most so many bytes.
 LIBRARY = r'''
 #define _GNU_SOURCE
@@ -160,8 +157,8 @@ def try_slow_reader(command):
 
 
 def try_lost_reader(command):
-    """A reader that goes away before the first byte, or behind some; with and without the signal SIGPIPE."""
-    for kept, word in ((False, ''), (True, ', by its signal')):
+    """A reader that goes away before the first byte, or behind some; where the caller ignores SIGPIPE, and where it doesn't."""
+    for kept, word in ((False, ''), (True, ', and its signal')):
         reading, writing = pipe_of(SMALLEST_PIPE)
         os.close(reading)
         child = command.started(writing, restore_signals=kept)
@@ -200,7 +197,7 @@ def try_lost_line(command):
 
 def main(varexj):
     trying.needs('gcc', 'gcc')
-    tally = trying.Tally(KNOWN)
+    tally = trying.Tally()
     commands = trying.built_commands(varexj)
     with tempfile.TemporaryDirectory() as place:
         preloaded = trying.library(LIBRARY, place, 'few_bytes')
