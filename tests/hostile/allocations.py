@@ -13,18 +13,18 @@ from concurrent.futures import ThreadPoolExecutor
 
 import trying
 
-# A run with more allocations than this has as many of them tried, evenly spread.
-MOST = 1500
+# So many of a run's allocations fail by themselves, and so many with all that follow; where there are more, they are evenly spread.
+MOST_ALONE = 5000
+MOST_WITH_REST = 300
 SECONDS = 60
 FOREVER = 1 << 40
 NO_MEMORY = (1, b'', b'no memory\n')
 
 CASES = [
-    'print-an-option', 'dimacs-model', 'remainder-by-zero', 'equal-pairs-4-options', 'attempts-by-branch', 'rules-nested-256-deep',
-    'branches-join-with-different-values', 'float-unsupported', 'rule-without-operand', 'no-configuration', 'class-zero-byte-in-text',
-    'link-class-twice', 'shop', 'folder-absent', 'limit-zero', 'project-option-on', 'project-not-allowed', 'report-other-numbering',
-    'assemble-class-with-option', 'assemble-version-52', 'source-unknown-label', 'interact-one-option', 'interact-two-options',
-    'agree-in-one-branch', 'agree-unlike']
+    'print-an-option', 'dimacs-model', 'equal-pairs-4-options', 'attempts-by-branch', 'remainder-by-zero', 'shop', 'rule-without-operand',
+    'no-configuration', 'class-zero-byte-in-text', 'link-class-twice', 'folder-absent', 'limit-zero', 'project-option-on',
+    'project-not-allowed', 'report-other-numbering', 'assemble-class-with-option', 'assemble-version-52', 'source-unknown-label',
+    'interact-one-option', 'interact-two-options', 'agree-in-one-branch', 'agree-unlike']
 
 # It counts the allocations from the start of the program on, in a file that the script reads, and refuses those between two numbers.
 LIBRARY = r'''
@@ -91,11 +91,11 @@ class Call:
             return ended, struct.unpack('q', counted.read(8))[0]
 
 
-def numbers(total):
-    """The allocations that are refused, from 1 on."""
-    if total <= MOST:
-        return list(range(1, total + 1))
-    return sorted({1 + i * (total - 1) // (MOST - 1) for i in range(MOST)})
+def numbers(total, most):
+    """The allocations that are refused, from 1 on: all, or as many as are tried."""
+    if total <= most:
+        return range(1, total + 1)
+    return [1 + i * (total - 1) // (most - 1) for i in range(most)]
 
 
 def problem(ended, whole, asked, first):
@@ -108,7 +108,7 @@ def problem(ended, whole, asked, first):
 
 def try_case(call, name, tally, pool):
     whole, total = call.with_refused(0, 0)
-    ranges = [(first, last) for first in numbers(total) for last in (first, FOREVER)]
+    ranges = [(first, first) for first in numbers(total, MOST_ALONE)] + [(first, FOREVER) for first in numbers(total, MOST_WITH_REST)]
     answers = pool.map(lambda refused: call.with_refused(*refused), ranges)
     refusals = 0
     for (first, last), (ended, asked) in zip(ranges, answers):

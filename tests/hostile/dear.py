@@ -7,9 +7,7 @@ measured, and of half a second at least; the program is stopped there. A class f
 take more are told.
 """
 
-import math
 import os
-import resource
 import sys
 import tempfile
 from typing import NamedTuple
@@ -27,8 +25,6 @@ READS = 2000
 
 # What has no line has the least bound.
 BOUNDS = {}
-# How much longer a call may take on a busy machine than its processor seconds say.
-BUSY = 30
 
 KNOWN = {}
 
@@ -153,32 +149,18 @@ def all_inputs(commands):
                 yield from maker()
 
 
-def processor_seconds():
-    """Those of all children that have ended."""
-    used = resource.getrusage(resource.RUSAGE_CHILDREN)
-    return used.ru_utime + used.ru_stime
-
-
-def measured(varexj, dear, folder):
-    """How the call ended, and its processor seconds."""
-    most = math.ceil(dear.bound())
-    before = processor_seconds()
-    ended = trying.called([varexj, *dear.words], folder, BUSY * most,
-                          preexec_fn=lambda: resource.setrlimit(resource.RLIMIT_CPU, (most, most + 1)))
-    return ended, processor_seconds() - before
-
-
 def problem(varexj, dear):
     """What is wrong with one input, or None; its time is printed."""
     with tempfile.TemporaryDirectory() as folder:
         os.chdir(folder)
         dear.make()
-        ended, seconds = measured(varexj, dear, folder)
+        ended = trying.measured([varexj, *dear.words], folder, dear.bound())
+        seconds = ended.seconds
         os.chdir('/')
     late = '   misses the goal' if dear.has_goal and seconds > GOAL else ''
     print(f'{dear.name:<60} {seconds:8.2f} s of {dear.bound():6.1f}{late}', flush=True)
     if seconds > dear.bound():
-        return f'{ended.told()}, after {seconds:.1f} seconds'
+        return f'not over after {dear.bound()} seconds'
     return None if dear.is_right(ended) else ended.told()
 
 

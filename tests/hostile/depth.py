@@ -16,8 +16,8 @@ import dear_classes
 import trying
 
 STACK = 512 << 10
-# Bytes of address space, and the seconds in which they have to be used up.
-MEMORIES = {64 << 20: 20, 256 << 20: 60, 1 << 30: 200}
+# Bytes of address space, and the seconds of the processor in which they have to be used up.
+MEMORIES = {64 << 20: 20, 256 << 20: 60}
 NO_MEMORY = (1, b'', b'no memory\n')
 OPTIONS = 64
 PAIRS = OPTIONS // 2
@@ -103,7 +103,7 @@ def try_exploding(varexj, tally):
             trying.write(os.path.join(folder, 'f', 'Main.class'), made)
             for most, seconds in MEMORIES.items():
                 words = [varexj, 'run', 'f', path, 'Main', '100000', '1']
-                ended = trying.called(words, folder, seconds, preexec_fn=limited(resource.RLIMIT_AS, most))
+                ended = trying.measured(words, folder, seconds, most)
                 print(f'{name} that explode in {most >> 20} MiB: {ended.seconds:.1f} s of {seconds}', flush=True)
                 tally.judge(f'{name} that explode in {most >> 20} MiB', None if ended[:3] == NO_MEMORY else ended.told())
 

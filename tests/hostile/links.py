@@ -22,6 +22,8 @@ MOST_BYTES = 1 << 20
 MOST_REPORT_BYTES = 1 << 28
 LONGEST_PATH = 4095
 NOBODY = ['setpriv', '--reuid', '65534', '--regid', '65534', '--clear-groups']
+# The folder has no class file with the field of the option; or the class with the name of the main class isn't there.
+NO_OPTION = (8, b'', b'no option A\n')
 NO_MAIN = (8, b'', b'no main\n')
 WITHOUT_OPTIONS = (0, b'varexj report 1\noptions 0\nlimit 100\nrounds 4\nout 1 0\\0a\nend 1 return\ndone\n', b'')
 
@@ -339,7 +341,7 @@ def _(place):
 @tried('a folder that is named as a class file')
 def _(place):
     os.mkdir(place.at('f/Main.class'))
-    return Try(NO_MAIN)
+    return Try(NO_OPTION)
 
 
 @tried('a class file in a folder that is named as one')
@@ -358,7 +360,12 @@ def _(place):
 
 @tried('an empty folder')
 def _(place):
-    return Try(NO_MAIN)
+    return Try(NO_OPTION)
+
+
+@tried('an empty folder, and a model without options')
+def _(place):
+    return Try(NO_MAIN, run(model='/dev/null'))
 
 
 @tried('a FIFO, a socket and links to devices in the folder')

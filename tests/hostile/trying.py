@@ -1,6 +1,8 @@
 """What the scripts beside this file have in common: calling the program, small C libraries, and counting what was tried."""
 
+import math
 import os
+import resource
 import shutil
 import subprocess
 import sys
@@ -11,6 +13,8 @@ from typing import NamedTuple, Optional
 HERE = os.path.dirname(os.path.abspath(__file__))
 CASES = os.path.join(os.path.dirname(HERE), 'cases')
 SECONDS = 60
+# How much longer a call may take on a busy machine than its processor seconds say.
+BUSY = 30
 # What a script ends with where something that it needs can't be had.
 LACKING = 3
 
@@ -52,6 +56,24 @@ def called(words, folder, seconds=SECONDS, environment=None, **more):
         out, err = child.communicate()
         status = None
     return Ended(status, out or b'', err or b'', time.perf_counter() - began)
+
+
+def processor_seconds():
+    """Those of all children that have ended."""
+    used = resource.getrusage(resource.RUSAGE_CHILDREN)
+    return used.ru_utime + used.ru_stime
+
+
+def measured(words, folder, seconds, memory=resource.RLIM_INFINITY):
+    """As `called`, in seconds of the processor, after which the program is stopped, and with so much memory. One call at a time."""
+    most = math.ceil(seconds)
+
+    def limit():
+        resource.setrlimit(resource.RLIMIT_CPU, (most, most + 1))
+        resource.setrlimit(resource.RLIMIT_AS, (memory, memory))
+    before = processor_seconds()
+    ended = called(words, folder, BUSY * most, preexec_fn=limit)
+    return ended._replace(seconds=processor_seconds() - before)
 
 
 def is_built(varexj, command):
