@@ -8,6 +8,7 @@ take more are told.
 """
 
 import os
+import signal
 import sys
 import tempfile
 from typing import NamedTuple
@@ -23,10 +24,29 @@ MAGIC = bytes.fromhex('cafebabe')
 JUMPS = 21844
 READS = 2000
 
-# What has no line has the least bound.
-BOUNDS = {}
+# How a program ends that is stopped.
+STOPPED = (None, -signal.SIGXCPU, -signal.SIGKILL)
 
-KNOWN = {}
+# What has no line has the least bound.
+BOUNDS = {
+    'class file: classes of one long name': 85, 'class file: names and types of one long descriptor': 18,
+    'class file: methods of one long descriptor': 24, 'class file: fields of one long name': 15,
+    'class file: method types of one long descriptor': 21, 'class file: static fields': 45, 'class file: instance fields': 90,
+    'class file: native methods': 50, 'class file: methods': 18, 'class file: constant values': 60, 'class file: jumps to the end': 20,
+    'class file: table switches': 11, 'class file: lookup switches': 7, 'class file: catch rows': 50, 'class file: jumps that run': 1.5,
+    'folder: interfaces in diamonds': 5, 'folder: interfaces in diamonds, and a blocking one': 5,
+    'folder: a cycle at the end of a chain': 6, 'folder: long lists of interfaces, and a cycle': 5,
+    'model: one long conjunction': 3, 'model: one long disjunction': 4, 'model: rules of pairs': 2.5, 'model: nested rules': 1.5,
+    'clauses: clauses of pairs': 3.5, 'clauses: one long clause': 4.5, 'clauses: clauses of one literal': 2,
+    'source: jumps and labels': 4.5, 'source: jumps to the last label': 13, 'source: fields': 21, 'source: methods': 10,
+    'source: numbers': 1, 'project: one long text': 10, 'project: one long text of escapes': 8, 'project: pieces of both streams': 90,
+    'project: pieces of one stream': 45, 'project: nodes': 8, 'interact: one long text': 10, 'interact: nodes': 10,
+    'agree: one long text': 20, 'agree: pieces of both streams': 30, 'agree: nodes': 30}
+
+WALKS = 'a walk over superinterfaces comes to each as often as there are ways to it'
+KNOWN = {
+    'folder: interfaces in diamonds': WALKS, 'folder: interfaces in diamonds, and a blocking one': WALKS,
+    'folder: long lists of interfaces, and a cycle': 'where some class is above itself, each class takes rounds over all lists'}
 
 
 class Dear(NamedTuple):
@@ -159,7 +179,7 @@ def problem(varexj, dear):
         os.chdir('/')
     late = '   misses the goal' if dear.has_goal and seconds > GOAL else ''
     print(f'{dear.name:<60} {seconds:8.2f} s of {dear.bound():6.1f}{late}', flush=True)
-    if seconds > dear.bound():
+    if seconds > dear.bound() or ended.status in STOPPED:
         return f'not over after {dear.bound()} seconds'
     return None if dear.is_right(ended) else ended.told()
 

@@ -11,6 +11,8 @@ MOST_MEMBERS = 65535
 MOST_CLASSES = 1024
 # How many methods with the longest code a file has room for.
 LONG_METHODS = 15
+# How many entries share a long text, where as many as there may be would take too long.
+SHARERS = 20000
 INTERFACE_FLAGS = class_files.INTERFACE | class_files.ABSTRACT | PUBLIC
 
 
@@ -39,7 +41,7 @@ def classes_of_one_long_name():
 def types_of_one_long_descriptor():
     made = started()
     name, descriptor = made.text('f'), made.text('(L' + 'a' * (MOST_TEXT - 5) + ';)V')
-    for _place in range(made.left()):
+    for _place in range(SHARERS):
         made.add(struct.pack('>BHH', 12, name, descriptor))
     return made
 
@@ -47,7 +49,7 @@ def types_of_one_long_descriptor():
 def methods_of_one_long_descriptor():
     made = started()
     member = made.name_and_type('f', '(L' + 'a' * (MOST_TEXT - 5) + ';)V')
-    for _place in range(made.left()):
+    for _place in range(SHARERS):
         made.add(struct.pack('>BHH', 10, made.own, member))
     return made
 
@@ -55,7 +57,7 @@ def methods_of_one_long_descriptor():
 def fields_of_one_long_name():
     made = started()
     member = made.name_and_type('a' * MOST_TEXT, 'I')
-    for _place in range(made.left()):
+    for _place in range(SHARERS):
         made.add(struct.pack('>BHH', 9, made.own, member))
     return made
 
@@ -64,7 +66,7 @@ def method_types_of_one_long_descriptor():
     made = started()
     made.major = 51
     descriptor = made.text('(L' + 'a' * (MOST_TEXT - 5) + ';)V')
-    for _place in range(made.left()):
+    for _place in range(SHARERS):
         made.add(struct.pack('>BH', 16, descriptor))
     return made
 

@@ -17,7 +17,7 @@ import trying
 
 STACK = 512 << 10
 # Bytes of address space, and the seconds of the processor in which they have to be used up.
-MEMORIES = {64 << 20: 20, 256 << 20: 60}
+MEMORIES = {64 << 20: 20, 256 << 20: 60, 1 << 30: 200}
 NO_MEMORY = (1, b'', b'no memory\n')
 OPTIONS = 64
 PAIRS = OPTIONS // 2
