@@ -32,7 +32,7 @@ BOUNDS = {
     'class file: classes of one long name': 85, 'class file: names and types of one long descriptor': 18,
     'class file: methods of one long descriptor': 24, 'class file: fields of one long name': 15,
     'class file: method types of one long descriptor': 21, 'class file: static fields': 45, 'class file: instance fields': 90,
-    'class file: native methods': 50, 'class file: methods': 18, 'class file: constant values': 60, 'class file: jumps to the end': 20,
+    'class file: native methods': 50, 'class file: methods': 18, 'class file: constant values': 30, 'class file: jumps to the end': 20,
     'class file: table switches': 11, 'class file: lookup switches': 7, 'class file: catch rows': 50, 'class file: jumps that run': 1.5,
     'folder: interfaces in diamonds': 5, 'folder: interfaces in diamonds, and a blocking one': 5,
     'folder: a cycle at the end of a chain': 6, 'folder: long lists of interfaces, and a cycle': 5,
