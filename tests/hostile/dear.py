@@ -1,0 +1,199 @@
+"""Calls the program with inputs that are built to be dear, and measures each.
+
+    python3 tests/hostile/dear.py VAREXJ [WORD]
+
+With WORD only the inputs whose names have it. Times are seconds of the processor. Each input has a bound in BOUNDS, of three times what was
+measured, and of half a second at least; the program is stopped there. A class file is to take no more than 0.3 seconds; those that
+take more are told.
+"""
+
+import os
+import signal
+import sys
+import tempfile
+from typing import NamedTuple
+
+import dear_classes
+import dear_texts
+import trying
+
+GOAL = 0.3
+LEAST_BOUND = 0.5
+RETURNED = b'varexj report 1\noptions 0\nlimit 100\nrounds 1\nend 1 return\ndone\n'
+MAGIC = bytes.fromhex('cafebabe')
+JUMPS = 21844
+READS = 2000
+
+# How a program ends that is stopped.
+STOPPED = (None, -signal.SIGXCPU, -signal.SIGKILL)
+
+# What has no line has the least bound.
+BOUNDS = {
+    'class file: classes of one long name': 85, 'class file: names and types of one long descriptor': 18,
+    'class file: methods of one long descriptor': 24, 'class file: fields of one long name': 15,
+    'class file: method types of one long descriptor': 21, 'class file: static fields': 45, 'class file: instance fields': 90,
+    'class file: native methods': 50, 'class file: methods': 18, 'class file: constant values': 30, 'class file: jumps to the end': 20,
+    'class file: table switches': 11, 'class file: lookup switches': 7, 'class file: catch rows': 50, 'class file: jumps that run': 1.5,
+    'folder: interfaces in diamonds': 5, 'folder: interfaces in diamonds, and a blocking one': 5,
+    'folder: a cycle at the end of a chain': 6, 'folder: long lists of interfaces, and a cycle': 5,
+    'model: one long conjunction': 3, 'model: one long disjunction': 4, 'model: rules of pairs': 2.5, 'model: nested rules': 1.5,
+    'clauses: clauses of pairs': 3.5, 'clauses: one long clause': 4.5, 'clauses: clauses of one literal': 2,
+    'source: jumps and labels': 4.5, 'source: jumps to the last label': 13, 'source: fields': 21, 'source: methods': 10,
+    'source: numbers': 1, 'project: one long text': 10, 'project: one long text of escapes': 8, 'project: pieces of both streams': 90,
+    'project: pieces of one stream': 45, 'project: nodes': 8, 'interact: one long text': 10, 'interact: nodes': 10,
+    'agree: one long text': 20, 'agree: pieces of both streams': 30, 'agree: nodes': 30}
+
+WALKS = 'a walk over superinterfaces comes to each as often as there are ways to it'
+KNOWN = {
+    'folder: interfaces in diamonds': WALKS, 'folder: interfaces in diamonds, and a blocking one': WALKS,
+    'folder: long lists of interfaces, and a cycle': 'where some class is above itself, each class takes rounds over all lists'}
+
+
+class Dear(NamedTuple):
+    """An input: what makes its files in the folder where the program is called, the words, and what has to come."""
+
+    name: str
+    make: object
+    words: list
+    # A function of how the call ended, which says whether that is right.
+    is_right: object
+    has_goal: bool = False
+
+    def bound(self):
+        return BOUNDS.get(self.name, LEAST_BOUND)
+
+
+def ends_as(status, out=b'', err=b''):
+    return lambda ended: ended[:3] == (status, out, err)
+
+
+def put_text(path, text):
+    trying.write(path, text.encode() if isinstance(text, str) else text)
+
+
+def put_classes(classes):
+    for name, made in classes.items():
+        trying.write(f'f/{name}.class', made.bytes())
+
+
+def report_of(rounds, end, limit=100):
+    return f'varexj report 1\noptions 0\nlimit {limit}\nrounds {rounds}\nend 1 {end}\ndone\n'.encode()
+
+
+def class_files():
+    """One class file each, whose main returns at once, or jumps through all its code before."""
+    for name, make in dear_classes.FILES.items():
+        def files(make=make):
+            put_text('model', '')
+            put_classes({'Main': make()})
+        limit, wanted = 100, RETURNED
+        if name == 'jumps that run':
+            limit, wanted = 100000, report_of(JUMPS + 1, 'return', 100000)
+        yield Dear(f'class file: {name}', files, ['run', 'f', 'model', 'Main', str(limit), '1'], ends_as(0, wanted), True)
+
+
+def class_folders():
+    """Folders of 1,024 small classes: a field above Main is read again and again, or linking finds a cycle."""
+    for name, make in dear_classes.FOLDERS.items():
+        def files(make=make):
+            put_text('model', '')
+            put_classes(make())
+        right = ends_as(0, report_of(READS, 'unfinished', READS))
+        if 'cycle' in name:
+            names = {'a cycle at the end of a chain': 'C1021', 'long lists of interfaces, and a cycle': 'I1021'}
+            right = ends_as(8, err=f'cycle {names[name]}\n'.encode())
+        yield Dear(f'folder: {name}', files, ['run', 'f', 'model', 'Main', str(READS), '1'], right)
+
+
+def models():
+    """Models of the greatest size, over a main that returns at once."""
+    kinds = [('model', 'model', dear_texts.MODELS), ('clauses', 'model.cnf', dear_texts.CNF_MODELS)]
+    for kind, path, made in kinds:
+        for name, make in made.items():
+            text, wanted = make()
+
+            def files(path=path, text=text):
+                put_text(path, text)
+                put_classes({'Main': dear_classes.started()})
+            yield Dear(f'{kind}: {name}', files, ['run', 'f', path, 'Main', '100', '1'], ends_as(0, wanted))
+
+
+def reports():
+    """Reports of the greatest size, or of as many nodes as can be made here in a short time."""
+    for name, make in dear_texts.REPORTS.items():
+        wanted = []
+
+        def files(make=make, wanted=wanted):
+            text, out = make()
+            put_text('report', text)
+            wanted.append(out)
+        yield Dear(f'project: {name}', files, ['project', 'report', '-'], lambda ended, wanted=wanted: ends_as(0, wanted[0])(ended))
+
+
+def interactions():
+    """The same for interact."""
+    bits = 16
+    names = ','.join(f'o{number}' for number in range(bits))
+    pieces = ''.join(f'piece {number + 1} {bits} {names}\n' for number in range(1 << bits))
+    yield Dear('interact: one long text', lambda: put_text('report', dear_texts.one_long_text()[0]), ['interact', 'report'],
+               ends_as(0, b'varexj interact 1\npiece 1 0 -\nend 1 0 -\ndone\n'))
+    yield Dear('interact: nodes', lambda: put_text('report', dear_texts.many_nodes(bits)[0]), ['interact', 'report'],
+               ends_as(0, f'varexj interact 1\n{pieces}end 1 0 -\ndone\n'.encode()))
+
+
+def agreements():
+    """The same for agree, of a report with itself."""
+    def agreed(bits):
+        return f'varexj agree 1\noptions {bits}\n{"".join(f"option o{number}" + chr(10) for number in range(bits))}agree 1\ndone\n'.encode()
+    words = ['agree', 'report', 'report']
+    yield Dear('agree: one long text', lambda: put_text('report', dear_texts.one_long_text()[0]), words, ends_as(0, agreed(0)))
+    yield Dear('agree: pieces of both streams', lambda: put_text('report', dear_texts.many_pieces(1 << 24)[0]), words, ends_as(0, agreed(0)))
+    yield Dear('agree: nodes', lambda: put_text('report', dear_texts.many_nodes(10)[0]), words, ends_as(0, agreed(10)))
+
+
+def sources():
+    """Sources of the greatest size, or near it."""
+    for name, make in dear_texts.SOURCES.items():
+        yield Dear(f'source: {name}', lambda make=make: put_text('s', make()), ['asm', 's'],
+                   lambda ended: ended.status == 0 and ended.out.startswith(MAGIC) and not ended.err)
+    for name, (make, line) in dear_texts.BAD_SOURCES.items():
+        yield Dear(f'source: {name}', lambda make=make: put_text('s', make()), ['asm', 's'], ends_as(12, err=line.encode() + b'\n'))
+
+
+def all_inputs(commands):
+    kinds = {'run': [class_files, class_folders, models], 'asm': [sources], 'project': [reports], 'interact': [interactions],
+             'agree': [agreements]}
+    for command, makers in kinds.items():
+        if command in commands:
+            for maker in makers:
+                yield from maker()
+
+
+def problem(varexj, dear):
+    """What is wrong with one input, or None; its time is printed."""
+    with tempfile.TemporaryDirectory() as folder:
+        os.chdir(folder)
+        dear.make()
+        ended = trying.measured([varexj, *dear.words], folder, dear.bound())
+        seconds = ended.seconds
+        os.chdir('/')
+    late = '   misses the goal' if dear.has_goal and seconds > GOAL else ''
+    print(f'{dear.name:<60} {seconds:8.2f} s of {dear.bound():6.1f}{late}', flush=True)
+    if seconds > dear.bound() or ended.status in STOPPED:
+        return f'not over after {dear.bound()} seconds'
+    return None if dear.is_right(ended) else ended.told()
+
+
+def main(varexj, word):
+    known = {name: reason for name, reason in KNOWN.items() if word in name}
+    tally = trying.Tally(known)
+    for dear in all_inputs(trying.built_commands(varexj)):
+        if word in dear.name:
+            tally.judge(dear.name, problem(varexj, dear))
+    return tally.status()
+
+
+if __name__ == '__main__':
+    if len(sys.argv) not in (2, 3):
+        sys.exit(__doc__)
+    sys.exit(main(os.path.abspath(sys.argv[1]), sys.argv[2] if len(sys.argv) == 3 else ''))

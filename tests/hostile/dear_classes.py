@@ -1,0 +1,319 @@
+"""Class files that are as dear to read, link and start as one file can be, and folders of many classes."""
+
+import struct
+
+import class_files
+from class_files import GETSTATIC, GOTO, ICONST_0, IFEQ, LOOKUPSWITCH, NATIVE, NOP, POP, PUBLIC, RETURN, STATIC, TABLESWITCH, ClassFile
+
+MOST_CODE = 65535
+MOST_TEXT = 65535
+MOST_MEMBERS = 65535
+MOST_CLASSES = 1024
+# How many methods with the longest code a file has room for.
+LONG_METHODS = 15
+# How many entries share a long text, where as many as there may be would take too long.
+SHARERS = 20000
+INTERFACE_FLAGS = class_files.INTERFACE | class_files.ABSTRACT | PUBLIC
+
+
+def started(code=bytes([RETURN])):
+    """A class that can be run, whose main returns at once."""
+    made = ClassFile()
+    made.main(code)
+    return made
+
+
+def many_texts():
+    made = started()
+    for number in range(made.left()):
+        made.text(f'{number:012}')
+    return made
+
+
+def classes_of_one_long_name():
+    made = started()
+    name = made.text('a' * MOST_TEXT)
+    for _place in range(made.left()):
+        made.add(struct.pack('>BH', 7, name))
+    return made
+
+
+def types_of_one_long_descriptor():
+    made = started()
+    name, descriptor = made.text('f'), made.text('(L' + 'a' * (MOST_TEXT - 5) + ';)V')
+    for _place in range(SHARERS):
+        made.add(struct.pack('>BHH', 12, name, descriptor))
+    return made
+
+
+def methods_of_one_long_descriptor():
+    made = started()
+    member = made.name_and_type('f', '(L' + 'a' * (MOST_TEXT - 5) + ';)V')
+    for _place in range(SHARERS):
+        made.add(struct.pack('>BHH', 10, made.own, member))
+    return made
+
+
+def fields_of_one_long_name():
+    made = started()
+    member = made.name_and_type('a' * MOST_TEXT, 'I')
+    for _place in range(SHARERS):
+        made.add(struct.pack('>BHH', 9, made.own, member))
+    return made
+
+
+def method_types_of_one_long_descriptor():
+    made = started()
+    made.major = 51
+    descriptor = made.text('(L' + 'a' * (MOST_TEXT - 5) + ';)V')
+    for _place in range(SHARERS):
+        made.add(struct.pack('>BH', 16, descriptor))
+    return made
+
+
+def many_strings():
+    made = started()
+    for number in range(made.left() // 2):
+        made.string(f'{number:024}')
+    return made
+
+
+def many_interfaces():
+    made = started()
+    for _number in range(MOST_MEMBERS):
+        made.implements('java/lang/Runnable')
+    return made
+
+
+def name_pairs(front, back):
+    """The names and descriptors of as many members as there may be, from few texts."""
+    return ((f'n{number // 256:03}', f'{front}Lt{number % 256:03};{back}') for number in range(MOST_MEMBERS))
+
+
+def many_static_fields():
+    made = started()
+    for name, descriptor in name_pairs('', ''):
+        made.field(STATIC, name, descriptor)
+    return made
+
+
+def many_instance_fields():
+    made = started()
+    for name, descriptor in name_pairs('', ''):
+        made.field(0, name, descriptor)
+    return made
+
+
+def many_native_methods():
+    made = started()
+    for name, descriptor in list(name_pairs('(', ')V'))[1:]:
+        made.method(NATIVE, name, descriptor)
+    return made
+
+
+def many_methods():
+    """Methods with one instruction each."""
+    made = started()
+    for name, descriptor in list(name_pairs('(', ')V'))[:38000]:
+        made.method(STATIC, name, descriptor, [made.code(bytes([RETURN]))])
+    return made
+
+
+def many_constant_values():
+    made = started()
+    long = made.add(struct.pack('>Bq', 5, 7), 2)
+    indices = {'J': long, 'Ljava/lang/String;': made.string('seven'), **dict.fromkeys('ISCBZ', made.integer(7))}
+    values = {kind: made.attribute('ConstantValue', struct.pack('>H', index)) for kind, index in indices.items()}
+    for number in range(8500):
+        for kind, value in values.items():
+            made.field(STATIC, f'n{number:04}', kind, [value])
+    return made
+
+
+def many_attributes():
+    """Attributes that are passed over: of the class, of a field and of a method's code."""
+    made = started()
+    other = made.attribute('Other', b'')
+    made.attributes = [other] * MOST_MEMBERS
+    made.field(STATIC, 'f', 'I', [other] * MOST_MEMBERS)
+    made.method(NATIVE, 'g', '()V', [other] * 40000)
+    return made
+
+
+def one_long_attribute():
+    """A file of just the greatest size."""
+    made = started()
+    made.text('Other')
+    made.attributes = [made.attribute('Other', bytes(class_files.MOST_BYTES - len(made.bytes()) - 6))]
+    return made
+
+
+def longest_descriptors():
+    """Methods of 255 arguments, each with a descriptor of its own."""
+    made = started()
+    for number in range(1500):
+        made.method(NATIVE | STATIC, 'f', '(' + f'La{number};' + 'Lb;' * 200 + 'I' * 54 + ')V')
+    return made
+
+
+def with_long_methods(code, rows=()):
+    """As many methods with this code as the file has room for."""
+    made = started()
+    for number in range(LONG_METHODS):
+        made.method(STATIC, f'f{number}', '()V', [made.code(code, rows=rows)])
+    return made
+
+
+def long_code():
+    return with_long_methods(bytes([NOP] * (MOST_CODE - 1) + [RETURN]))
+
+
+def jumps_to_the_end():
+    """Jumps that lead to the last instruction, or to the middle where that is too far."""
+    last, middle = MOST_CODE - 1, 32766
+    code = bytearray()
+    while len(code) + 3 <= last:
+        # A jump of two bytes goes no further than 32,767 places.
+        target = last if last - len(code) <= 32767 else middle
+        code += struct.pack('>Bh', IFEQ, target - len(code))
+    code += bytes([NOP] * (last - len(code)) + [RETURN])
+    return with_long_methods(bytes(code))
+
+
+def padded(code):
+    return code + bytes(-len(code) % 4)
+
+
+def table_switch():
+    """A switch with 8,190 targets, all the last instruction of 32,000."""
+    last = MOST_CODE - 1
+    code = padded(bytes([ICONST_0, TABLESWITCH]))
+    entries = 8190
+    code += struct.pack('>iii', last - 1, 0, entries - 1) + struct.pack('>i', last - 1) * entries
+    return with_long_methods(code + bytes([NOP] * (last - len(code)) + [RETURN]))
+
+
+def lookup_switch():
+    last = MOST_CODE - 1
+    code = padded(bytes([ICONST_0, LOOKUPSWITCH]))
+    pairs = 4090
+    code += struct.pack('>ii', last - 1, pairs) + b''.join(struct.pack('>ii', key, last - 1) for key in range(pairs))
+    return with_long_methods(code + bytes([NOP] * (last - len(code)) + [RETURN]))
+
+
+def many_catch_rows():
+    """Catch rows at the end of a long code."""
+    made = started()
+    code = bytes([NOP] * (MOST_CODE - 1) + [RETURN])
+    row = (MOST_CODE - 3, MOST_CODE, MOST_CODE - 1, 0)
+    made.method(STATIC, 'f', '()V', [made.code(code, rows=[row] * MOST_MEMBERS)])
+    made.method(STATIC, 'g', '()V', [made.code(code, rows=[row] * 48000)])
+    return made
+
+
+def jumps_that_run():
+    """A main of 65,535 bytes of jumps, each to the next one."""
+    jump = struct.pack('>Bh', GOTO, 3)
+    return started(jump * ((MOST_CODE - 1) // 3) + bytes([RETURN] * (1 + (MOST_CODE - 1) % 3)))
+
+
+FILES = {
+    'texts': many_texts, 'classes of one long name': classes_of_one_long_name,
+    'names and types of one long descriptor': types_of_one_long_descriptor, 'methods of one long descriptor': methods_of_one_long_descriptor,
+    'fields of one long name': fields_of_one_long_name, 'method types of one long descriptor': method_types_of_one_long_descriptor,
+    'strings': many_strings, 'interfaces': many_interfaces, 'static fields': many_static_fields, 'instance fields': many_instance_fields,
+    'native methods': many_native_methods, 'methods': many_methods, 'constant values': many_constant_values, 'attributes': many_attributes, 'one long attribute': one_long_attribute,
+    'descriptors of 255 arguments': longest_descriptors, 'long code': long_code, 'jumps to the end': jumps_to_the_end,
+    'table switches': table_switch, 'lookup switches': lookup_switch, 'catch rows': many_catch_rows, 'jumps that run': jumps_that_run}
+
+
+def reading_main(superclass='Top'):
+    """A main that reads the field x of Main again and again."""
+    made = ClassFile(superclass=superclass)
+    index = made.field_entry('Main', 'x', 'I')
+    made.main(struct.pack('>BHBBh', GETSTATIC, index, POP, GOTO, -4))
+    return made
+
+
+def top():
+    """The class that has the field x."""
+    made = ClassFile('Top')
+    made.field(STATIC, 'x', 'I')
+    return made
+
+
+def interface(name, above=()):
+    made = ClassFile(name, flags=INTERFACE_FLAGS)
+    for other in above:
+        made.implements(other)
+    return made
+
+
+def superclass_chain():
+    """Main below 1,022 classes below Top."""
+    names = [f'C{number:04}' for number in range(MOST_CLASSES - 2)] + ['Top']
+    made = {'Main': reading_main(names[0]), 'Top': top()}
+    for below, above in zip(names, names[1:]):
+        made[below] = ClassFile(below, superclass=above)
+    return made
+
+
+def interface_chain():
+    """1,022 interfaces in one chain above Main, and Top."""
+    names = [f'I{number:04}' for number in range(MOST_CLASSES - 2)]
+    made = {'Main': reading_main(), 'Top': top()}
+    made['Main'].implements(names[0])
+    for name, above in zip(names, [*names[1:], None]):
+        made[name] = interface(name, [above] if above else [])
+    return made
+
+
+def diamonds(layers):
+    """Layers of two interfaces, each below both of the next layer, above Main; and Top."""
+    made = {'Main': reading_main(), 'Top': top()}
+    below = made['Main']
+    for other in (f'A{0:04}', f'B{0:04}'):
+        below.implements(other)
+    for layer in range(layers):
+        above = [f'A{layer + 1:04}', f'B{layer + 1:04}'] if layer + 1 < layers else []
+        for letter in 'AB':
+            made[f'{letter}{layer:04}'] = interface(f'{letter}{layer:04}', above)
+    return made
+
+
+def all_diamonds():
+    return diamonds((MOST_CLASSES - 2) // 2)
+
+
+def diamonds_and_a_blocking_interface():
+    """As above, where the question is whether an interface with an initialiser and a default method is above Main."""
+    made = diamonds((MOST_CLASSES - 3) // 2)
+    blocking = ClassFile('Z', flags=INTERFACE_FLAGS, major=52)
+    blocking.method(STATIC, '<clinit>', '()V', [blocking.code(bytes([RETURN]))])
+    blocking.method(PUBLIC, 'f', '()V', [blocking.code(bytes([RETURN]))])
+    made['Z'] = blocking
+    return made
+
+
+def cycle_at_the_end():
+    """A chain of superclasses whose last two classes are above each other, and Main."""
+    names = [f'C{number:04}' for number in range(MOST_CLASSES - 1)]
+    made = {'Main': started()}
+    for below, above in zip(names, [*names[1:], names[-2]]):
+        made[below] = ClassFile(below, superclass=above)
+    return made
+
+
+def long_lists_and_a_cycle():
+    """Interfaces that each name the next one 1,000 times, in a chain whose end is a cycle."""
+    names = [f'I{number:04}' for number in range(MOST_CLASSES - 1)]
+    made = {'Main': started()}
+    for below, above in zip(names, [*names[1:], names[-2]]):
+        made[below] = interface(below, [above] * 1000)
+    return made
+
+
+FOLDERS = {
+    'a chain of superclasses': superclass_chain, 'a chain of interfaces': interface_chain, 'interfaces in diamonds': all_diamonds,
+    'interfaces in diamonds, and a blocking one': diamonds_and_a_blocking_interface, 'a cycle at the end of a chain': cycle_at_the_end,
+    'long lists of interfaces, and a cycle': long_lists_and_a_cycle}

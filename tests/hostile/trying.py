@@ -1,0 +1,162 @@
+"""What the scripts beside this file have in common: calling the program, small C libraries, and counting what was tried."""
+
+import math
+import os
+import resource
+import shutil
+import subprocess
+import sys
+import tempfile
+import time
+from typing import NamedTuple, Optional
+
+HERE = os.path.dirname(os.path.abspath(__file__))
+CASES = os.path.join(os.path.dirname(HERE), 'cases')
+SECONDS = 60
+# How much longer a call may take on a busy machine than its processor seconds say.
+BUSY = 30
+# What a script ends with where something that it needs can't be had.
+LACKING = 3
+
+# The words of each command that may be built, over files that aren't there.
+COMMANDS = {'run': ['f', 'm', 'Main', '1'], 'project': ['r', '-'], 'asm': ['s'], 'interact': ['r'], 'agree': ['r', 'o']}
+USAGE = 2
+
+
+class Ended(NamedTuple):
+    """How a call ended; its status is None where it was stopped after the time that it had."""
+
+    status: Optional[int]
+    out: bytes
+    err: bytes
+    seconds: float
+
+    def told(self):
+        """A line for a reader: the status and the first bytes of both streams."""
+        return f'status {self.status}, out {shown(self.out)}, err {shown(self.err)}'
+
+    def is_as(self, other):
+        return (self.status, self.out, self.err) == (other.status, other.out, other.err)
+
+
+def shown(data):
+    return repr(data[:80]) + (f' of {len(data)} bytes' if len(data) > 80 else '')
+
+
+def called(words, folder, seconds=SECONDS, environment=None, **more):
+    """Calls a program in a folder. What it reads is empty, unless told otherwise."""
+    more = {'stdin': subprocess.DEVNULL, 'stdout': subprocess.PIPE, 'stderr': subprocess.PIPE, **more}
+    began = time.perf_counter()
+    child = subprocess.Popen(words, cwd=folder, env={**os.environ, **(environment or {})}, **more)
+    try:
+        out, err = child.communicate(timeout=seconds)
+        status = child.returncode
+    except subprocess.TimeoutExpired:
+        child.kill()
+        out, err = child.communicate()
+        status = None
+    return Ended(status, out or b'', err or b'', time.perf_counter() - began)
+
+
+def processor_seconds():
+    """Those of all children that have ended."""
+    used = resource.getrusage(resource.RUSAGE_CHILDREN)
+    return used.ru_utime + used.ru_stime
+
+
+def measured(words, folder, seconds, memory=resource.RLIM_INFINITY):
+    """As `called`, in seconds of the processor, after which the program is stopped, and with so much memory. One call at a time."""
+    most = math.ceil(seconds)
+
+    def limit():
+        resource.setrlimit(resource.RLIMIT_CPU, (most, most + 1))
+        resource.setrlimit(resource.RLIMIT_AS, (memory, memory))
+    before = processor_seconds()
+    ended = called(words, folder, BUSY * most, preexec_fn=limit)
+    return ended._replace(seconds=processor_seconds() - before)
+
+
+def is_built(varexj, command):
+    """Whether the program has a command: its words are then no wrong use."""
+    with tempfile.TemporaryDirectory() as folder:
+        return called([varexj, command, *COMMANDS[command]], folder).status != USAGE
+
+
+def built_commands(varexj):
+    return [command for command in COMMANDS if is_built(varexj, command)]
+
+
+def case_words(name):
+    """The words of a worked case."""
+    with open(os.path.join(CASES, name, 'args')) as file:
+        return file.read().splitlines()
+
+
+def case_folder(name, place):
+    """A copy of a worked case, so that nothing is left beside it."""
+    folder = os.path.join(place, name)
+    shutil.copytree(os.path.join(CASES, name), folder)
+    return folder
+
+
+def library(source, place, name):
+    """A C library that can be preloaded, compiled from its text."""
+    text, path = os.path.join(place, name + '.c'), os.path.join(place, name + '.so')
+    with open(text, 'w') as file:
+        file.write(source)
+    subprocess.run(['gcc', '-O1', '-Wall', '-shared', '-fPIC', '-o', path, text, '-ldl'], check=True)
+    return path
+
+
+def needs(tool, package):
+    """Ends the script where a tool can't be had."""
+    if shutil.which(tool):
+        return
+    print(f'{tool} is not there: apt-get install -y {package}')
+    sys.exit(LACKING)
+
+
+def write(path, data):
+    os.makedirs(os.path.dirname(path) or '.', exist_ok=True)
+    with open(path, 'wb') as file:
+        file.write(data)
+
+
+class Tally:
+    """Counts what was tried. A difference that `known` names, with its reason, is told and is no failure."""
+
+    def __init__(self, known=None):
+        self.known = known or {}
+        self.met = set()
+        self.counts = {'passed': 0, 'failed': 0, 'known': 0}
+
+    def judge(self, name, problem, kind=None):
+        """Counts one try: `problem` is None, or a line that says what is wrong. What is known is known by its name or its kind."""
+        known = next((key for key in (name, kind) if key in self.known), None)
+        if problem is None:
+            self.counts['passed'] += 1
+        elif known:
+            self.counts['known'] += 1
+            self.met.add(known)
+        else:
+            self.counts['failed'] += 1
+            if self.counts['failed'] <= 40:
+                print(f'{name}: {problem}', flush=True)
+
+    def status(self):
+        """Says the counts, and gives the status of the script."""
+        for name, reason in self.known.items():
+            if name in self.met:
+                print(f'known: {name}: {reason}')
+            else:
+                self.counts['failed'] += 1
+                print(f'{name} is no longer so: take it off the list of what is known')
+        print(', '.join(f'{count} {word}' for word, count in self.counts.items()))
+        return 1 if self.counts['failed'] else 0
+
+
+def program():
+    """The program that the script was called with."""
+    if len(sys.argv) != 2:
+        sys.exit(sys.modules['__main__'].__doc__)
+    return os.path.abspath(sys.argv[1])
