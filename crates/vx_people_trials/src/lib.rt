@@ -1,6 +1,8 @@
-//! Pictures of small reports.
+//! Pictures and covers of small reports.
 #![tactic(auto)]
 
+#[cfg(test)]
+mod cover;
 #[cfg(test)]
 mod picture;
 #[cfg(test)]
