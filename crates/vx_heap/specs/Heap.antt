@@ -17,9 +17,11 @@ use Rattle.vx_java.specs.Machine.{Value, Object, no_object}
 use Rattle.vx_java.specs.Machine.{Top as TopValue, Int as IntValue, Long as LongValue, Null as NullValue, Ref as RefValue, Text as TextValue}
 use Rattle.vx_link.specs.declared.program.LinkedField.{LinkedField}
 use Rattle.vx_link.specs.declared.program.Program.{Program}
+use Rattle.vx_references.specs.Resolved.{resolved_table}
+use Rattle.vx_references.specs.declared.resolved.Resolved.{Resolved}
 use Rattle.vx_heap.specs.declared.object.HeapObject.{HeapObject}
 
--- a `Heap` as contracts see it: the objects in the order in which they were made, a value per field and an initialisation state per class, the texts by their numbers, the set of all configurations that run, the objects of the literals by class and pool entry, and the array for main
+-- a `Heap` as contracts see it: the objects in the order in which they were made, a value per field and an initialisation state per class, the texts by their numbers, the set of all configurations that run, the objects of the literals by class and pool entry, what each entry comes to in the program, and the array for main
 pub record HeapView (S I : Type 0) : Type 0 where
   pub objects : List (HeapObject S I)
   pub statics : List (Conditional Slot S I)
@@ -27,6 +29,7 @@ pub record HeapView (S I : Type 0) : Type 0 where
   pub texts : List (List ℕ)
   pub allowed : I
   pub literals : List (List ℕ)
+  pub resolved : List (List Resolved)
   pub words : ℕ
 
 -- ---- names
@@ -137,11 +140,12 @@ AreEverywhere allowed (o ∷ os) = (o.presence ≡ allowed) × AreEverywhere all
 abbrev pub literal_table : Program → List (List ℕ)
 literal_table p = map (λ c. map (literal_object p c.pool) c.pool.entries) p.classes
 
--- it was made for this program: a value per field, a state per class, and the first objects, which are there everywhere
+-- it was made for this program: a value per field, a state per class, what its entries come to, and the first objects, which are there everywhere
 pub record IsHeapFor {S I : Type 0} (p : Program) (heap : HeapView S I) : Type 0 where
   pub static_count : length heap.statics ≡ length p.fields
   pub init_count : length heap.inits ≡ length p.classes
   pub literals : heap.literals ≡ literal_table p
+  pub resolved : heap.resolved ≡ resolved_table p
   pub words : heap.words ≡ first_words p
   pub enough : first_words p < length heap.objects
   pub first : AreEverywhere heap.allowed (take (suc (first_words p)) heap.objects)
@@ -208,6 +212,10 @@ KeepsPlain {I = I} before after =
 -- the object of a pool entry
 abbrev pub literal_at : {S I : Type 0} → HeapView S I → (class entry : ℕ) → ℕ
 literal_at heap class entry = item_or (item_or heap.literals class []) entry 0
+
+-- what the table says of a pool entry, if it has the entry
+abbrev pub resolved_in : {S I : Type 0} → HeapView S I → (class entry : ℕ) → Option Resolved
+resolved_in heap class entry = slice_get (item_or heap.resolved class []) entry
 
 -- each option that a field belongs to is one of the space
 abbrev pub has_option : (options : ℕ) → Option ℕ → Bool

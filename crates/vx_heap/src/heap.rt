@@ -8,10 +8,12 @@ ghost use Rattle.vx_value.specs.Slot.{slot_cmp, init_state_cmp};
 ghost use Rattle.vx_java.specs.FirstObjects.{first_boolean, first_integer};
 ghost use Rattle.vx_java.specs.Ids.{HasClassNumbers};
 ghost use Rattle.vx_link.specs.CoreFiles.{core_count};
+ghost use Rattle.vx_link.specs.Parts.{class_at};
 ghost use Rattle.vx_list.specs.Places.{item_or};
 ghost use Rattle.vx_heap.specs.First.{IsFirstHeap};
-ghost use Rattle.vx_heap.specs.Heap.{IsHeap, IsCellRead, IsStaticRead, IsStaticWritten, IsInitWritten, IsTextPut, KeepsPlain, has_options, heap_ids, init_of, is_held, literal_at, object_ids, object_in, static_of};
+ghost use Rattle.vx_heap.specs.Heap.{IsHeap, IsHeapFor, IsCellRead, IsStaticRead, IsStaticWritten, IsInitWritten, IsTextPut, KeepsPlain, has_options, heap_ids, init_of, is_held, literal_at, object_ids, object_in, resolved_in, static_of};
 ghost use Rattle.vx_cond.specs.Slots.{slot_at};
+ghost use Rattle.vx_references.specs.Resolved.{resolved_at};
 
 use crate::lifted::{lifted_objects, same_values, static_values};
 use crate::object::HeapObject;
@@ -21,6 +23,7 @@ use vx_cond::{Cond, Projects};
 use vx_initial_heap::First;
 use vx_link::Program;
 use vx_list::Items;
+use vx_references::{Resolved, resolve, resolved_table};
 use vx_space::{Space, SpaceFault};
 use vx_value::{ClassId, Exact, FieldId, InitState, Slot, TextTable};
 
@@ -33,6 +36,7 @@ pub struct Heap<S: Space> {
     texts: TextTable,
     allowed: S::Id,
     literals: Vec<Items<u64>>,
+    resolved: Vec<Items<Resolved>>,
     words: u64,
 }
 
@@ -41,7 +45,7 @@ impl<S: Space> Model for Heap<S> {
 
     ghost Value = { HeapView S S.Id };
 
-    ghost view = { λ h. record { objects = h.objects.items; statics = h.statics.items; inits = h.inits.items; texts = h.texts.texts; allowed = h.allowed; literals = h.literals.items; words = h.words } };
+    ghost view = { λ h. record { objects = h.objects.items; statics = h.statics.items; inits = h.inits.items; texts = h.texts.texts; allowed = h.allowed; literals = h.literals.items; resolved = h.resolved.items; words = h.words } };
 }
 
 impl<S: Space> Heap<S> {
@@ -64,6 +68,7 @@ impl<S: Space> Heap<S> {
         let statics = static_values(alloc, space, &first.statics, allowed)?;
         let objects = lifted_objects(alloc, space, &first.objects, allowed)?;
         let inits = same_values(alloc, space, &first.inits, allowed)?;
+        let resolved = resolved_table(alloc, program)?;
         let First {
             texts,
             literals,
@@ -77,6 +82,7 @@ impl<S: Space> Heap<S> {
             texts,
             allowed,
             literals,
+            resolved,
             words,
         })
     }
@@ -127,6 +133,27 @@ impl<S: Space> Heap<S> {
         ensures { result ≡ literal_at self.now class.0 entry }
     {
         self.literals[class.0 as usize].as_slice()[entry as usize]
+    }
+
+    fn resolved_in(&self, class: ClassId, entry: u16) -> Option<Resolved>
+        ensures { result ≡ resolved_in self.now class.0 entry }
+    {
+        match self.resolved.get(class.0 as usize) {
+            Some(row) => row.get(entry as usize).copied(),
+            None => None,
+        }
+    }
+
+    /// What an entry of the pool of a class comes to in the program (JVMS 5.4.3). It was found when the heap was made.
+    pub fn resolved(&self, program: &Program, class: ClassId, entry: u16) -> Resolved
+        requires classes { HasClassNumbers program.now }
+        requires for_program { IsHeapFor program.now self.now }
+        ensures { result ≡ resolved_at program.now (class_at program.now class.0).pool entry }
+    {
+        match self.resolved_in(class, entry) {
+            Some(found) => found,
+            None => resolve(program, class, entry),
+        }
     }
 
     /// The Integer object of a value from -128 to 127.

@@ -31,6 +31,7 @@ use Rattle.vx_group_states.specs.declared.site.Site.{Site}
 use Rattle.vx_invoke.specs.Called.{IsEntry, IsRunning, SomeEnters}
 use Rattle.vx_invoke.specs.Named.{is_built_call, pool_of}
 use Rattle.vx_references.specs.Calls.{println, referenced}
+use Rattle.vx_references.specs.Resolved.{member_in, resolved_at}
 
 -- ---- the instruction
 
@@ -69,6 +70,12 @@ invoke_is h mode i e =
     let names = is_of_println (member h.pool i) parts.1 in
     λ j. by_member h (virtual j) (names j)
 
+-- what the entry of such a call comes to
+pub resolved_println : {S I : Type 0} (site : Site) (group : GroupView S I) (mode : Mode) (i : ℕ) (operation : Operation) → operation ≡ Invoke mode i → is_built_call (pool_of site group) operation ≡ true → (resolved_at site.program.now (pool_of site group) i).member ≡ member_in site.program.now println
+resolved_println site group mode i operation is family =
+    let built = sym (ap (is_built_call (pool_of site group)) is) ∙ family in
+    ap (member_in site.program.now) (is_of_println (member (pool_of site group) i) (both_parts (is_virtual mode) (is_println (member (pool_of site group) i)) built).1)
+
 -- the row at a state of the group
 pub row_by-is : {S I : Type 0} (site : Site) (sets : Sets I) (heap : HeapView S I) (tree : List (Option (Caller S I))) (group : GroupView S I) (mode : Mode) (i : ℕ) (operation : Operation) → operation ≡ Invoke mode i → is_built_call (pool_of site group) operation ≡ true → (c : List Bool) → row_by site operation (state_at sets heap tree group c) ≡ referenced (here site (state_at sets heap tree group c))
 row_by-is site sets heap tree group mode i operation is family c =
@@ -96,7 +103,7 @@ third_false true true c d e = ap (λ x. x && d) e
 third_false true false c d e = refl
 third_false false b c d e = refl
 
-first_false : (a b c d : Bool) → a ≡ false → (a && b && c && d) ≡ false
+pub first_false : (a b c d : Bool) → a ≡ false → (a && b && c && d) ≡ false
 first_false a b c d e = ap (λ x. x && b && c && d) e
 
 -- a state with one frame enters a second one

@@ -12,6 +12,7 @@ ghost use Rattle.vx_families.specs.Attempts.{IsAttemptBy, IsGiven, MeetsUnbuilt}
 ghost use Rattle.vx_invoke.specs.Called.{AreReceivers, HasReceiver, IsCalling, IsRunning, SomeEnters, called, is_enter};
 ghost use Rattle.vx_invoke.specs.Named.{is_built_call, pool_of};
 ghost use Rattle.vx_references.specs.Calls.{println, referenced};
+ghost use Rattle.vx_references.specs.Resolved.{member_in};
 
 use crate::call::{Call, Receiver, call_of, receiver_of};
 use std::alloc::Global;
@@ -21,8 +22,11 @@ use vx_group::Group;
 use vx_group_states::{Site, illegal};
 use vx_heap::Heap;
 use vx_java::Operation;
+use vx_java::parts::class_of_method;
 use vx_outcome::{Outcome, Outcomes};
-use vx_references::{MethodReference, method_name, println_class, println_reference, println_text};
+use vx_references::{
+    MethodReference, ResolvedMember, method_name, println_class, println_reference, println_text,
+};
 use vx_space::{Space, SpaceFault};
 use vx_value::{ClassId, MethodId};
 
@@ -167,20 +171,22 @@ fn instance_call<S: Space>(
     Ok(made)
 }
 
-/// All runs by what the name comes to.
+/// All runs by what the name is to a call, where it comes to `resolved`.
 fn referenced_call<S: Space>(
     alloc: Global,
     site: &Site,
     space: &mut S,
     heap: &Heap<S>,
     group: Group<S>,
+    resolved: ResolvedMember,
 ) -> Result<Option<Outcomes<S>>, SpaceFault>
     requires running { IsRunning site.now (S.sets space.old) heap.now group }
+    requires resolved { resolved ≡ member_in site.now.program.now println }
     ensures extends { Extends (S.sets space.old) (S.sets space.new) }
     ensures gives { IfOk result (λ r. IfSome r (λ o. GivesAt site.now.program.now (λ _ _ s. referenced (here site.now s)) (S.sets space.old) (S.sets space.new) group o.items.items heap.now)) }
     ensures enters { IfOk result (λ r. IsNone r → SomeEnters site.now (S.sets space.old) heap.now group (λ s. referenced (here site.now s))) }
 {
-    match println_reference(site.program) {
+    match println_reference(site.program, resolved) {
         MethodReference::Found { named, resolved } => {
             let made = instance_call(alloc, site, space, heap, group, named, resolved)?;
             Ok(made)
@@ -225,10 +231,12 @@ pub fn attempt<S: Space>(
     ensures ok { IfOk result (λ r. IsAttemptBy site.now operation (S.sets space.old) (S.sets space.new) heap.now heap.now group r.items.items) }
     ensures not_yet { result ≡ Err AttemptFault.NotYet → MeetsUnbuilt site.now (S.sets space.old) heap.now group }
 {
-    let Operation::Invoke(_mode, _entry) = operation else {
+    let Operation::Invoke(_mode, entry) = operation else {
         unreachable!()
     };
-    match referenced_call(alloc, site, space, heap, group) {
+    let class = class_of_method(site.program, group.top_frame().method);
+    let resolved = heap.resolved(site.program, class, entry);
+    match referenced_call(alloc, site, space, heap, group, resolved.member) {
         Ok(Some(outcomes)) => Ok(outcomes),
         Ok(None) => Err(AttemptFault::NotYet),
         Err(SpaceFault::NoMemory) => Err(AttemptFault::NoMemory),

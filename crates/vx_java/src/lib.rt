@@ -32,7 +32,7 @@ pub use law::lockstep_is_runs;
 pub use naming::{class_named, class_of_name};
 pub use operation::{Element, Mode, Operation, Shuffle, Sort, Test};
 pub use places::place;
-pub use references::{MemberReference, member};
+pub use references::{MemberReference, member, member_by};
 pub use resolution::resolve_method;
 pub use selected::Selected;
 pub use selection::{select, select_special};

@@ -27,6 +27,9 @@ use Rattle.vx_group_states.specs.Sites.{GivesAt, here}
 use Rattle.vx_group_states.specs.Stands.{state_at}
 use Rattle.vx_group_states.specs.declared.site.Site.{Site}
 use Rattle.vx_group_states.proofs.EndingLaws.{GivesAt-before}
+use Rattle.vx_link.specs.declared.program.Program.{Program}
+use Rattle.vx_pool.specs.declared.pool.Pool.{Pool}
+use Rattle.vx_references.specs.Resolved.{class_name_of, resolved_at}
 use Rattle.vx_locals.specs.Constants.{constant_of}
 use Rattle.vx_locals.specs.declared.constant.Constant.TheVariants.{Class, LeftOut, Literal, Number, Unloadable}
 use Rattle.vx_locals.proofs.Literals.{literal_is, literal_named}
@@ -129,3 +132,7 @@ none_named (Some n) r e h = cc
 pub some_named : (o : Option ℕ) (r : Option ClassId) (c : ClassId) → r ≡ option_map as_class o → r ≡ Some c → (n : ℕ) × (o ≡ Some n)
 some_named None r c e h = cc
 some_named (Some n) r c e h = (n, refl)
+
+-- the class that the entry of a class comes to
+pub class_resolved : (p : Program) (pool : Pool) (index name : ℕ) → constant_of (entry_of pool index) ≡ Class name → (resolved_at p pool index).class ≡ option_map as_class (class_named p (utf8 pool name))
+class_resolved p pool index name e = ap (λ o. option_map as_class (class_named p (class_name_of pool o))) (class_entry (entry_of pool index) name e)

@@ -2,8 +2,5 @@ pub mod Placed
 pub mod Putting
 pub mod Ending
 pub mod Going
-pub mod Raising
 pub mod Outcomes
-pub mod Places
 pub mod Sequence
-pub mod Refusals

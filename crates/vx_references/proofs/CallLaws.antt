@@ -1,5 +1,5 @@
 -- What the name of println of an int comes to in a program.
-use Rattle.std.proofs.Common.{◌≡◌, ℕ, Bool, true, false, refl, ◌∙◌, ap, Some}
+use Rattle.std.proofs.Common.{◌≡◌, ℕ, Bool, true, false, refl, ◌∙◌, ap, None, Some}
 use Rattle.std.specs.Prelude.{option_map, ◌&&◌}
 use Rattle.vx_class.specs.Members.{STATIC}
 use Rattle.vx_java.specs.Calls.{call_instance, call_resolved, if_method, on_class, clone_array, wrong_kind}
@@ -13,9 +13,9 @@ use Rattle.vx_link.specs.Resolution.{is_array_clone, resolve_method}
 use Rattle.vx_link.specs.declared.program.Program.{Program}
 use Rattle.vx_value.specs.declared.ids.ClassId.{ClassId}
 use Rattle.vx_value.specs.declared.ids.MethodId.{MethodId}
-use Rattle.vx_references.proofs.Numbers.{class_some, method_some}
+use Rattle.vx_references.proofs.Numbers.{class_none, class_some, method_none, method_some}
 use Rattle.vx_references.specs.Calls.{IsMethodReference, println, referenced, seeing}
-use Rattle.vx_references.specs.declared.calls.MethodReference.TheVariants.{Found, WrongKind}
+use Rattle.vx_references.specs.declared.calls.MethodReference.TheVariants.{Found, NoClass, NoMethod, WrongKind}
 
 and_false : (a : Bool) → (a && false) ≡ false
 and_false true = refl
@@ -35,6 +35,31 @@ resolved_there p named resolved n i m h =
     ∙ ap (λ b. when (same_bool false b) (on_class seen Virtual println named.0) (wrong_kind seen)) i
     ∙ ap cloned (no_clone p named.0)
     ∙ ap (λ o. if_method seen Virtual println named.0 o) (method_some (resolve_method p named.0 println.name println.descriptor) resolved m)
+
+pub no_class : (p : Program) → None ≡ option_map as_class (class_named p println.class) → IsMethodReference p NoClass
+no_class p n = record {
+  decides = λ h. ap (λ o. if_there (seeing p h) println.class o (λ c. when (same_bool false (is_interface p c)) (on_class (seeing p h) Virtual println c) (wrong_kind (seeing p h)))) (class_none (class_named p println.class) n);
+}
+
+-- a class that is there
+class_found : (p : Program) (named : ClassId) → Some named ≡ option_map as_class (class_named p println.class) → (h : Here) → referenced (seeing p h) ≡ when (same_bool false (is_interface p named.0)) (on_class (seeing p h) Virtual println named.0) (wrong_kind (seeing p h))
+class_found p named n h = ap (λ o. if_there (seeing p h) println.class o (λ c. when (same_bool false (is_interface p c)) (on_class (seeing p h) Virtual println c) (wrong_kind (seeing p h)))) (class_some (class_named p println.class) named n)
+
+pub of_interface : (p : Program) (named : ClassId) → Some named ≡ option_map as_class (class_named p println.class) → is_interface p named.0 ≡ true → IsMethodReference p WrongKind
+of_interface p named n i = record {
+  decides = λ h. class_found p named n h ∙ ap (λ b. when (same_bool false b) (on_class (seeing p h) Virtual println named.0) (wrong_kind (seeing p h))) i;
+}
+
+pub no_method : (p : Program) (named : ClassId) → Some named ≡ option_map as_class (class_named p println.class) → is_interface p named.0 ≡ false → None ≡ option_map as_method (resolve_method p named.0 println.name println.descriptor) → IsMethodReference p NoMethod
+no_method p named n i m = record {
+  decides = λ h.
+      let seen = seeing p h in
+      let cloned : Bool → Outcome = λ b. elim b [ true ↦ clone_array seen Virtual println named.0 | false ↦ if_method seen Virtual println named.0 (resolve_method p named.0 println.name println.descriptor) ] in
+      class_found p named n h
+      ∙ ap (λ b. when (same_bool false b) (on_class seen Virtual println named.0) (wrong_kind seen)) i
+      ∙ ap cloned (no_clone p named.0)
+      ∙ ap (λ o. if_method seen Virtual println named.0 o) (method_none (resolve_method p named.0 println.name println.descriptor) m);
+}
 
 pub static_method : (p : Program) (named : ClassId) (resolved : MethodId) → Some named ≡ option_map as_class (class_named p println.class) → is_interface p named.0 ≡ false → Some resolved ≡ option_map as_method (resolve_method p named.0 println.name println.descriptor) → has STATIC (method_at p resolved.0).flags ≡ true → IsMethodReference p WrongKind
 static_method p named resolved n i m s = record {

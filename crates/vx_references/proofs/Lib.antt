@@ -1,3 +1,4 @@
 pub mod Numbers
+pub mod ResolvedLaws
 pub mod FieldLaws
 pub mod CallLaws

@@ -25,3 +25,7 @@ field_none (Some n) e = cc
 pub method_some : (o : Option ℕ) (method : MethodId) → Some method ≡ option_map as_method o → o ≡ Some method.0
 method_some None method e = cc
 method_some (Some n) method e = cc
+
+pub method_none : (o : Option ℕ) → None ≡ option_map as_method o → o ≡ None
+method_none None e = refl
+method_none (Some n) e = cc

@@ -2,19 +2,19 @@
 
 ghost use Rattle.std.specs.Prelude.{◌≡◌, IfOk};
 ghost use Rattle.vx_java.specs.Calls.{member_text};
-ghost use Rattle.vx_java.specs.Ids.{HasClassNumbers};
 ghost use Rattle.vx_java.specs.Machine.{method_text};
 ghost use Rattle.vx_class.specs.Members.{STATIC};
 ghost use Rattle.vx_link.specs.Parts.{has, method_at};
 ghost use Rattle.vx_references.specs.Calls.{IsMethodReference, println};
+ghost use Rattle.vx_references.specs.Resolved.{member_in};
 
+use crate::resolved::ResolvedMember;
 use bitflags::Flags;
 use std::alloc::{AllocError, Global};
 use vx_java::parts::{
     class_of_method, descriptor_of_method, flags_of_method, is_interface, name_of_class,
     name_of_method,
 };
-use vx_java::{class_named, resolve_method};
 use vx_link::{AccessFlags, Program};
 use vx_value::{ClassId, MethodId, Name};
 
@@ -37,24 +37,27 @@ fn is_static(program: &Program, method: MethodId) -> bool
     flags_of_method(program, method).contains(AccessFlags::STATIC)
 }
 
-/// Resolves the name of println of an int.
-pub fn println_reference(program: &Program) -> MethodReference
-    requires { HasClassNumbers program.now }
+/// What the name of println of an int is to a call, where it comes to `resolved`.
+pub fn println_reference(program: &Program, resolved: ResolvedMember) -> MethodReference
+    requires { resolved ≡ member_in program.now println }
     ensures { IsMethodReference program.now result }
 {
-    let Some(named) = class_named(program, b"java/io/PrintStream") else {
+    let Some(named) = resolved.owner else {
         return MethodReference::NoClass;
     };
     if is_interface(program, named) {
         return MethodReference::WrongKind;
     }
-    let Some(resolved) = resolve_method(program, named, b"println", b"(I)V") else {
+    let Some(method) = resolved.method else {
         return MethodReference::NoMethod;
     };
-    if is_static(program, resolved) {
+    if is_static(program, method) {
         return MethodReference::WrongKind;
     }
-    MethodReference::Found { named, resolved }
+    MethodReference::Found {
+        named,
+        resolved: method,
+    }
 }
 
 /// The name of the class.

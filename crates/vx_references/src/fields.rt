@@ -2,14 +2,15 @@
 
 ghost use Rattle.std.specs.Prelude.{◌≡◌, ◌<◌, ◌^◌, length};
 ghost use Rattle.vx_java.specs.Checks.{same_bool, sort_of};
-ghost use Rattle.vx_java.specs.Ids.{HasClassNumbers};
 ghost use Rattle.vx_link.specs.Names.{member};
 ghost use Rattle.vx_link.specs.Parts.{is_static_field};
 ghost use Rattle.vx_references.specs.Fields.{IsFieldReference};
+ghost use Rattle.vx_references.specs.Resolved.{member_in};
 
+use crate::resolved::ResolvedMember;
 use bitflags::Flags;
 use vx_desc::{Base, JavaType, field_type};
-use vx_java::{Sort, class_named, member, resolve_field};
+use vx_java::{Sort, member};
 use vx_link::{AccessFlags, Program};
 use vx_pool::Pool;
 use vx_value::{ClassId, FieldId};
@@ -69,16 +70,17 @@ fn agrees(program: &Program, field: FieldId, is_static: bool) -> bool
     }
 }
 
-/// The field that an instruction names by an entry of a pool, where it wants a static one or one of an object.
+/// The field that an instruction names by an entry of a pool, where the entry comes to `resolved`, and the instruction wants a
+/// static field or one of an object.
 pub fn field_reference(
     program: &Program,
     pool: &Pool,
     index: u16,
+    resolved: ResolvedMember,
     is_static: bool,
 ) -> FieldReference
-    requires classes { HasClassNumbers program.now }
-    requires class { length (member pool.now index).class < 2 ^ 32 }
     requires descriptor { length (member pool.now index).descriptor < 2 ^ 32 }
+    requires resolved { resolved ≡ member_in program.now (member pool.now index) }
     ensures { IsFieldReference program.now pool.now index is_static result }
 {
     let reference = member(pool, index);
@@ -88,10 +90,10 @@ pub fn field_reference(
     let Some(_sort) = sort_of(field_type) else {
         return FieldReference::Floating;
     };
-    let Some(named) = class_named(program, reference.class) else {
+    let Some(named) = resolved.owner else {
         return FieldReference::NoClass;
     };
-    let Some(field) = resolve_field(program, named, reference.name, reference.descriptor) else {
+    let Some(field) = resolved.field else {
         return FieldReference::NoField;
     };
     if !agrees(program, field, is_static) {
