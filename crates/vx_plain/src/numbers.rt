@@ -1,5 +1,13 @@
 //! Arithmetic of ints and longs (JVMS 6.5).
 
+ghost use Rattle.std.specs.Prelude.{◌≡◌, IfOk, Ok, Some, codes};
+ghost use Rattle.vx_java.specs.Calculation.{int_arithmetic, int_shift, long_arithmetic, long_compare, long_shift};
+ghost use Rattle.vx_java.specs.Ids.{as_class};
+ghost use Rattle.vx_java.specs.Row.{row_of};
+ghost use Rattle.vx_link.specs.ClassNames.{core_class};
+ghost use Rattle.vx_plain.specs.Rows.{ComesTo, here_in};
+ghost use Rattle.vx_plain.specs.Views.{state_of};
+
 use crate::here::Here;
 use crate::outcome::Made;
 use crate::state::State;
@@ -36,7 +44,10 @@ impl<'a> Here<'a> {
     }
 
     /// iadd, isub, imul, idiv, irem, iand, ior, ixor.
-    pub fn int_arithmetic(&self, state: &mut State, op: IntOp) -> Made {
+    #[tactic(auto, using(crate::proofs::NumberRows::int_arithmetic_by))]
+    pub fn int_arithmetic(&self, state: &mut State, op: IntOp) -> Made
+        ensures { let s = state_of state.old in IfOk result (ComesTo (int_arithmetic (here_in self.now s) op s.top.operands) s (state_of state.new)) }
+    {
         match (int_in(state.operand(0)), int_in(state.operand(1))) {
             (Some(b), Some(a)) => match int_op(op, a, b) {
                 Some(n) => self.push(state, 2, Value::Int(n)),
@@ -47,7 +58,10 @@ impl<'a> Here<'a> {
     }
 
     /// ladd, lsub, lmul, ldiv, lrem, land, lor, lxor.
-    pub fn long_arithmetic(&self, state: &mut State, op: IntOp) -> Made {
+    #[tactic(auto, using(crate::proofs::NumberRows::long_arithmetic_by))]
+    pub fn long_arithmetic(&self, state: &mut State, op: IntOp) -> Made
+        ensures { let s = state_of state.old in IfOk result (ComesTo (long_arithmetic (here_in self.now s) op s.top.operands) s (state_of state.new)) }
+    {
         match (long_in(state.operand(0)), long_in(state.operand(1))) {
             (Some(b), Some(a)) => match long_op(op, a, b) {
                 Some(n) => self.push(state, 2, Value::Long(n)),
@@ -58,7 +72,10 @@ impl<'a> Here<'a> {
     }
 
     /// ishl, ishr, iushr.
-    pub fn int_shift(&self, state: &mut State, op: ShiftOp) -> Made {
+    #[tactic(auto, using(crate::proofs::NumberRows::int_shift_by))]
+    pub fn int_shift(&self, state: &mut State, op: ShiftOp) -> Made
+        ensures { let s = state_of state.old in IfOk result (ComesTo (int_shift (here_in self.now s) op s.top.operands) s (state_of state.new)) }
+    {
         match (int_in(state.operand(0)), int_in(state.operand(1))) {
             (Some(n), Some(a)) => { self.push(state, 2, Value::Int(shift_int(op, a, n))) }
             _ => self.illegal(state),
@@ -66,7 +83,10 @@ impl<'a> Here<'a> {
     }
 
     /// lshl, lshr, lushr: the distance is an int.
-    pub fn long_shift(&self, state: &mut State, op: ShiftOp) -> Made {
+    #[tactic(auto, using(crate::proofs::NumberRows::long_shift_by))]
+    pub fn long_shift(&self, state: &mut State, op: ShiftOp) -> Made
+        ensures { let s = state_of state.old in IfOk result (ComesTo (long_shift (here_in self.now s) op s.top.operands) s (state_of state.new)) }
+    {
         match (int_in(state.operand(0)), long_in(state.operand(1))) {
             (Some(n), Some(a)) => { self.push(state, 2, Value::Long(shift_long(op, a, n))) }
             _ => self.illegal(state),
@@ -74,7 +94,10 @@ impl<'a> Here<'a> {
     }
 
     /// lcmp.
-    pub fn long_compare(&self, state: &mut State) -> Made {
+    #[tactic(auto, using(crate::proofs::NumberRows::long_compare_by))]
+    pub fn long_compare(&self, state: &mut State) -> Made
+        ensures { let s = state_of state.old in IfOk result (ComesTo (long_compare (here_in self.now s) s.top.operands) s (state_of state.new)) }
+    {
         match (long_in(state.operand(0)), long_in(state.operand(1))) {
             (Some(b), Some(a)) => { self.push(state, 2, Value::Int(compare_long(a, b))) }
             _ => self.illegal(state),
