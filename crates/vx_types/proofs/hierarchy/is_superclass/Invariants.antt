@@ -1,0 +1,11 @@
+use Rattle.std.proofs.Common.{◌≡◌}
+use Rattle.vx_java.proofs.Walks.{chain_from}
+use Rattle.vx_link.specs.Hierarchy.{is_among, superclasses}
+use Rattle.vx_types.proofs.hierarchy.is_superclass.Given as goal
+
+abbrev pub invariant-loop-left : goal.invariant-loop-left
+invariant-loop-left l =
+    is_among l.wanted.0 (superclasses l.program l.fn.class.0) ≡ is_among l.wanted.0 (chain_from l.program l.left l.next)
+
+abbrev pub decreases-loop-left : goal.decreases-loop-left
+decreases-loop-left l = l.left
