@@ -1,0 +1,13 @@
+//! Covers: a few configurations in which each piece and each end of a report stands.
+#![tactic(auto)]
+
+pub mod covering;
+pub mod scope;
+pub mod target;
+pub mod text;
+pub mod tries;
+
+pub use covering::cover;
+pub use scope::{ended, set_of};
+pub use text::{cover_text, put_configuration};
+pub use tries::Try;

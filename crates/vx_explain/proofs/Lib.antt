@@ -1,0 +1,5 @@
+mod Explaining
+mod Halves
+mod Printed
+mod TermSets
+mod Truths

@@ -1,0 +1,11 @@
+//! Pictures, covers and explanations of small reports.
+#![tactic(auto)]
+
+#[cfg(test)]
+mod cover;
+#[cfg(test)]
+mod explain;
+#[cfg(test)]
+mod picture;
+#[cfg(test)]
+mod reports;

@@ -1,0 +1,33 @@
+//! Reports.
+
+ghost use Rattle.vx_report_reader.specs.Lawful.{IsLawful};
+
+use std::alloc::Global;
+use std::process::Abort;
+use vx_report::Report;
+use vx_report_reader::read_report;
+
+/// A program that prints the value of its one option.
+pub const PLAIN: &str =
+    "varexj report 1\noptions 1\noption A\nlimit 100\nrounds 4\nnode 2 0 1 0\nnode 3 0 0 1\nout 2 0\\0a\nout 3 1\\0a\nend 1 return\ndone\n";
+
+/// A program whose model allows what has MAIL on, that prints a line with SIGN on, and fails with SIGN and ZIP on.
+pub const MAIL: &str =
+    "varexj report 1\noptions 3\noption MAIL\noption SIGN\noption ZIP\nlimit 100\nrounds 9\nnode 2 1 0 1\nnode 3 0 0 2\nnode 4 2 1 0\nnode 5 1 1 4\nnode 6 0 0 5\nnode 7 2 0 1\nnode 8 1 0 7\nnode 9 0 0 8\nout 3 checked\\0a\nend 6 return\nend 9 uncaught java/lang/IllegalStateException\ndone\n";
+
+/// Two ends, of which the second is had only where the first isn't, a piece that no configuration with an end has, a piece of
+/// several lines, a long one, and numbers of attempts with a node of their own.
+pub const ODD: &str =
+    "varexj report 2\noptions 2\noption A\noption B\nlimit 100\nrounds 4\nnode 2 0 1 0\nnode 3 1 0 1\nnode 4 0 0 3\nnode 5 0 0 1\nnode 6 1 1 0\nout 2 a\\0ab\\0a\nerr 4 0123456789012345678901234567890123456789012345678901234567890\nend 5 return\nend 4 exit 3\nattempts 6 3\nattempts 3 4\ndone\n";
+
+/// A piece that a configuration has where an odd number of its seven options is on, so that each rule for it in terms has 64 of
+/// them.
+pub const PARITY: &str =
+    "varexj report 1\noptions 7\noption A\noption B\noption C\noption D\noption E\noption F\noption G\nlimit 100\nrounds 4\nnode 2 6 0 1\nnode 3 6 1 0\nnode 4 5 2 3\nnode 5 5 3 2\nnode 6 4 4 5\nnode 7 4 5 4\nnode 8 3 6 7\nnode 9 3 7 6\nnode 10 2 8 9\nnode 11 2 9 8\nnode 12 1 10 11\nnode 13 1 11 10\nnode 14 0 12 13\nout 14 x\nend 1 return\ndone\n";
+
+/// A report of a text.
+pub fn report_of(rt: &impl Abort, alloc: Global, text: &str) -> Report
+    ensures { IsLawful result }
+{
+    read_report(alloc, text.as_bytes()).expect(rt, "a report")
+}

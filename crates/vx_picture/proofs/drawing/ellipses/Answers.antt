@@ -1,0 +1,7 @@
+use Rattle.std.proofs.Common.{[], ◌∙◌}
+use Rattle.vx_picture.specs.Pictures.{ellipse}
+use Rattle.vx_picture.proofs.Numbered.{numbered-more}
+use Rattle.vx_picture.proofs.drawing.ellipses.Goals as goal
+
+pub loop-place-preserved : goal.loop-place-preserved
+loop-place-preserved c = c.in_ok-push.ensures.items ∙ numbered-more ellipse [] _ _ _ _ _ c.loop-place-test.true c.loop-place.invariant

@@ -1,0 +1,4 @@
+pub mod Pictures
+pub mod Subjects
+pub mod Text
+pub mod Walks
