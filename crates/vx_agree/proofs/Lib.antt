@@ -1,6 +1,5 @@
 pub mod Equal
 pub mod Left
-pub mod Sets
 pub mod Places
 pub mod Sharing
 pub mod Taken

@@ -5,8 +5,8 @@ ghost use Rattle.vx_space.specs.Sets.{Extends, IsKnown, IsSet};
 ghost use Rattle.vx_bdd_tools.specs.Listing.{AreSetsOf};
 ghost use Rattle.vx_agree.specs.Ends.{AreAscending, AreEndings, have_same_end};
 
-use crate::taking::set_of;
 use std::cmp::Ordering;
+use vx_bdd_tools::set_of;
 use vx_report::Report;
 use vx_space::{Space, SpaceFault};
 

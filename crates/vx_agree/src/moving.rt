@@ -11,9 +11,10 @@ ghost use Rattle.vx_agree.specs.Places.{AreKnownPlaces};
 ghost use Rattle.vx_agree.specs.Moving.{AreMoved, GoesAlong, HaveMoved, IsMoved, SaysTheSame};
 
 use crate::reached::{Reached, put};
-use crate::taking::{place_behind, set_of, take_text};
+use crate::taking::{place_behind, take_text};
 use crate::texts::{behind, common_from};
 use std::alloc::Global;
+use vx_bdd_tools::set_of;
 use vx_report::{Piece, Report};
 use vx_space::{Space, SpaceFault};
 

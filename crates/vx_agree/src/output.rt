@@ -10,9 +10,9 @@ ghost use Rattle.vx_agree.specs.Moving.{AreBehind, IsAllSaid, IsSameOutput, IsUn
 
 use crate::moving::moved;
 use crate::reached::Reached;
-use crate::taking::set_of;
 use crate::texts::behind;
 use std::alloc::Global;
+use vx_bdd_tools::set_of;
 use vx_report::{Piece, Report};
 use vx_space::{Space, SpaceFault};
 

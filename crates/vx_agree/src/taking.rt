@@ -6,26 +6,16 @@
 
 ghost use Rattle.std.specs.Prelude.{◌<◌, ◌≤◌, ◌^◌, IfOk, OnOk, drop, length};
 ghost use Rattle.vx_bdd_tools.specs.Listing.{AreSetsOf};
-ghost use Rattle.vx_bdd_tools.specs.Nodes.{holds};
-ghost use Rattle.vx_space.specs.Sets.{Extends, IsKnown, IsSet};
+ghost use Rattle.vx_space.specs.Sets.{Extends, IsKnown};
 ghost use Rattle.vx_agree.specs.Places.{AreKnownPlaces};
 ghost use Rattle.vx_agree.specs.Taking.{HasTaken, IsBegun, IsBehind, IsTaken, Takes, TakesAll};
 
 use crate::reached::{Reached, put};
 use crate::texts::{behind, common_from};
 use std::alloc::Global;
+use vx_bdd_tools::set_of;
 use vx_report::{Piece, Report};
 use vx_space::{Space, SpaceFault};
-
-/// The set of a number among the sets of a report's nodes; a number past them holds nothing.
-pub fn set_of<S: Space>(space: &S, sets: &[S::Id], node: u64) -> S::Id
-    ensures { (nodes : _) → AreSetsOf (S.sets space.now) nodes sets.now → IsSet (S.sets space.now) result (holds nodes node) }
-{
-    match sets.get(node as usize) {
-        Some(set) => *set,
-        None => space.never(),
-    }
-}
 
 /// The place behind so many bytes from a byte of a piece on: the start of the next piece, where nothing is left of it.
 pub fn place_behind(index: usize, piece: &Piece, byte: usize, count: usize) -> (usize, usize)

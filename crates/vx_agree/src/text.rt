@@ -1,69 +1,18 @@
 //! The text of an agreement.
 
-ghost use Rattle.std.specs.Prelude.{◌≡◌, ◌++◌, ℕ, List, IfOk, OnOk, map, length};
-ghost use Rattle.std.specs.List.{flat_map};
+ghost use Rattle.std.specs.Prelude.{◌≡◌, ◌++◌, ℕ, List, IfOk, OnOk, length};
 ghost use Rattle.vx_list.specs.Places.{item_or};
 ghost use Rattle.vx_space.specs.Sets.{IsKnown};
-ghost use Rattle.vx_report.specs.declared.line.Line.TheVariants.{Count, Named, Numbered};
 ghost use Rattle.vx_report.specs.declared.report.Report.{Report};
-ghost use Rattle.vx_report.specs.Lines.{whole_line};
-ghost use Rattle.vx_report.specs.Text.{numbered};
 ghost use Rattle.vx_agree.specs.Agreement.{IsAgreement};
 ghost use Rattle.vx_agree.specs.Text.{IsAgreementText, root_lines, set_text};
 
 use std::alloc::{AllocError, Global};
 use vx_bdd_tools::{Node, listing};
-use vx_report::Report;
+use vx_report::{Report, put_nodes, put_options};
 use vx_space::Space;
 use vx_value::Name;
 use vx_words::put_number;
-
-#[tactic(auto, unfolding(vx_report::specs::Lines::line_text, vx_report::specs::Lines::whole_line))]
-fn put_option(out: &mut Vec<u8>, name: &Name) -> Result<(), AllocError>
-    ensures { OnOk result (out.new.items ≡ out.old.items ++ whole_line (Named name.now)) }
-{
-    out.extend_from_slice(b"option ")?;
-    out.extend_from_slice(name.bytes())?;
-    out.extend_from_slice(b"\n")
-}
-
-/// Puts how many options there are, and their names.
-#[tactic(auto, unfolding(vx_report::specs::Lines::line_text, vx_report::specs::Lines::whole_line))]
-fn put_options(out: &mut Vec<u8>, options: &[Name]) -> Result<(), AllocError>
-    ensures { OnOk result (out.new.items ≡ out.old.items ++ (whole_line (Count (length options.now)) ++ flat_map whole_line (map Named options.now))) }
-{
-    out.extend_from_slice(b"options ")?;
-    put_number(out, options.len() as u64)?;
-    out.extend_from_slice(b"\n")?;
-    for name in options {
-        put_option(out, name)?;
-    }
-    Ok(())
-}
-
-#[tactic(auto, unfolding(vx_report::specs::Lines::line_text, vx_report::specs::Lines::whole_line))]
-fn put_node(out: &mut Vec<u8>, id: u64, node: &Node) -> Result<(), AllocError>
-    ensures { OnOk result (out.new.items ≡ out.old.items ++ whole_line (Numbered id node.now)) }
-{
-    out.extend_from_slice(b"node ")?;
-    put_number(out, id)?;
-    out.extend_from_slice(b" ")?;
-    put_number(out, u64::from(node.option))?;
-    out.extend_from_slice(b" ")?;
-    put_number(out, node.low)?;
-    out.extend_from_slice(b" ")?;
-    put_number(out, node.high)?;
-    out.extend_from_slice(b"\n")
-}
-
-fn put_nodes(out: &mut Vec<u8>, nodes: &[Node]) -> Result<(), AllocError>
-    ensures { OnOk result (out.new.items ≡ out.old.items ++ flat_map whole_line (numbered 2 nodes.now)) }
-{
-    for (place, node) in nodes.iter().enumerate() {
-        put_node(out, place as u64 + 2, node)?;
-    }
-    Ok(())
-}
 
 /// Puts the number of the set, and the last line.
 fn put_root(out: &mut Vec<u8>, root: u64) -> Result<(), AllocError>

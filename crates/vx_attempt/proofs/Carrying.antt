@@ -1,111 +1,24 @@
--- Outcomes over a heap with more texts, and those in which native methods are carried out.
-use Rattle.std.proofs.Common.{◌≡◌, ℕ, Bool, true, false, List, [], ◌∷◌, ◌++◌, ◌&&◌, ◌||◌, refl, sym, ◌∙◌, ap, subst, not, length, arith}
-use Rattle.std.specs.Prelude.{◌≢◌, Option, Some, None, if◌then◌else◌, unwrap_or}
-use Rattle.vx_value.specs.declared.ids.ClassId.{ClassId}
-use Rattle.vx_value.specs.declared.ids.MethodId.{MethodId}
-use Rattle.vx_value.specs.declared.slot.Slot.{Slot}
-use Rattle.vx_value.specs.declared.slot.Slot.TheVariants as slot
+-- Outcomes that are carried out one after the other, whatever is made of each.
+use Rattle.std.proofs.Common.{◌≡◌, ℕ, Bool, true, false, List, [], ◌∷◌, ◌++◌, ◌&&◌, ◌||◌, refl, sym, ◌∙◌, ap, not, length, arith}
+use Rattle.std.specs.Prelude.{◌≢◌, Option, Some, if◌then◌else◌, unwrap_or}
 use Rattle.vx_space.specs.Sets.{Sets, Extends, IsLawful, IsKnown}
 use Rattle.vx_space.proofs.Differences.{some_difference}
 use Rattle.vx_space.proofs.Spaces.{Extends-refl, Extends-trans}
-use Rattle.vx_cond.specs.Cond.{Conditional}
-use Rattle.vx_cond.specs.Slots.{slot_at}
 use Rattle.vx_group.specs.declared.callers.Caller.{Caller}
+use Rattle.vx_group.specs.Callers.{Keeps}
 use Rattle.vx_group.specs.Group.{GroupView, path_of}
-use Rattle.vx_heap.specs.Heap.{HeapView, IsHeap, is_held}
-use Rattle.vx_heap.proofs.HeapLaws.{IsHeap-extends}
-use Rattle.vx_families.specs.Built.{is_built_outcome}
-use Rattle.vx_families.proofs.Given.{IsGiven-extends, IsGiven-texts}
-use Rattle.vx_families.specs.Attempts.{AttemptsBy, IsGiven}
-use Rattle.vx_families.specs.Texts.{HasMoreTexts}
-use Rattle.vx_families.proofs.MoreTexts.{HasMoreTexts-refl, HasMoreTexts-trans, IsHeap-texts, StandsIn-texts, frame_held-texts, state_at-texts}
+use Rattle.vx_group.proofs.CallerLaws.{Keeps-refl, Keeps-trans}
+use Rattle.vx_heap.specs.Heap.{HeapView, IsHeap, IsHeapFor, globals_at}
+use Rattle.vx_java.specs.Machine.{State}
 use Rattle.vx_java.specs.Machine.{Outcome as PlainOutcome}
-use Rattle.vx_java.specs.Machine as plain
-use Rattle.vx_java.specs.Natives.{native}
-use Rattle.vx_java.specs.Step.{outcome_carried_out}
-use Rattle.vx_java.specs.declared.operation.Operation.{Operation}
 use Rattle.vx_link.specs.declared.program.Program.{Program}
-use Rattle.vx_outcome.specs.Outcome.{condition_of}
+use Rattle.vx_outcome.specs.Outcome.{Divide, condition_of}
 use Rattle.vx_outcome.specs.declared.outcome.Outcome.{Outcome}
-use Rattle.vx_outcome.specs.declared.outcome.Outcome.TheVariants as shared
-use Rattle.vx_group_states.specs.Stands.{AreOutcomes, CameTo, Continues, IsMessage, IsOutcome, IsThrown, comes_to, message_of, object_named, outcome_at, state_at}
-use Rattle.vx_group_states.specs.declared.site.Site.{Site}
-use Rattle.vx_group_states.proofs.OutcomeStates.{CameTo-append, CameTo-extends, CameTo-none, CameTo-one, CameTo-same, CameTo-through}
-use Rattle.vx_group_states.proofs.StateLaws.{both_first}
-use Rattle.vx_attempt.specs.Carrying.{AreCarriedOut, HasCall, HasUnbuilt, HaveCalls}
+use Rattle.vx_group_states.specs.Stands.{Attempts, CameTo, Continues, Grows, IsOutcome, outcome_at, state_at}
+use Rattle.vx_group_states.proofs.GrownStates.{CameTo-grown, Grows-refl, Grows-trans}
+use Rattle.vx_group_states.proofs.OutcomeStates.{CameTo-append, CameTo-none, CameTo-one, CameTo-same, CameTo-through}
+use Rattle.vx_attempt.specs.Carrying.{AreCarriedOut, SomeComesTo, is_covered}
 use Rattle.vx_standing.specs.Attempted.{AreConditionsKnown}
-
-module _ {S I : Type 0} (p : Program) (start sets : Sets I) (before after : HeapView S I) (m : HasMoreTexts before after) (v : IsHeap sets before) (tree : List (Option (Caller S I))) (group : GroupView S I) where
-  Continues-texts : (next : GroupView S I) → Continues p start sets before tree group next → Continues p start sets after tree group next
-  Continues-texts next h = record { stands = StandsIn-texts p sets before after tree next m h.stands; inside = h.inside; attempts = h.attempts }
-
-  message_known : (message : Option ℕ) → IsMessage before message → IsMessage after message
-  message_known None h = tt
-  message_known (Some n) h = (m.earlier n h).known
-
-  message_same : (message : Option ℕ) → IsMessage before message → message_of after message ≡ message_of before message
-  message_same None h = refl
-  message_same (Some n) h = ap Some (m.earlier n h).text
-
-  slot_held : (c : List Bool) (s : Slot) → is_held sets before c s ≡ true → is_held sets after c s ≡ true
-  slot_held c s h =
-      let P : HeapView S I → Type 0 = λ heap. is_held sets heap c s ≡ true in
-      both_first (is_held sets after c s) true (frame_held-texts sets before after m c (record { kind = group.top.kind; method = 0; position = 0; locals = []; operands = s ∷ [] }) (with_true (is_held sets before c s) h) ∙ refl)
-    where
-      with_true : (b : Bool) → b ≡ true → (b && true) ≡ true
-      with_true b e = rw e refl
-
-  thrown_held : (next : GroupView S I) (thrown : Conditional Slot S I) → IsThrown sets before next thrown → IsThrown sets after next thrown
-  thrown_held next thrown h = record { is_cond = h.is_cond; scope = h.scope; object = h.object; held = λ c t. slot_held c (slot_at sets thrown c) (h.held c t) }
-
-  IsOutcome-texts : (x : Outcome S I) → IsOutcome p start sets before tree group x → IsOutcome p start sets after tree group x
-  IsOutcome-texts (shared.Go next) h = Continues-texts next h
-  IsOutcome-texts (shared.Raise next class message) h = (Continues-texts next h.0, message_known message h.1)
-  IsOutcome-texts (shared.Throw next thrown) h = (Continues-texts next h.0, thrown_held next thrown h.1)
-  IsOutcome-texts (shared.Begin next class) h = Continues-texts next h
-  IsOutcome-texts (shared.Native next method) h = Continues-texts next h
-  IsOutcome-texts (shared.Write next stream text) h = (Continues-texts next h.0, (m.earlier text h.1).known)
-  IsOutcome-texts (shared.Ended condition end) h = h
-
-  AreOutcomes-texts : (xs : List (Outcome S I)) → AreOutcomes p start sets before tree group xs → AreOutcomes p start sets after tree group xs
-  AreOutcomes-texts [] h = tt
-  AreOutcomes-texts (x ∷ xs) h = (IsOutcome-texts x h.0, AreOutcomes-texts xs h.1)
-
-  state_same : (next : GroupView S I) → Continues p start sets before tree group next → (c : List Bool) → sets.test (path_of next) c ≡ true → state_at sets after tree next c ≡ state_at sets before tree next c
-  state_same next h c t = state_at-texts p sets before after tree next m v h.stands c t
-
-  object_same : (c : List Bool) (s : Slot) → object_named sets after c s ≡ object_named sets before c s
-  object_same c s =
-      let P : HeapView S I → Type 0 = λ heap. object_named sets heap c s ≡ object_named sets before c s in
-      subst P (sym m.same) (texts_alone s)
-    where
-      texts_alone : (s : Slot) → object_named sets (record before { texts = after.texts }) c s ≡ object_named sets before c s
-      texts_alone (slot.Ref i) = refl
-      texts_alone slot.Top = refl
-      texts_alone (slot.Int n) = refl
-      texts_alone (slot.Long n) = refl
-      texts_alone slot.Null = refl
-      texts_alone (slot.Text n) = refl
-
-  outcome_same : (x : Outcome S I) → IsOutcome p start sets before tree group x → (c : List Bool) → sets.test (condition_of x) c ≡ true → outcome_at sets after tree c x ≡ outcome_at sets before tree c x
-  outcome_same (shared.Go next) h c t = ap plain.Go (state_same next h c t)
-  outcome_same (shared.Raise next class message) h c t = λ i. plain.Raise class.0 (message_same message h.1 i) (state_same next h.0 c t i)
-  outcome_same (shared.Throw next thrown) h c t = λ i. plain.Throw (object_same c (slot_at sets thrown c) i) (state_same next h.0 c t i)
-  outcome_same (shared.Begin next class) h c t = ap (plain.Begin class.0) (state_same next h c t)
-  outcome_same (shared.Native next method) h c t = ap (plain.Native method.0) (state_same next h c t)
-  outcome_same (shared.Write next stream text) h c t = λ i. plain.Write stream ((m.earlier text h.1).text i) (state_same next h.0 c t i)
-  outcome_same (shared.Ended condition end) h c t = refl
-
-  comes_same : (xs : List (Outcome S I)) → AreOutcomes p start sets before tree group xs → (c : List Bool) → comes_to sets after tree c xs ≡ comes_to sets before tree c xs
-  comes_same [] h c = refl
-  comes_same (x ∷ xs) h c = chosen (sets.test (condition_of x) c) (outcome_same x h.0 c) (comes_same xs h.1 c)
-    where
-      chosen : {T : Type 0} (b : Bool) {v w : T} {r s : Option T} → (b ≡ true → v ≡ w) → r ≡ s → (if b then Some v else r) ≡ (if b then Some w else s)
-      chosen true e f = ap Some (e refl)
-      chosen false e f = f
-
-  pub CameTo-texts : (what : List Bool → PlainOutcome) (set : List Bool → Bool) (xs : List (Outcome S I)) → CameTo p start sets before tree group what set xs → CameTo p start sets after tree group what set xs
-  CameTo-texts what set xs h = record { divide = h.divide; continue = AreOutcomes-texts xs h.continue; at = λ c t. comes_same xs h.continue c ∙ h.at c t }
 
 -- ---- the first outcome, and those behind it
 
@@ -144,7 +57,7 @@ module _ {S I : Type 0} (p : Program) (start new : Sets I) (heap : HeapView S I)
   }
 
 -- the only outcome
-only_at : {S I : Type 0} (p : Program) (start new : Sets I) (heap : HeapView S I) (tree : List (Option (Caller S I))) (group : GroupView S I) (what : List Bool → PlainOutcome) (set : List Bool → Bool) (x : Outcome S I) → CameTo p start new heap tree group what set (x ∷ []) → (c : List Bool) → (new.test (condition_of x) c ≡ set c) × (set c ≡ true → what c ≡ outcome_at new heap tree c x)
+pub only_at : {S I : Type 0} (p : Program) (start new : Sets I) (heap : HeapView S I) (tree : List (Option (Caller S I))) (group : GroupView S I) (what : List Bool → PlainOutcome) (set : List Bool → Bool) (x : Outcome S I) → CameTo p start new heap tree group what set (x ∷ []) → (c : List Bool) → (new.test (condition_of x) c ≡ set c) × (set c ≡ true → what c ≡ outcome_at new heap tree c x)
 only_at p start new heap tree group what set x h c =
     (same_set (new.test (condition_of x) c) (set c) (h.divide.0 c) (h.divide.1 c), λ t. sym (first_at p start new heap tree group what set x [] h c (inside_of (set c) (new.test (condition_of x) c) (h.divide.1 c) t)))
   where
@@ -153,99 +66,120 @@ only_at p start new heap tree group what set x h c =
     same_set false true f g = cc g
     same_set false false f g = refl
 
+-- what outcomes cover is in the set that they divide
+pub covered_inside : {S I : Type 0} (sets : Sets I) (set : List Bool → Bool) (xs : List (Outcome S I)) → Divide sets set xs → (c : List Bool) → is_covered sets xs c ≡ true → set c ≡ true
+covered_inside sets set [] d c t = cc t
+covered_inside sets set (x ∷ xs) d c t = cases (sets.test (condition_of x) c) (d.0 c) t (covered_inside sets (λ c. set c && not (sets.test (condition_of x) c)) xs d.1 c)
+  where
+    cases : (b : Bool) → (b ≡ true → set c ≡ true) → (b || is_covered sets xs c) ≡ true → (is_covered sets xs c ≡ true → (set c && not (sets.test (condition_of x) c)) ≡ true) → set c ≡ true
+    cases true f g h = f refl
+    cases false f g h = (outside_of (set c) (sets.test (condition_of x) c) (h g)).0
+
+pub not_covered : {S I : Type 0} (sets : Sets I) (set : List Bool → Bool) (xs : List (Outcome S I)) → Divide sets set xs → (c : List Bool) → set c ≡ false → is_covered sets xs c ≡ false
+not_covered sets set xs d c f = cases (is_covered sets xs c) (covered_inside sets set xs d c)
+  where
+    cases : (b : Bool) → (b ≡ true → set c ≡ true) → b ≡ false
+    cases true g = cc (f, g refl)
+    cases false g = refl
+
 -- ---- one outcome
 
--- it is no beginning and no native method
-abbrev pub IsPlain : {S I : Type 0} → Outcome S I → Type 0
-IsPlain {S = S} {I = I} x = (p : Program) (sets : Sets I) (heap : HeapView S I) (tree : List (Option (Caller S I))) (c : List Bool) → outcome_carried_out p (outcome_at sets heap tree c x) ≡ outcome_at sets heap tree c x
+-- nothing is made of it
+abbrev pub IsPlain : {S I : Type 0} → (PlainOutcome → PlainOutcome) → Outcome S I → Type 0
+IsPlain {S = S} {I = I} carry x = (sets : Sets I) (heap : HeapView S I) (tree : List (Option (Caller S I))) (c : List Bool) → carry (outcome_at sets heap tree c x) ≡ outcome_at sets heap tree c x
 
-pub AreCarriedOut-plain : {S I : Type 0} (p : Program) (sets : Sets I) (heap : HeapView S I) (x : Outcome S I) → IsPlain x → AreCarriedOut p sets sets heap heap (x ∷ []) (x ∷ [])
-AreCarriedOut-plain p sets heap x plain = record {
-  came = λ start tree group what set h.
+pub AreCarriedOut-plain : {S I : Type 0} (p : Program) (carry : PlainOutcome → PlainOutcome) (sets : Sets I) (heap : HeapView S I) (tree : List (Option (Caller S I))) (x : Outcome S I) → IsHeap sets heap → IsHeapFor p heap → IsPlain carry x → AreCarriedOut p carry sets sets heap heap tree tree (x ∷ []) (x ∷ [])
+AreCarriedOut-plain p carry sets heap tree x v f plain = record {
+  is_heap = v;
+  is_for = f;
+  grows = Grows-refl heap;
+  keeps = Keeps-refl tree;
+  came = λ start group what set h.
       let at = only_at p start sets heap tree group what set x h in
-      CameTo-same p start sets heap tree group what (λ c. outcome_carried_out p (what c)) set set (x ∷ []) (λ c. refl) (λ c t. (at c).1 t ∙ sym (plain p sets heap tree c) ∙ ap (outcome_carried_out p) (sym ((at c).1 t))) h;
+      CameTo-same p start sets heap tree group what (λ c. carry (what c)) set set (x ∷ []) (λ c. refl) (λ c t. (at c).1 t ∙ sym (plain sets heap tree c) ∙ ap carry (sym ((at c).1 t))) h;
+  outside = λ c t. refl;
 }
 
-pub IsPlain-other : {S I : Type 0} (x : Outcome S I) → ((group : GroupView S I) (class : ClassId) → x ≢ shared.Begin group class) → ((group : GroupView S I) (method : MethodId) → x ≢ shared.Native group method) → IsPlain x
-IsPlain-other (shared.Begin group class) begin native = absurd (begin group class refl)
-IsPlain-other (shared.Native group method) begin native = absurd (native group method refl)
-IsPlain-other (shared.Go group) begin native = λ p sets heap tree c. refl
-IsPlain-other (shared.Raise group class message) begin native = λ p sets heap tree c. refl
-IsPlain-other (shared.Throw group thrown) begin native = λ p sets heap tree c. refl
-IsPlain-other (shared.Write group stream text) begin native = λ p sets heap tree c. refl
-IsPlain-other (shared.Ended condition end) begin native = λ p sets heap tree c. refl
-
-pub AreCarriedOut-never : {S I : Type 0} (p : Program) (sets : Sets I) (heap : HeapView S I) (x : Outcome S I) → ((c : List Bool) → sets.test (condition_of x) c ≡ false) → AreCarriedOut p sets sets heap heap (x ∷ []) []
-AreCarriedOut-never p sets heap x never = record {
-  came = λ start tree group what set h. CameTo-none p start sets heap tree group (λ c. outcome_carried_out p (what c)) set (λ c. sym (only_at p start sets heap tree group what set x h c).0 ∙ never c);
+-- no configuration comes to it
+pub AreCarriedOut-none : {S I : Type 0} (p : Program) (carry : PlainOutcome → PlainOutcome) {sets : Sets I} → IsLawful sets → (heap : HeapView S I) (tree : List (Option (Caller S I))) (x : Outcome S I) → IsHeap sets heap → IsHeapFor p heap → condition_of x ≡ sets.never → AreCarriedOut p carry sets sets heap heap tree tree (x ∷ []) []
+AreCarriedOut-none p carry {sets = sets} lawful heap tree x v f e = record {
+  is_heap = v;
+  is_for = f;
+  grows = Grows-refl heap;
+  keeps = Keeps-refl tree;
+  came = λ start group what set h. CameTo-none p start sets heap tree group (λ c. carry (what c)) set (λ c. sym (only_at p start sets heap tree group what set x h c).0 ∙ (ap (λ i. sets.test i c) e ∙ lawful.never_test c));
+  outside = λ c t. refl;
 }
 
-pub HasUnbuilt-one : {S I : Type 0} (p : Program) (sets : Sets I) → IsLawful sets → (heap : HeapView S I) (x : Outcome S I) → IsKnown sets (condition_of x) → condition_of x ≢ sets.never → ((tree : List (Option (Caller S I))) (c : List Bool) → is_built_outcome p (outcome_at sets heap tree c x) ≡ false) → HasUnbuilt p sets heap (x ∷ [])
-HasUnbuilt-one p sets lawful heap x known some unbuilt =
+-- its group makes an attempt of its own
+pub AreCarriedOut-attempted : {S I : Type 0} (p : Program) (carry : PlainOutcome → PlainOutcome) (s0 s1 : Sets I) (before after : HeapView S I) (tree later : List (Option (Caller S I))) (says : State → PlainOutcome) (x : Outcome S I) (at : GroupView S I) (made : List (Outcome S I)) → condition_of x ≡ path_of at → ((start : Sets I) (group : GroupView S I) → IsOutcome p start s0 before tree group x → Continues p start s0 before tree group at) → ((c : List Bool) → carry (outcome_at s0 before tree c x) ≡ says (state_at s0 before tree at c)) → IsHeapFor p after → Attempts p says s0 s1 before after tree later at made → AreCarriedOut p carry s0 s1 before after tree later (x ∷ []) made
+AreCarriedOut-attempted p carry s0 s1 before after tree later says x at made same continues law f a = record {
+  is_heap = a.is_heap;
+  is_for = f;
+  grows = a.grows;
+  keeps = a.keeps;
+  came = λ start group what set h.
+      let only = only_at p start s0 before tree group what set x h in
+      CameTo-through p start s0 s1 after later group at (λ c. says (state_at s0 before tree at c)) (λ c. carry (what c)) set made (continues start group h.continue.0) (λ c. ap (λ i. s0.test i c) (sym same) ∙ (only c).0) (λ c t. sym (law c) ∙ ap carry (sym ((only c).1 t))) a.came;
+  outside = λ c t. a.outside c (ap (λ i. s0.test i c) (sym same) ∙ no_more (s0.test (condition_of x) c) t);
+}
+  where
+    no_more : (b : Bool) → (b || false) ≡ false → b ≡ false
+    no_more true h = cc h
+    no_more false h = refl
+
+-- some configuration comes to it
+pub SomeComesTo-one : {S I : Type 0} (p : Program) (test : PlainOutcome → Bool) {sets : Sets I} → IsLawful sets → (heap : HeapView S I) (tree : List (Option (Caller S I))) (x : Outcome S I) → IsKnown sets (condition_of x) → condition_of x ≢ sets.never → ((start : Sets I) (group : GroupView S I) → IsOutcome p start sets heap tree group x → (c : List Bool) → test (outcome_at sets heap tree c x) ≡ true) → SomeComesTo p test sets heap tree (x ∷ [])
+SomeComesTo-one p test {sets = sets} lawful heap tree x known some passes =
     let found = some_difference lawful (condition_of x) sets.never known lawful.never_known some in
     let there = not_false (sets.test (condition_of x) found.0) (λ e. found.1 (e ∙ sym (lawful.never_test found.0))) in
     record {
       config = found.0;
-      unbuilt = λ start tree group what set h.
+      comes = λ start group what set h.
           let at = only_at p start sets heap tree group what set x h found.0 in
           let inside = sym at.0 ∙ there in
-          (inside, ap (is_built_outcome p) (at.1 inside) ∙ unbuilt tree found.0);
+          (inside, ap test (at.1 inside) ∙ passes start group h.continue.0 found.0);
     }
   where
     not_false : (b : Bool) → b ≢ false → b ≡ true
     not_false true h = refl
     not_false false h = absurd (h refl)
 
--- of an id that is never, whatever it is of
-pub AreCarriedOut-none : {S I : Type 0} (p : Program) {sets : Sets I} → IsLawful sets → (heap : HeapView S I) (x : Outcome S I) → condition_of x ≡ sets.never → AreCarriedOut p sets sets heap heap (x ∷ []) []
-AreCarriedOut-none p {sets = sets} lawful heap x e = AreCarriedOut-never p sets heap x (λ c. ap (λ i. sets.test i c) e ∙ lawful.never_test c)
-
--- some configuration comes to the native method, so its group stands at the call
-pub some_call : {S I : Type 0} (site : Site) {sets : Sets I} → IsLawful sets → (heap : HeapView S I) (group : GroupView S I) (method : MethodId) → IsKnown sets (path_of group) → path_of group ≢ sets.never → HasCall site sets heap (shared.Native group method) → (operation : Operation) × IsGiven site operation sets heap group
-some_call site {sets = sets} lawful heap group method known some call =
-    let found = some_difference lawful (path_of group) sets.never known lawful.never_known some in
-    call found.0 (not_false (sets.test (path_of group) found.0) (λ e. found.1 (e ∙ sym (lawful.never_test found.0))))
-  where
-    not_false : (b : Bool) → b ≢ false → b ≡ true
-    not_false true h = refl
-    not_false false h = absurd (h refl)
-
-pub AreCarriedOut-native : {S I : Type 0} (site : Site) (s0 s1 : Sets I) (before after : HeapView S I) (at : GroupView S I) (method : MethodId) (made : List (Outcome S I)) → HasMoreTexts before after → IsHeap s0 before → AttemptsBy site (λ s. native site.program.now s method.0) s0 s1 before after at made → AreCarriedOut site.program.now s0 s1 before after (shared.Native at method ∷ []) made
-AreCarriedOut-native site s0 s1 before after at method made m v h = record {
-  came = λ start tree group what set came.
-      let p = site.program.now in
-      let same = only_at p start s0 before tree group what set (shared.Native at method) came in
-      let there = came.continue.0 in
-      CameTo-through p start s0 s1 after tree group at (λ c. native p (state_at s0 before tree at c) method.0) (λ c. outcome_carried_out p (what c)) set made (Continues-texts p start s0 before after m v tree group at there) (λ c. (same c).0) (λ c t. sym (ap (outcome_carried_out p) ((same c).1 t))) (h.attempts tree there.stands).came;
-}
-
 -- ---- all of them
 
 -- some of the outcomes wait, and what comes of the others is made
-pub record IsHalf {S I : Type 0} (p : Program) (start new : Sets I) (heap : HeapView S I) (tree : List (Option (Caller S I))) (group : GroupView S I) (what : List Bool → PlainOutcome) (set : List Bool → Bool) (left made : List (Outcome S I)) : Type 0 where
+pub record IsHalf {S I : Type 0} (p : Program) (carry : PlainOutcome → PlainOutcome) (start new : Sets I) (heap : HeapView S I) (tree : List (Option (Caller S I))) (group : GroupView S I) (what : List Bool → PlainOutcome) (set : List Bool → Bool) (left made : List (Outcome S I)) : Type 0 where
   pub waiting : List Bool → Bool
   pub inside : (c : List Bool) → waiting c ≡ true → set c ≡ true
   pub waits : CameTo p start new heap tree group what waiting left
-  pub came : CameTo p start new heap tree group (λ c. outcome_carried_out p (what c)) (λ c. set c && not (waiting c)) made
+  pub came : CameTo p start new heap tree group (λ c. carry (what c)) (λ c. set c && not (waiting c)) made
 
-pub record IsCarrying {S I : Type 0} (site : Site) (old new : Sets I) (before after : HeapView S I) (items left made : List (Outcome S I)) : Type 0 where
+pub record IsCarrying {S I : Type 0} (p : Program) (carry : PlainOutcome → PlainOutcome) (old new : Sets I) (before after : HeapView S I) (tree later : List (Option (Caller S I))) (items left made : List (Outcome S I)) : Type 0 where
   pub extends : Extends old new
-  pub more : HasMoreTexts before after
+  pub is_heap : IsHeap new after
+  pub is_for : IsHeapFor p after
+  pub grows : Grows before after
+  pub keeps : Keeps tree later
   pub known : AreConditionsKnown old left
-  pub calls : HaveCalls site old before left
-  pub half : (start : Sets I) (tree : List (Option (Caller S I))) (group : GroupView S I) (what : List Bool → PlainOutcome) (set : List Bool → Bool) → CameTo site.program.now start old before tree group what set items → IsHalf site.program.now start new after tree group what set left made
+  pub among : (c : List Bool) → is_covered old left c ≡ true → is_covered old items c ≡ true
+  pub outside : (c : List Bool) → is_covered old items c ≡ false → globals_at new after c ≡ globals_at old before c
+  pub half : (start : Sets I) (group : GroupView S I) (what : List Bool → PlainOutcome) (set : List Bool → Bool) → CameTo p start old before tree group what set items → IsHalf p carry start new after later group what set left made
 
-pub IsCarrying-start : {S I : Type 0} (site : Site) (sets : Sets I) (heap : HeapView S I) (items : List (Outcome S I)) → AreConditionsKnown sets items → HaveCalls site sets heap items → IsCarrying site sets sets heap heap items items []
-IsCarrying-start site sets heap items known calls = record {
+pub IsCarrying-start : {S I : Type 0} (p : Program) (carry : PlainOutcome → PlainOutcome) (sets : Sets I) (heap : HeapView S I) (tree : List (Option (Caller S I))) (items : List (Outcome S I)) → IsHeap sets heap → IsHeapFor p heap → AreConditionsKnown sets items → IsCarrying p carry sets sets heap heap tree tree items items []
+IsCarrying-start p carry sets heap tree items v f known = record {
   extends = Extends-refl sets;
-  more = HasMoreTexts-refl heap;
+  is_heap = v;
+  is_for = f;
+  grows = Grows-refl heap;
+  keeps = Keeps-refl tree;
   known = known;
-  calls = calls;
-  half = λ start tree group what set h. record {
+  among = λ c t. t;
+  outside = λ c t. refl;
+  half = λ start group what set h. record {
     waiting = set;
     inside = λ c t. t;
     waits = h;
-    came = CameTo-none site.program.now start sets heap tree group (λ c. outcome_carried_out site.program.now (what c)) (λ c. set c && not (set c)) (λ c. none (set c));
+    came = CameTo-none p start sets heap tree group (λ c. carry (what c)) (λ c. set c && not (set c)) (λ c. none (set c));
   };
 }
   where
@@ -253,59 +187,56 @@ IsCarrying-start site sets heap items known calls = record {
     none true = refl
     none false = refl
 
-module _ {S I : Type 0} (site : Site) {s0 s1 : Sets I} (before now : HeapView S I) (items : List (Outcome S I)) (x : Outcome S I) (left made : List (Outcome S I)) (v : IsHeap s0 before) (l : IsCarrying site s0 s1 before now items (x ∷ left) made) where
-  pub next_heap : IsHeap s1 now
-  next_heap = IsHeap-texts s1 before now l.more (IsHeap-extends l.extends before v)
-
+module _ {S I : Type 0} (p : Program) (carry : PlainOutcome → PlainOutcome) {s0 s1 : Sets I} (before now : HeapView S I) (tree there : List (Option (Caller S I))) (items : List (Outcome S I)) (x : Outcome S I) (left made : List (Outcome S I)) (l : IsCarrying p carry s0 s1 before now tree there items (x ∷ left) made) where
   pub next_known : IsKnown s1 (condition_of x)
   next_known = l.extends.known (condition_of x) l.known.0
 
-  pub next_call : HasCall site s1 now x
-  next_call = later x l.known.0 l.calls.0
-    where
-      later : (x : Outcome S I) → s0.is_known (condition_of x) ≡ true → HasCall site s0 before x → HasCall site s1 now x
-      later (shared.Native group method) k h = λ c t.
-          let given = h c (sym (l.extends.test (path_of group) c k) ∙ t) in
-          (given.0, IsGiven-texts site given.0 s1 before now group l.more (IsGiven-extends site given.0 before group l.extends given.1))
-      later (shared.Go group) k h = tt
-      later (shared.Raise group class message) k h = tt
-      later (shared.Throw group thrown) k h = tt
-      later (shared.Begin group class) k h = tt
-      later (shared.Write group stream text) k h = tt
-      later (shared.Ended condition end) k h = tt
-
-  pub HasUnbuilt-next : HasUnbuilt site.program.now s1 now (x ∷ []) → HasUnbuilt site.program.now s0 before items
-  HasUnbuilt-next u = record {
+  pub SomeComesTo-next : (test : PlainOutcome → Bool) → SomeComesTo p test s1 now there (x ∷ []) → SomeComesTo p test s0 before tree items
+  SomeComesTo-next test u = record {
     config = u.config;
-    unbuilt = λ start tree group what set h.
-        let half = l.half start tree group what set h in
-        let r = u.unbuilt start tree group what (s1.test (condition_of x)) (CameTo-first site.program.now start s1 now tree group what half.waiting x left half.waits) in
+    comes = λ start group what set h.
+        let half = l.half start group what set h in
+        let r = u.comes start group what (s1.test (condition_of x)) (CameTo-first p start s1 now there group what half.waiting x left half.waits) in
         (half.inside u.config (half.waits.divide.0 u.config r.0), r.1);
   }
 
-  pub IsCarrying-step : {s2 : Sets I} (after : HeapView S I) (some : List (Outcome S I)) → Extends s1 s2 → HasMoreTexts now after → AreCarriedOut site.program.now s1 s2 now after (x ∷ []) some → IsCarrying site s0 s2 before after items left (made ++ some)
-  IsCarrying-step {s2 = s2} after some e m one = record {
+  pub IsCarrying-step : {s2 : Sets I} (after : HeapView S I) (later : List (Option (Caller S I))) (some : List (Outcome S I)) → Extends s1 s2 → AreCarriedOut p carry s1 s2 now after there later (x ∷ []) some → IsCarrying p carry s0 s2 before after tree later items left (made ++ some)
+  IsCarrying-step {s2 = s2} after later some e one = record {
     extends = Extends-trans l.extends e;
-    more = HasMoreTexts-trans before now after l.more m;
+    is_heap = one.is_heap;
+    is_for = one.is_for;
+    grows = Grows-trans before now after l.grows one.grows;
+    keeps = Keeps-trans l.keeps one.keeps;
     known = l.known.1;
-    calls = l.calls.1;
-    half = λ start tree group what set h.
-        let p = site.program.now in
-        let half = l.half start tree group what set h in
-        let there = s1.test (condition_of x) in
-        let carried : List Bool → PlainOutcome = λ c. outcome_carried_out p (what c) in
-        let later = IsHeap-extends e now next_heap in
-        let rest = CameTo-rest p start s1 now tree group what half.waiting x left half.waits in
-        let first = one.came start tree group what there (CameTo-first p start s1 now tree group what half.waiting x left half.waits) in
-        let done = CameTo-texts p start s2 now after m later tree group carried (λ c. set c && not (half.waiting c)) made (CameTo-extends p start tree e now next_heap group carried (λ c. set c && not (half.waiting c)) made half.came) in
+    among = λ c t. l.among c (either (s0.test (condition_of x) c) (is_covered s0 left c) t);
+    outside = λ c t. one.outside c (alone c (l.extends.test (condition_of x) c l.known.0 ∙ first_off (s0.test (condition_of x) c) (is_covered s0 left c) (is_covered s0 items c) (l.among c) t)) ∙ l.outside c t;
+    half = λ start group what set h.
+        let half = l.half start group what set h in
+        let here = s1.test (condition_of x) in
+        let carried : List Bool → PlainOutcome = λ c. carry (what c) in
+        let rest = CameTo-rest p start s1 now there group what half.waiting x left half.waits in
+        let first = one.came start group what here (CameTo-first p start s1 now there group what half.waiting x left half.waits) in
+        let stays = λ (c : List Bool) (off : here c ≡ false). one.outside c (alone c off) in
+        let done = CameTo-grown p e one.keeps now after l.is_heap one.grows start group carried (λ c. set c && not (half.waiting c)) made (λ c t. stays c (apart (set c) (half.waiting c) (here c) (half.waits.divide.0 c) t)) half.came in
         record {
-          waiting = λ c. half.waiting c && not (there c);
-          inside = λ c t. half.inside c (outside_of (half.waiting c) (there c) t).0;
-          waits = CameTo-texts p start s2 now after m later tree group what (λ c. half.waiting c && not (there c)) left (CameTo-extends p start tree e now next_heap group what (λ c. half.waiting c && not (there c)) left rest);
-          came = CameTo-same p start s2 after tree group carried carried (λ c. (set c && not (half.waiting c)) || there c) (λ c. set c && not (half.waiting c && not (there c))) (made ++ some) (λ c. joined (set c) (half.waiting c) (there c) (half.waits.divide.0 c) (half.inside c)) (λ c t. refl) (CameTo-append p start s2 after tree group carried (λ c. set c && not (half.waiting c)) there made some (λ c t. apart (set c) (half.waiting c) (there c) (half.waits.divide.0 c) t) done first);
+          waiting = λ c. half.waiting c && not (here c);
+          inside = λ c t. half.inside c (outside_of (half.waiting c) (here c) t).0;
+          waits = CameTo-grown p e one.keeps now after l.is_heap one.grows start group what (λ c. half.waiting c && not (here c)) left (λ c t. stays c (outside_of (half.waiting c) (here c) t).1) rest;
+          came = CameTo-same p start s2 after later group carried carried (λ c. (set c && not (half.waiting c)) || here c) (λ c. set c && not (half.waiting c && not (here c))) (made ++ some) (λ c. joined (set c) (half.waiting c) (here c) (half.waits.divide.0 c) (half.inside c)) (λ c t. refl) (CameTo-append p start s2 after later group carried (λ c. set c && not (half.waiting c)) here made some (λ c t. apart (set c) (half.waiting c) (here c) (half.waits.divide.0 c) t) done first);
         };
   }
     where
+      either : (a b : Bool) → b ≡ true → (a || b) ≡ true
+      either true b h = refl
+      either false b h = h
+
+      first_off : (a b w : Bool) → ((a || b) ≡ true → w ≡ true) → w ≡ false → a ≡ false
+      first_off true b w f h = cc (h, f refl)
+      first_off false b w f h = refl
+
+      alone : (c : List Bool) → s1.test (condition_of x) c ≡ false → is_covered s1 (x ∷ []) c ≡ false
+      alone c h = ap (λ b. b || false) h
+
       joined : (s w t : Bool) → (t ≡ true → w ≡ true) → (w ≡ true → s ≡ true) → ((s && not w) || t) ≡ (s && not (w && not t))
       joined s true true f g = rw (g refl) refl
       joined s true false f g = rw (g refl) refl
@@ -321,14 +252,40 @@ pub nothing_left : {A : Type 0} (xs : List A) (n : ℕ) → n ≡ length xs → 
 nothing_left [] n h k = refl
 nothing_left (x ∷ xs) n h k = absurd (omega (arith, h, k))
 
-pub IsCarrying-end : {S I : Type 0} (site : Site) {s0 s1 : Sets I} (before now : HeapView S I) (items left made : List (Outcome S I)) → left ≡ [] → IsCarrying site s0 s1 before now items left made → AreCarriedOut site.program.now s0 s1 before now items made
-IsCarrying-end site {s0 = s0} {s1 = s1} before now items left made nothing k = record {
-  came = λ start tree group what set h.
-      let l : IsCarrying site s0 s1 before now items [] made = rw nothing at k in
-      let half = l.half start tree group what set h in
-      CameTo-same site.program.now start s1 now tree group (λ c. outcome_carried_out site.program.now (what c)) (λ c. outcome_carried_out site.program.now (what c)) (λ c. set c && not (half.waiting c)) set made (λ c. all_of (set c) (half.waiting c) (half.waits.divide c)) (λ c t. refl) half.came;
+pub IsCarrying-end : {S I : Type 0} (p : Program) (carry : PlainOutcome → PlainOutcome) {s0 s1 : Sets I} (before now : HeapView S I) (tree there : List (Option (Caller S I))) (items left made : List (Outcome S I)) → left ≡ [] → IsCarrying p carry s0 s1 before now tree there items left made → AreCarriedOut p carry s0 s1 before now tree there items made
+IsCarrying-end p carry {s0 = s0} {s1 = s1} before now tree there items left made nothing k = record {
+  is_heap = k.is_heap;
+  is_for = k.is_for;
+  grows = k.grows;
+  keeps = k.keeps;
+  came = λ start group what set h.
+      let l : IsCarrying p carry s0 s1 before now tree there items [] made = rw nothing at k in
+      let half = l.half start group what set h in
+      CameTo-same p start s1 now there group (λ c. carry (what c)) (λ c. carry (what c)) (λ c. set c && not (half.waiting c)) set made (λ c. all_of (set c) (half.waiting c) (half.waits.divide c)) (λ c t. refl) half.came;
+  outside = k.outside;
 }
   where
     all_of : (a b : Bool) → b ≡ false → (a && not b) ≡ a
     all_of true b e = rw e refl
     all_of false b e = refl
+
+-- ---- an attempt whose outcomes are carried out
+
+pub Attempts-carried : {S I : Type 0} (p : Program) (carry : PlainOutcome → PlainOutcome) (says : State → PlainOutcome) (s0 s1 s2 : Sets I) (h0 h1 h2 : HeapView S I) (t0 t1 t2 : List (Option (Caller S I))) (group : GroupView S I) (items made : List (Outcome S I)) → Attempts p says s0 s1 h0 h1 t0 t1 group items → AreCarriedOut p carry s1 s2 h1 h2 t1 t2 items made → Attempts p (λ s. carry (says s)) s0 s2 h0 h2 t0 t2 group made
+Attempts-carried p carry says s0 s1 s2 h0 h1 h2 t0 t1 t2 group items made a k = record {
+  is_heap = k.is_heap;
+  grows = Grows-trans h0 h1 h2 a.grows k.grows;
+  keeps = Keeps-trans a.keeps k.keeps;
+  came = k.came s0 group (λ c. says (state_at s0 h0 t0 group c)) (s0.test (path_of group)) a.came;
+  outside = λ c t. k.outside c (not_covered s1 (s0.test (path_of group)) items a.came.divide c t) ∙ a.outside c t;
+}
+
+-- another function of the plain state that comes to the same at each of them
+pub Attempts-same : {S I : Type 0} (p : Program) (says other : State → PlainOutcome) (old new : Sets I) (before after : HeapView S I) (tree later : List (Option (Caller S I))) (group : GroupView S I) (outcomes : List (Outcome S I)) → ((c : List Bool) → says (state_at old before tree group c) ≡ other (state_at old before tree group c)) → Attempts p says old new before after tree later group outcomes → Attempts p other old new before after tree later group outcomes
+Attempts-same p says other old new before after tree later group outcomes e a = record {
+  is_heap = a.is_heap;
+  grows = a.grows;
+  keeps = a.keeps;
+  came = CameTo-same p old new after later group (λ c. says (state_at old before tree group c)) (λ c. other (state_at old before tree group c)) (old.test (path_of group)) (old.test (path_of group)) outcomes (λ c. refl) (λ c t. e c) a.came;
+  outside = a.outside;
+}

@@ -1,34 +1,84 @@
--- Native methods that are carried out where a family left them.
-use Rattle.std.specs.Prelude.{◌≡◌, Bool, true, false, List, [], ◌∷◌, Option}
-use Rattle.vx_space.specs.Sets.{Sets}
+-- Outcomes that are carried out in the attempt that came to them: native methods and beginnings, and then exceptions that are thrown.
+use Rattle.std.specs.Prelude.{◌≡◌, ◌<◌, ◌||◌, Bool, true, false, List, [], ◌∷◌, length, not, Option}
+use Rattle.vx_space.specs.Sets.{Sets, IsKnown}
 use Rattle.vx_group.specs.declared.callers.Caller.{Caller}
+use Rattle.vx_group.specs.Callers.{Keeps}
 use Rattle.vx_group.specs.Group.{GroupView, path_of}
-use Rattle.vx_heap.specs.Heap.{HeapView}
-use Rattle.vx_families.specs.Attempts.{IsGiven}
+use Rattle.vx_heap.specs.Heap.{HeapView, IsHeap, IsHeapFor, globals_at}
+use Rattle.vx_families.specs.Attempts.{IsAtSite}
+use Rattle.vx_families.specs.Bounds.{IsBounded}
 use Rattle.vx_families.specs.Built.{is_built_outcome}
+use Rattle.vx_java.specs.Machine.{Native}
 use Rattle.vx_java.specs.Machine.{Outcome as PlainOutcome}
-use Rattle.vx_java.specs.Step.{outcome_carried_out}
 use Rattle.vx_java.specs.declared.operation.Operation.{Operation}
 use Rattle.vx_link.specs.declared.program.Program.{Program}
+use Rattle.vx_outcome.specs.Outcome.{condition_of}
 use Rattle.vx_outcome.specs.declared.outcome.Outcome.{Outcome}
 use Rattle.vx_outcome.specs.declared.outcome.Outcome.TheVariants as shared
-use Rattle.vx_group_states.specs.Stands.{CameTo}
+use Rattle.vx_group_states.specs.Stands.{CameTo, Grows, IsMessage, IsThrown, StandsIn}
 use Rattle.vx_group_states.specs.declared.site.Site.{Site}
+use Rattle.vx_standing.specs.Attempted.{thrown_out}
 
--- the group of a native method to which some configuration comes stands at the call
-abbrev pub HasCall : {S I : Type 0} → Site → Sets I → HeapView S I → Outcome S I → Type 0
-HasCall site sets heap (shared.Native group method) = (c : List Bool) → sets.test (path_of group) c ≡ true → (operation : Operation) × IsGiven site operation sets heap group
-HasCall site sets heap _ = Unit {0}
+-- ---- outcomes by themselves
 
-abbrev pub HaveCalls : {S I : Type 0} → Site → Sets I → HeapView S I → List (Outcome S I) → Type 0
-HaveCalls site sets heap [] = Unit {0}
-HaveCalls site sets heap (item ∷ items) = HasCall site sets heap item × HaveCalls site sets heap items
+-- over this heap and this tree: the group of an outcome stands there, and what it names is there; a native method to which some configuration comes is left at its call
+abbrev pub IsThere : {S I : Type 0} → Site → Sets I → HeapView S I → List (Option (Caller S I)) → Outcome S I → Type 0
+IsThere site sets heap tree (shared.Go group) = StandsIn site.program.now sets heap tree group
+IsThere site sets heap tree (shared.Raise group class message) = StandsIn site.program.now sets heap tree group × IsMessage heap message
+IsThere site sets heap tree (shared.Throw group thrown) = StandsIn site.program.now sets heap tree group × IsThrown sets heap group thrown
+IsThere site sets heap tree (shared.Begin group class) = StandsIn site.program.now sets heap tree group
+IsThere site sets heap tree (shared.Native group method) = StandsIn site.program.now sets heap tree group × ((c : List Bool) → sets.test (path_of group) c ≡ true → (operation : Operation) × IsAtSite site operation group)
+IsThere site sets heap tree (shared.Write group stream text) = StandsIn site.program.now sets heap tree group × (text < length heap.texts)
+IsThere site sets heap tree (shared.Ended condition end) = IsKnown sets condition
 
--- of whatever these are the outcomes, those are the outcomes with native methods carried out
-pub record AreCarriedOut {S I : Type 0} (p : Program) (old new : Sets I) (before after : HeapView S I) (items made : List (Outcome S I)) : Type 0 where
-  pub came : (start : Sets I) (tree : List (Option (Caller S I))) (group : GroupView S I) (what : List Bool → PlainOutcome) (set : List Bool → Bool) → CameTo p start old before tree group what set items → CameTo p start new after tree group (λ c. outcome_carried_out p (what c)) set made
+abbrev pub AreThere : {S I : Type 0} → Site → Sets I → HeapView S I → List (Option (Caller S I)) → List (Outcome S I) → Type 0
+AreThere site sets heap tree [] = Unit {0}
+AreThere site sets heap tree (item ∷ items) = IsThere site sets heap tree item × AreThere site sets heap tree items
 
--- of whatever these are the outcomes, some configuration comes to one that isn't built
-pub record HasUnbuilt {S I : Type 0} (p : Program) (sets : Sets I) (heap : HeapView S I) (items : List (Outcome S I)) : Type 0 where
+-- what has to be so before outcomes are carried out
+pub record MayCarryOut {S I : Type 0} (site : Site) (sets : Sets I) (heap : HeapView S I) (tree : List (Option (Caller S I))) (items : List (Outcome S I)) : Type 0 where
+  pub bounded : IsBounded site.program.now
+  pub is_heap : IsHeap sets heap
+  pub is_for : IsHeapFor site.program.now heap
+  pub there : AreThere site sets heap tree items
+
+-- ---- what they come to
+
+-- some outcome's condition holds a configuration
+abbrev pub is_covered : {S I : Type 0} → Sets I → List (Outcome S I) → List Bool → Bool
+is_covered sets [] c = false
+is_covered sets (item ∷ items) c = sets.test (condition_of item) c || is_covered sets items c
+
+-- Outcomes were carried out: of whatever these are the outcomes, those are the outcomes of what is made of what each configuration came to. At a configuration that came to none of these the plain heap stays; objects, texts and callers stay under their numbers.
+pub record AreCarriedOut {S I : Type 0} (p : Program) (carry : PlainOutcome → PlainOutcome) (old new : Sets I) (before after : HeapView S I) (tree later : List (Option (Caller S I))) (items made : List (Outcome S I)) : Type 0 where
+  pub is_heap : IsHeap new after
+  pub is_for : IsHeapFor p after
+  pub grows : Grows before after
+  pub keeps : Keeps tree later
+  pub came : (start : Sets I) (group : GroupView S I) (what : List Bool → PlainOutcome) (set : List Bool → Bool) → CameTo p start old before tree group what set items → CameTo p start new after later group (λ c. carry (what c)) set made
+  pub outside : (c : List Bool) → is_covered old items c ≡ false → globals_at new after c ≡ globals_at old before c
+
+-- of whatever these are the outcomes, some configuration comes to one that passes a test
+pub record SomeComesTo {S I : Type 0} (p : Program) (test : PlainOutcome → Bool) (sets : Sets I) (heap : HeapView S I) (tree : List (Option (Caller S I))) (items : List (Outcome S I)) : Type 0 where
   pub config : List Bool
-  pub unbuilt : (start : Sets I) (tree : List (Option (Caller S I))) (group : GroupView S I) (what : List Bool → PlainOutcome) (set : List Bool → Bool) → CameTo p start sets heap tree group what set items → (set config ≡ true) × (is_built_outcome p (what config) ≡ false)
+  pub comes : (start : Sets I) (group : GroupView S I) (what : List Bool → PlainOutcome) (set : List Bool → Bool) → CameTo p start sets heap tree group what set items → (set config ≡ true) × (test (what config) ≡ true)
+
+-- ---- what isn't built
+
+-- a row comes to it
+abbrev pub is_unbuilt : Program → PlainOutcome → Bool
+is_unbuilt p o = not (is_built_outcome p o)
+
+-- a row comes to it after a native method or a beginning was carried out, which come to neither
+abbrev pub is_refused : Program → PlainOutcome → Bool
+is_refused p (Native m s) = true
+is_refused p o = is_unbuilt p o
+
+-- ---- exceptions
+
+-- outcomes with their exceptions thrown, over every heap of the program and every tree
+abbrev pub AreThrown : {S I : Type 0} → Program → Sets I → (items made : List (Outcome S I)) → Type 0
+AreThrown {S = S} {I = I} p sets items made = (heap : HeapView S I) (tree : List (Option (Caller S I))) → IsHeap sets heap → IsHeapFor p heap → AreCarriedOut p (thrown_out p) sets sets heap heap tree tree items made
+
+abbrev pub SomeRefused : {S I : Type 0} → Program → Sets I → List (Outcome S I) → Type 0
+SomeRefused {S = S} {I = I} p sets items = (heap : HeapView S I) (tree : List (Option (Caller S I))) → IsHeap sets heap → IsHeapFor p heap → SomeComesTo p (is_refused p) sets heap tree items

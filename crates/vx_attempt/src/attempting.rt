@@ -1,7 +1,9 @@
-//! One attempt of a group: the instruction where it stands, by its family, and what a native method makes of it.
+//! One attempt of a group: the instruction where it stands, by its family, what a native method makes of it, and what is thrown.
 
 ghost use Rattle.std.specs.Prelude.{◌≡◌, Err, IfOk, Some, [], length, option_copied, true};
 ghost use Rattle.vx_space.specs.Sets.{Extends};
+ghost use Rattle.vx_java.specs.Machine.{State, illegal_in};
+ghost use Rattle.vx_java.specs.Row.{row};
 ghost use Rattle.vx_link.specs.Parts.{method_at};
 ghost use Rattle.vx_families.specs.Attempts.{IsAttemptBy, IsGiven, MeetsUnbuilt};
 ghost use Rattle.vx_families.specs.Built.{is_built_operation};
@@ -11,10 +13,12 @@ ghost use Rattle.vx_attempt.specs.Families.{is_of};
 
 use crate::family::{Family, family_of};
 use crate::natives::carried_out;
+use crate::single::is_single;
+use crate::throwing::all_thrown;
 use std::alloc::Global;
 use vx_class::Code;
 use vx_families::AttemptFault;
-use vx_group::Group;
+use vx_group::{Callers, Group};
 use vx_group_states::{Site, illegal};
 use vx_heap::Heap;
 use vx_java::Operation;
@@ -36,7 +40,8 @@ fn code_of(program: &Program, method: MethodId) -> Option<&Code>
     }
 }
 
-/// The attempt of an instruction by its family. `NotYet` where some run comes to what isn't built.
+/// The attempt of an instruction by its family: none so far pushes a frame or takes one off, so none is lent the tree.
+/// `NotYet` where some run comes to what isn't built.
 fn by_family<S: Space>(
     alloc: Global,
     site: &Site,
@@ -78,26 +83,50 @@ fn by_family<S: Space>(
     }
 }
 
-/// The attempt of an instruction where it stands.
+/// The attempt of an instruction where it stands: its row, what a native method or a beginning makes of that, and what an
+/// exception comes to.
 fn attempt_at<S: Space>(
     alloc: Global,
     site: &Site,
     space: &mut S,
     heap: &mut Heap<S>,
+    callers: &mut Callers<S>,
     family: Family,
     operation: Operation,
     group: Group<S>,
 ) -> Result<Outcomes<S>, AttemptFault>
-    requires may { MayAttempt site.now.program.now (S.sets space.old) heap.old group }
+    requires may { MayAttempt site.now.program.now (S.sets space.old) heap.old callers.old group }
+    requires single { group.below ≡ [] }
     requires given { IsGiven site.now operation (S.sets space.old) heap.old group }
     requires family { is_of family (pool_of site.now group) operation ≡ true }
     requires built { is_built_operation (pool_of site.now group) operation ≡ true }
     ensures extends { Extends (S.sets space.old) (S.sets space.new) }
-    ensures ok { IfOk result (λ r. IsAttempted site.now.program.now (S.sets space.old) (S.sets space.new) heap.old heap.new group r.items.items) }
-    ensures not_yet { result ≡ Err AttemptFault.NotYet → IsUnbuiltThere site.now.program.now (S.sets space.old) heap.old group }
+    ensures ok { IfOk result (λ r. IsAttempted site.now.program.now (S.sets space.old) (S.sets space.new) heap.old heap.new callers.old callers.new group r.items.items) }
+    ensures not_yet { result ≡ Err AttemptFault.NotYet → IsUnbuiltThere site.now.program.now (S.sets space.old) heap.old callers.old group }
 {
     let outcomes = by_family(alloc, site, space, heap, family, operation, group)?;
-    carried_out(alloc, site, space, heap, outcomes)
+    let carried = carried_out(alloc, site, space, heap, callers, outcomes)?;
+    let made = all_thrown(alloc, site.program, space, carried)?;
+    Ok(made)
+}
+
+/// The runs of a group at whose place no instruction stands: all end.
+fn end_there<S: Space>(
+    alloc: Global,
+    program: &Program,
+    space: &S,
+    heap: &Heap<S>,
+    callers: &Callers<S>,
+    group: &Group<S>,
+) -> Result<Outcomes<S>, AttemptFault>
+    requires may { MayAttempt program.now (S.sets space.now) heap.now callers.now group.now }
+    requires nothing { (s : State) → s.top.method ≡ group.now.top.method.0 → s.top.position ≡ group.now.top.position → row program.now s ≡ illegal_in program.now s }
+    ensures ok { IfOk result (λ r. IsAttempted program.now (S.sets space.now) (S.sets space.now) heap.now heap.now callers.now callers.now group.now r.items.items) }
+    ensures not_yet { result ≡ Err AttemptFault.NotYet → IsUnbuiltThere program.now (S.sets space.now) heap.now callers.now group.now }
+{
+    let ended = illegal(alloc, program, group)?;
+    let made = all_thrown(alloc, program, space, ended)?;
+    Ok(made)
 }
 
 /// The attempt in the code of the group's method. Behind the last instruction the run ends (JVMS 4.9.2).
@@ -106,14 +135,16 @@ fn attempt_in<S: Space>(
     program: &Program,
     space: &mut S,
     heap: &mut Heap<S>,
+    callers: &mut Callers<S>,
     code: &Code,
     group: Group<S>,
 ) -> Result<Outcomes<S>, AttemptFault>
-    requires may { MayAttempt program.now (S.sets space.old) heap.old group }
+    requires may { MayAttempt program.now (S.sets space.old) heap.old callers.old group }
+    requires single { group.below ≡ [] }
     requires code { (method_at program.now group.top.method.0).code ≡ Some code.now }
     ensures extends { Extends (S.sets space.old) (S.sets space.new) }
-    ensures ok { IfOk result (λ r. IsAttempted program.now (S.sets space.old) (S.sets space.new) heap.old heap.new group r.items.items) }
-    ensures not_yet { result ≡ Err AttemptFault.NotYet → IsUnbuiltThere program.now (S.sets space.old) heap.old group }
+    ensures ok { IfOk result (λ r. IsAttempted program.now (S.sets space.old) (S.sets space.new) heap.old heap.new callers.old callers.new group r.items.items) }
+    ensures not_yet { result ≡ Err AttemptFault.NotYet → IsUnbuiltThere program.now (S.sets space.old) heap.old callers.old group }
 {
     let top = group.top_frame();
     match decode(code.bytes.as_slice(), top.position) {
@@ -127,38 +158,36 @@ fn attempt_in<S: Space>(
                         code,
                         size: instruction.length,
                     };
-                    attempt_at(alloc, &site, space, heap, family, operation, group)
+                    attempt_at(alloc, &site, space, heap, callers, family, operation, group)
                 }
                 None => Err(AttemptFault::NotYet),
             }
         }
-        Err(_fault) => {
-            let ended = illegal(alloc, program, &group)?;
-            Ok(ended)
-        }
+        Err(_fault) => end_there(alloc, program, space, heap, callers, &group),
     }
 }
 
-/// Makes one attempt of each run of a group of one frame (JVMS 2.11, 6.5): the instruction where it stands, and a native method
-/// where one is called. `NotYet` comes only where one of the runs stands at what isn't built. After a refusal heap and group are
-/// given up.
+/// Makes one attempt of each run of a group (JVMS 2.11, 6.5): the instruction where it stands, a native method where one is
+/// called, and the throwing of what is raised. Each outcome goes on, writes, or has ended, in the later heap and tree.
+/// `NotYet` comes only where one of the runs stands at what isn't built. After a refusal heap, tree and group are given up.
 pub fn attempt<S: Space>(
     alloc: Global,
     program: &Program,
     space: &mut S,
     heap: &mut Heap<S>,
+    callers: &mut Callers<S>,
     group: Group<S>,
 ) -> Result<Outcomes<S>, AttemptFault>
-    requires { MayAttempt program.now (S.sets space.old) heap.old group }
+    requires { MayAttempt program.now (S.sets space.old) heap.old callers.old group }
     ensures extends { Extends (S.sets space.old) (S.sets space.new) }
-    ensures ok { IfOk result (λ r. IsAttempted program.now (S.sets space.old) (S.sets space.new) heap.old heap.new group r.items.items) }
-    ensures not_yet { result ≡ Err AttemptFault.NotYet → IsUnbuiltThere program.now (S.sets space.old) heap.old group }
+    ensures ok { IfOk result (λ r. IsAttempted program.now (S.sets space.old) (S.sets space.new) heap.old heap.new callers.old callers.new group r.items.items) }
+    ensures not_yet { result ≡ Err AttemptFault.NotYet → IsUnbuiltThere program.now (S.sets space.old) heap.old callers.old group }
 {
+    if !is_single(&group) {
+        return Err(AttemptFault::NotYet);
+    }
     match code_of(program, group.top_frame().method) {
-        Some(code) => attempt_in(alloc, program, space, heap, code, group),
-        None => {
-            let ended = illegal(alloc, program, &group)?;
-            Ok(ended)
-        }
+        Some(code) => attempt_in(alloc, program, space, heap, callers, code, group),
+        None => end_there(alloc, program, space, heap, callers, &group),
     }
 }

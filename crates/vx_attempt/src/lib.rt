@@ -1,8 +1,10 @@
-//! One attempt of a group: its instruction by the family that it belongs to, and native methods carried out.
+//! One attempt of a group: its instruction by the family that it belongs to, native methods carried out, and exceptions thrown.
 #![tactic(auto)]
 
 pub mod attempting;
 pub mod family;
 mod natives;
+mod single;
+mod throwing;
 
 pub use attempting::attempt;

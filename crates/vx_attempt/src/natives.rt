@@ -1,20 +1,16 @@
-//! Native methods, carried out where a family left them.
+//! Native methods and beginnings, carried out where a family left them.
 
-ghost use Rattle.std.specs.Prelude.{◌≡◌, ◌∷◌, [], Err, IfOk, OnOk};
-ghost use Rattle.vx_space.specs.Sets.{Extends, IsKnown};
-ghost use Rattle.vx_group.specs.Group.{path_of};
-ghost use Rattle.vx_outcome.specs.Outcome.{condition_of};
-ghost use Rattle.vx_heap.specs.Heap.{IsHeap};
+ghost use Rattle.std.specs.Prelude.{◌≡◌, ◌∷◌, [], Err, IfOk};
+ghost use Rattle.vx_space.specs.Sets.{Extends};
 ghost use Rattle.vx_families.specs.Built.{is_println_method};
+ghost use Rattle.vx_java.specs.Step.{outcome_carried_out};
 ghost use Rattle.vx_link.specs.Parts.{method_at};
 ghost use Rattle.vx_outcome.specs.declared.outcome.Outcome.TheVariants.{Begin, Native};
-ghost use Rattle.vx_attempt.specs.Carrying.{AreCarriedOut, HasCall, HasUnbuilt, HaveCalls};
-ghost use Rattle.vx_standing.specs.Attempted.{AreConditionsKnown};
-ghost use Rattle.vx_families.specs.Texts.{HasMoreTexts};
+ghost use Rattle.vx_attempt.specs.Carrying.{AreCarriedOut, MayCarryOut, SomeComesTo, is_unbuilt};
 
 use std::alloc::{AllocError, Global};
 use vx_families::AttemptFault;
-use vx_group::Group;
+use vx_group::{Callers, Group};
 use vx_group_states::Site;
 use vx_heap::Heap;
 use vx_link::Program;
@@ -42,16 +38,14 @@ fn native_carried_out<S: Space>(
     site: &Site,
     space: &mut S,
     heap: &mut Heap<S>,
+    callers: &Callers<S>,
     group: Group<S>,
     method: MethodId,
 ) -> Result<Outcomes<S>, AttemptFault>
-    requires heap { IsHeap (S.sets space.old) heap.old }
-    requires known { IsKnown (S.sets space.old) (path_of group) }
-    requires call { HasCall site.now (S.sets space.old) heap.old (Native group method) }
+    requires { MayCarryOut site.now (S.sets space.old) heap.old callers.now (Native group method ∷ []) }
     ensures extends { Extends (S.sets space.old) (S.sets space.new) }
-    ensures more { OnOk result (HasMoreTexts heap.old heap.new) }
-    ensures carried { IfOk result (λ r. AreCarriedOut site.now.program.now (S.sets space.old) (S.sets space.new) heap.old heap.new (Native group method ∷ []) r.items.items) }
-    ensures not_yet { result ≡ Err AttemptFault.NotYet → HasUnbuilt site.now.program.now (S.sets space.old) heap.old (Native group method ∷ []) }
+    ensures carried { IfOk result (λ r. AreCarriedOut site.now.program.now (outcome_carried_out site.now.program.now) (S.sets space.old) (S.sets space.new) heap.old heap.new callers.now callers.now (Native group method ∷ []) r.items.items) }
+    ensures not_yet { result ≡ Err AttemptFault.NotYet → SomeComesTo site.now.program.now (is_unbuilt site.now.program.now) (S.sets space.old) heap.old callers.now (Native group method ∷ []) }
 {
     if space.is_never(group.path()) {
         return Ok(Outcomes::new(alloc));
@@ -69,12 +63,13 @@ fn no_beginning<S: Space>(
     site: &Site,
     space: &S,
     heap: &Heap<S>,
+    callers: &Callers<S>,
     group: Group<S>,
     class: ClassId,
 ) -> Result<Outcomes<S>, AttemptFault>
-    requires known { IsKnown (S.sets space.now) (path_of group) }
-    ensures carried { IfOk result (λ r. AreCarriedOut site.now.program.now (S.sets space.now) (S.sets space.now) heap.now heap.now (Begin group class ∷ []) r.items.items) }
-    ensures not_yet { result ≡ Err AttemptFault.NotYet → HasUnbuilt site.now.program.now (S.sets space.now) heap.now (Begin group class ∷ []) }
+    requires { MayCarryOut site.now (S.sets space.now) heap.now callers.now (Begin group class ∷ []) }
+    ensures carried { IfOk result (λ r. AreCarriedOut site.now.program.now (outcome_carried_out site.now.program.now) (S.sets space.now) (S.sets space.now) heap.now heap.now callers.now callers.now (Begin group class ∷ []) r.items.items) }
+    ensures not_yet { result ≡ Err AttemptFault.NotYet → SomeComesTo site.now.program.now (is_unbuilt site.now.program.now) (S.sets space.now) heap.now callers.now (Begin group class ∷ []) }
 {
     if space.is_never(group.path()) {
         return Ok(Outcomes::new(alloc));
@@ -82,7 +77,8 @@ fn no_beginning<S: Space>(
     Err(AttemptFault::NotYet)
 }
 
-fn only<S: Space>(alloc: Global, outcome: Outcome<S>) -> Result<Outcomes<S>, AllocError>
+/// An outcome alone.
+pub(crate) fn only<S: Space>(alloc: Global, outcome: Outcome<S>) -> Result<Outcomes<S>, AllocError>
     ensures { IfOk result (λ r. r.items.items ≡ outcome ∷ []) }
 {
     let mut outcomes = Outcomes::new(alloc);
@@ -91,26 +87,26 @@ fn only<S: Space>(alloc: Global, outcome: Outcome<S>) -> Result<Outcomes<S>, All
 }
 
 /// One outcome.
-fn outcome_carried_out<S: Space>(
+fn one_carried_out<S: Space>(
     alloc: Global,
     site: &Site,
     space: &mut S,
     heap: &mut Heap<S>,
+    callers: &mut Callers<S>,
     outcome: Outcome<S>,
 ) -> Result<Outcomes<S>, AttemptFault>
-    requires heap { IsHeap (S.sets space.old) heap.old }
-    requires known { IsKnown (S.sets space.old) (condition_of outcome) }
-    requires call { HasCall site.now (S.sets space.old) heap.old outcome }
+    requires { MayCarryOut site.now (S.sets space.old) heap.old callers.old (outcome ∷ []) }
     ensures extends { Extends (S.sets space.old) (S.sets space.new) }
-    ensures more { OnOk result (HasMoreTexts heap.old heap.new) }
-    ensures carried { IfOk result (λ r. AreCarriedOut site.now.program.now (S.sets space.old) (S.sets space.new) heap.old heap.new (outcome ∷ []) r.items.items) }
-    ensures not_yet { result ≡ Err AttemptFault.NotYet → HasUnbuilt site.now.program.now (S.sets space.old) heap.old (outcome ∷ []) }
+    ensures carried { IfOk result (λ r. AreCarriedOut site.now.program.now (outcome_carried_out site.now.program.now) (S.sets space.old) (S.sets space.new) heap.old heap.new callers.old callers.new (outcome ∷ []) r.items.items) }
+    ensures not_yet { result ≡ Err AttemptFault.NotYet → SomeComesTo site.now.program.now (is_unbuilt site.now.program.now) (S.sets space.old) heap.old callers.old (outcome ∷ []) }
 {
     match outcome {
         Outcome::Native { group, method } => {
-            native_carried_out(alloc, site, space, heap, group, method)
+            native_carried_out(alloc, site, space, heap, callers, group, method)
         }
-        Outcome::Begin { group, class } => no_beginning(alloc, site, space, heap, group, class),
+        Outcome::Begin { group, class } => {
+            no_beginning(alloc, site, space, heap, callers, group, class)
+        }
         other => {
             let same = only(alloc, other)?;
             Ok(same)
@@ -118,26 +114,25 @@ fn outcome_carried_out<S: Space>(
     }
 }
 
-/// Outcomes with native methods carried out. `NotYet` where some run comes to a beginning, or to a native method that isn't
-/// built.
+/// Outcomes with native methods and beginnings carried out (JVMS 5.5). Heap and tree may grow, and change at no configuration
+/// that comes to none of them. `NotYet` where some run comes to a beginning, or to a native method that isn't built; after a
+/// refusal heap and tree are given up.
 pub(crate) fn carried_out<S: Space>(
     alloc: Global,
     site: &Site,
     space: &mut S,
     heap: &mut Heap<S>,
+    callers: &mut Callers<S>,
     outcomes: Outcomes<S>,
 ) -> Result<Outcomes<S>, AttemptFault>
-    requires heap { IsHeap (S.sets space.old) heap.old }
-    requires known { AreConditionsKnown (S.sets space.old) outcomes.items.items }
-    requires calls { HaveCalls site.now (S.sets space.old) heap.old outcomes.items.items }
+    requires { MayCarryOut site.now (S.sets space.old) heap.old callers.old outcomes.items.items }
     ensures extends { Extends (S.sets space.old) (S.sets space.new) }
-    ensures more { OnOk result (HasMoreTexts heap.old heap.new) }
-    ensures carried { IfOk result (λ r. AreCarriedOut site.now.program.now (S.sets space.old) (S.sets space.new) heap.old heap.new outcomes.items.items r.items.items) }
-    ensures not_yet { result ≡ Err AttemptFault.NotYet → HasUnbuilt site.now.program.now (S.sets space.old) heap.old outcomes.items.items }
+    ensures carried { IfOk result (λ r. AreCarriedOut site.now.program.now (outcome_carried_out site.now.program.now) (S.sets space.old) (S.sets space.new) heap.old heap.new callers.old callers.new outcomes.items.items r.items.items) }
+    ensures not_yet { result ≡ Err AttemptFault.NotYet → SomeComesTo site.now.program.now (is_unbuilt site.now.program.now) (S.sets space.old) heap.old callers.old outcomes.items.items }
 {
     let mut made = Outcomes::new(alloc);
     for outcome in outcomes.items {
-        let some = outcome_carried_out(alloc, site, space, heap, outcome)?;
+        let some = one_carried_out(alloc, site, space, heap, callers, outcome)?;
         made.append(some)?;
     }
     Ok(made)

@@ -1,15 +1,16 @@
 -- The sets of a list of nodes, one by one.
-use Rattle.std.proofs.Common.{take, get_or, ◌≡◌, ℕ, ◌+◌, ◌<◌, Bool, true, false, List, [], ◌∷◌, ◌++◌, length, refl, sym, ◌∙◌, subst, arith, zero, suc, inl, inr, length-append}
-use Rattle.std.specs.Prelude.{Some, if◌then◌else◌, slice_get}
+use Rattle.std.proofs.Common.{take, get_or, ◌≡◌, ℕ, ◌+◌, ◌<◌, ◌≤◌, Bool, true, false, List, [], ◌∷◌, ◌++◌, length, refl, sym, ◌∙◌, ap, subst, arith, zero, suc, inl, inr, length-append}
+use Rattle.std.specs.Prelude.{Some, None, if◌then◌else◌, nat_eq, slice_get}
+use Rattle.std.proofs.lemmas.Bool.Decides.{nat_tests}
 use Rattle.std.proofs.lemmas.List.{take_more}
 use Rattle.std.proofs.lemmas.Option.{slice_get_within, slice_get-get_or, slice_get_read}
 use Rattle.vx_space.specs.Config.{value_of}
 use Rattle.vx_space.specs.Sets.{Sets, IsSet, IsLawful, Extends}
 use Rattle.vx_space.proofs.Spaces.{IsSet-extends}
 use Rattle.vx_bdd_tools.specs.declared.node.Node.{Node}
-use Rattle.vx_bdd_tools.specs.Nodes.{holds, IsNextNode, IsReducedList}
+use Rattle.vx_bdd_tools.specs.Nodes.{holds, node_of, IsNextNode, IsReducedList}
 use Rattle.vx_bdd_tools.specs.Listing.{AreSetsOf, choice}
-use Rattle.vx_bdd_tools.proofs.NodeLists.{node_of-last, holds-node, holds-append, IsReducedList-append, IsReducedList-none}
+use Rattle.vx_bdd_tools.proofs.NodeLists.{node_cases, node_of-last, node_within, walk-end, holds-node, holds-append, IsReducedList-append, IsReducedList-none}
 use Rattle.vx_bdd_tools.proofs.NodeSets.{order_cases}
 
 -- the sets so far, of a reduced list
@@ -82,3 +83,23 @@ pub AreSetsSoFar-step : {I : Type 0} {old new : Sets I} → Extends old new → 
 AreSetsSoFar-step {old = old} {new = new} x nodes i d ids low high id options o r l h e f s =
     let n = subst (λ k. IsNextNode k (take i nodes) (get_or nodes i d)) (sym o) (next_at options nodes i d r l) in
     subst (λ xs. AreSetsSoFar new xs (ids ++ id ∷ [])) (sym (take_more nodes i d l)) (AreSetsSoFar-more x (take i nodes) ids (get_or nodes i d) low high id h n (there h (get_or nodes i d).low low n.low_given e) (there h (get_or nodes i d).high high n.high_given f) s)
+
+-- a number past the sets holds nothing
+pub set_past : {I : Type 0} {s : Sets I} → IsLawful s → (nodes : List Node) (sets : List I) (k : ℕ) → length sets ≤ k → AreSetsOf s nodes sets → IsSet s s.never (holds nodes k)
+set_past {s = s} lawful nodes sets k e h = record {
+  known = lawful.never_known;
+  test = λ c. lawful.never_test c ∙ sym (ap (λ w. nat_eq w 1) (walk-end nodes k k c none) ∙ not_one k (omega (arith, e, h.number)));
+}
+  where
+    none : node_of nodes k ≡ None
+    none = elim (node_cases (node_of nodes k)) [
+      | inl n ↦ n
+      | inr p ↦ absurd (omega (arith, (node_within nodes k p.0 p.1).1, e, h.number))
+    ]
+
+    not_one : (n : ℕ) → 2 ≤ n → nat_eq n 1 ≡ false
+    not_one n l = grind (arith, nat_tests)
+
+-- a later space keeps the sets of nodes
+pub AreSetsOf-extends : {I : Type 0} {old new : Sets I} → Extends old new → (nodes : List Node) (ids : List I) → AreSetsOf old nodes ids → AreSetsOf new nodes ids
+AreSetsOf-extends x nodes ids h = record { number = h.number; each = λ k id e. IsSet-extends x id (holds nodes k) (h.each k id e) }

@@ -11,4 +11,4 @@ pub use member::one_of;
 pub use node::{Node, NodeList};
 pub use numbering::listing;
 pub use options::support;
-pub use sets::sets_of;
+pub use sets::{set_of, sets_of};

@@ -3,7 +3,7 @@
 ghost use Rattle.std.specs.Prelude.{◌<◌, IfOk};
 ghost use Rattle.vx_space.specs.Sets.{Extends, IsKnown, IsSet};
 ghost use Rattle.vx_bdd_tools.specs.Listing.{AreSetsOf, choice};
-ghost use Rattle.vx_bdd_tools.specs.Nodes.{IsReducedList};
+ghost use Rattle.vx_bdd_tools.specs.Nodes.{IsReducedList, holds};
 
 use crate::node::Node;
 use std::alloc::Global;
@@ -51,4 +51,14 @@ pub fn sets_of<S: Space>(
         ids.push(id)?;
     }
     Ok(ids)
+}
+
+/// The set of a number among the sets of nodes, as `sets_of` gives them; a number past them holds nothing.
+pub fn set_of<S: Space>(space: &S, sets: &[S::Id], node: u64) -> S::Id
+    ensures { (nodes : _) → AreSetsOf (S.sets space.now) nodes sets.now → IsSet (S.sets space.now) result (holds nodes node) }
+{
+    match sets.get(node as usize) {
+        Some(set) => *set,
+        None => space.never(),
+    }
 }

@@ -1,9 +1,9 @@
 -- Laws of conditional values, for callers.
-use Rattle.std.proofs.Common.{◌≡◌, Bool, true, false, List, refl, sym, ◌∙◌, ap, ◌⊎◌, inl, inr}
+use Rattle.std.proofs.Common.{◌≡◌, Bool, true, false, List, [], refl, sym, ◌∙◌, ap, subst, ◌⊎◌, inl, inr}
 use Rattle.std.specs.Prelude.{Option, Some, None, if◌then◌else◌, is_some, ◌&&◌, ◌||◌, not}
 use Rattle.std.specs.Option.{option_or}
 use Rattle.std.specs.declared.cmp.Ordering.{Ordering}
-use Rattle.vx_space.specs.Sets.{Sets, Extends, IsSet}
+use Rattle.vx_space.specs.Sets.{Sets, Extends, IsSet, IsLawful}
 use Rattle.vx_space.proofs.Spaces.{Extends-trans}
 use Rattle.vx_cond.specs.declared.cond.Leaf.{Leaf}
 use Rattle.vx_cond.specs.Leaves.{value_at, AreLeavesOf, AreLeavesApart, value_within, first_of}
@@ -46,6 +46,39 @@ IsCondOf-restricted {T = T} cmp {s0 = s0} {s1 = s1} {s2 = s2} cond within scope 
     cases true o false h = h
     cases false o true h = refl
     cases false o false h = refl
+
+-- what `restrict` makes where the scope stays
+pub IsCondOf-whole : {T S I : Type 0} (cmp : T → T → Ordering) {s0 s1 : Sets I} (cond same : Conditional T S I) (within scope : I) → IsCond cmp s0 cond → Extends s0 s1 → IsSet s1 scope (λ c. s0.test cond.scope c && s0.test within c) → scope ≡ cond.scope → same ≡ cond → IsCondOf cmp s1 (value_within s0 within (cond_at s0 cond)) same
+unfolding IsCond IsCondOf
+IsCondOf-whole {T = T} {S = S} {I = I} cmp {s0 = s0} {s1 = s1} cond same within scope v e u stays copied =
+    let inside : (c : List Bool) → s0.test cond.scope c ≡ (s0.test cond.scope c && s0.test within c) = λ c. sym (e.test cond.scope c v.scope_known) ∙ ap (λ i. s1.test i c) (sym stays) ∙ u.test c in
+    let P : Conditional T S I → Type 0 = λ r. IsCondOf cmp s1 (value_within s0 within (cond_at s0 cond)) r in
+    subst P (sym copied) (record {
+      is_cond = IsCond-extends cmp e cond v;
+      at = λ c. cond_at-extends cmp e cond v c ∙ whole (s0.test within c) (s0.test cond.scope c) (cond_at s0 cond c) (v.covers c) (inside c);
+    })
+  where
+    whole : (b d : Bool) (o : Option T) → is_some o ≡ d → d ≡ (d && b) → o ≡ (if b then o else None)
+    whole true d o h k = refl
+    whole false true o h k = cc
+    whole false false None h k = refl
+    whole false false (Some x) h k = cc
+
+-- what it makes where no configuration is left
+pub IsCondOf-nothing : {T S I : Type 0} (cmp : T → T → Ordering) {s0 s1 : Sets I} → IsLawful s1 → (cond : Conditional T S I) (within scope : I) → IsCond cmp s0 cond → Extends s0 s1 → IsSet s1 scope (λ c. s0.test cond.scope c && s0.test within c) → scope ≡ s1.never → IsCondOf {S = S} cmp s1 (value_within s0 within (cond_at s0 cond)) (record { scope = scope; leaves = [] })
+unfolding IsCond IsCondOf
+IsCondOf-nothing {T = T} cmp {s0 = s0} {s1 = s1} lawful cond within scope v e u never =
+    let none : (c : List Bool) → s1.test scope c ≡ false = λ c. ap (λ i. s1.test i c) never ∙ lawful.never_test c in
+    record {
+      is_cond = record { scope_known = u.known; are_leaves = tt; covers = λ c. sym (none c) };
+      at = λ c. outside (s0.test within c) (s0.test cond.scope c) (cond_at s0 cond c) (v.covers c) (sym (u.test c) ∙ none c);
+    }
+  where
+    outside : (b d : Bool) (o : Option T) → is_some o ≡ d → (d && b) ≡ false → None ≡ (if b then o else None)
+    outside false d o h k = refl
+    outside true d None h k = refl
+    outside true true (Some x) h k = cc
+    outside true false (Some x) h k = cc
 
 pub some_or : {T : Type 0} (a b : Option T) → is_some (option_or a b) ≡ (is_some a || is_some b)
 some_or None b = refl

@@ -1,16 +1,16 @@
 -- Laws of leaves.
-use Rattle.std.proofs.Common.{◌≡◌, ◌≢◌, ℕ, Bool, true, false, List, [], ◌∷◌, ◌++◌, refl, sym, ◌∙◌, ap, arith, drop, zero, suc, set, get_or, subst}
-use Rattle.std.proofs.Common.{◌+◌, ◌<◌, ◌≤◌, length, add-zero, add-one, drop-cons}
-use Rattle.std.proofs.lemmas.List.{drop_all}
+use Rattle.std.proofs.Common.{◌≡◌, ◌≢◌, ℕ, Bool, true, false, List, [], ◌∷◌, ◌++◌, refl, sym, ◌∙◌, ap, arith, zero, suc, set, get_or, subst, inl, inr}
+use Rattle.std.proofs.Common.{◌+◌, ◌-◌, ◌/◌, ◌<◌, ◌≤◌, length}
+use Rattle.std.proofs.lemmas.Bool.{cases_eq}
 use Rattle.std.specs.Prelude.{Option, Some, None, if◌then◌else◌, insert, ◌||◌}
 use Rattle.std.specs.Option.{option_or}
 use Rattle.std.specs.Cmp.{IsTotalOrder}
-use Rattle.std.specs.Ordering.{ordering_reverse}
+use Rattle.std.specs.Ordering.{is_eq, is_lt, ordering_reverse}
 use Rattle.std.specs.declared.cmp.Ordering.{Ordering}
 use Rattle.std.specs.declared.cmp.Ordering.TheVariants.{Less, Equal, Greater}
 use Rattle.vx_space.specs.Sets.{Sets, Extends, IsLawful, IsSet}
 use Rattle.vx_cond.specs.declared.cond.Leaf.{Leaf}
-use Rattle.vx_cond.specs.Leaves.{value_at, IsBelow, IsApart, AreLeaves, IsPlace, AreLeavesOf, value_under}
+use Rattle.vx_cond.specs.Leaves.{value_at, IsBelow, AreAscending, IsApart, AreLeaves, IsPlace, AreLeavesOf, value_under}
 
 -- the values of some leaves and then of others
 pub value_at-append : {T S I : Type 0} (sets : Sets I) (xs ys : List (Leaf T S I)) (c : List Bool) → value_at sets (xs ++ ys) c ≡ option_or (value_at sets xs c) (value_at sets ys c)
@@ -160,30 +160,121 @@ IsAdded-set {cmp = cmp} exact sets lawful x condition (z ∷ ys) (suc i) y h p e
       values = λ c. ap (λ r. if sets.test z.condition c then Some z.value else r) (before.values c) ∙ swap_tests (sets.test condition c) (sets.test z.condition c) x.value z.value (value_at sets ys c) (IsApart-first sets condition z ys a c);
     }
 
--- a place among the leaves from i on is a place among all
-abbrev pub PlacesFrom : {T S I : Type 0} → (T → T → Ordering) → T → List (Leaf T S I) → ℕ → Type 0
-PlacesFrom cmp value xs i = (j : ℕ) (found : Bool) → IsPlace cmp value (drop i xs) j found → IsPlace cmp value xs (i + j) found
+-- an item of a list, whatever the default
+at_any : {X : Type 0} (xs : List X) (i : ℕ) (x d : X) → i < length xs → x ≡ get_or xs i x → get_or xs i d ≡ x
+at_any [] i x d l e = absurd (omega (arith, l))
+at_any (y ∷ ys) zero x d l e = sym e
+at_any (y ∷ ys) (suc i) x d l e = at_any ys i x d (omega (arith, l)) e
 
-pub places_here : {T S I : Type 0} (cmp : T → T → Ordering) (value : T) (xs : List (Leaf T S I)) (i : ℕ) (x : Leaf T S I) (found : Bool) → PlacesFrom cmp value xs i → i < length xs → x ≡ get_or xs i x → cmp x.value value ≡ (if found then Equal else Greater) → IsPlace cmp value xs i found
-places_here {T = T} {S = S} {I = I} cmp value xs i x found f l e p =
-    let P : List (Leaf T S I) → Type 0 = λ ys. IsPlace cmp value ys zero found in
-    let Q : ℕ → Type 0 = λ k. IsPlace cmp value xs k found in
-    subst Q (add-zero i) (f zero found (subst P (sym (drop-cons xs i x l)) (ap (λ w. cmp w.value value) (sym e) ∙ p)))
+-- leaves ascend
+pub ascending_of : {T S I : Type 0} (cmp : T → T → Ordering) (sets : Sets I) (xs : List (Leaf T S I)) → AreLeaves cmp sets xs → AreAscending cmp xs
+ascending_of cmp sets [] h = tt
+ascending_of cmp sets (x ∷ xs) h = (h.0.below, ascending_of cmp sets xs h.1)
 
-pub places_next : {T S I : Type 0} (cmp : T → T → Ordering) (value : T) (xs : List (Leaf T S I)) (i : ℕ) (x : Leaf T S I) → PlacesFrom cmp value xs i → i < length xs → x ≡ get_or xs i x → cmp x.value value ≡ Less → PlacesFrom cmp value xs (i + 1)
-places_next {T = T} {S = S} {I = I} cmp value xs i x f l e p j found h =
-    let P : List (Leaf T S I) → Type 0 = λ ys. IsPlace cmp value ys (suc j) found in
-    let Q : ℕ → Type 0 = λ k. IsPlace cmp value xs k found in
-    let R : ℕ → Type 0 = λ k. IsPlace cmp value (drop k xs) j found in
-    let same : i + suc j ≡ i + 1 + j = omega arith in
-    subst Q same (f (suc j) found (subst P (sym (drop-cons xs i x l)) (ap (λ w. cmp w.value value) (sym e) ∙ p, subst R (add-one i) h)))
+below_at : {T S I : Type 0} (cmp : T → T → Ordering) (v : T) (xs : List (Leaf T S I)) (k : ℕ) (d : Leaf T S I) → IsBelow cmp v xs → k < length xs → cmp v (get_or xs k d).value ≡ Less
+below_at cmp v [] k d h l = absurd (omega (arith, l))
+below_at cmp v (x ∷ xs) zero d h l = h.0
+below_at cmp v (x ∷ xs) (suc k) d h l = below_at cmp v xs k d h.1 (omega (arith, l))
 
-pub places_end : {T S I : Type 0} (cmp : T → T → Ordering) (value : T) (xs : List (Leaf T S I)) (i : ℕ) → PlacesFrom cmp value xs i → i ≤ length xs → length xs ≤ i → IsPlace cmp value xs (length xs) false
-places_end {T = T} {S = S} {I = I} cmp value xs i f u l =
-    let P : List (Leaf T S I) → Type 0 = λ ys. IsPlace cmp value ys zero false in
-    let Q : ℕ → Type 0 = λ k. IsPlace cmp value xs k false in
-    let same : i + 0 ≡ length xs = omega (arith, u, l) in
-    subst Q same (f zero false (subst P (sym (drop_all i xs l)) refl))
+ascends : {T S I : Type 0} (cmp : T → T → Ordering) (xs : List (Leaf T S I)) (j k : ℕ) (d : Leaf T S I) → AreAscending cmp xs → j < k → k < length xs → cmp (get_or xs j d).value (get_or xs k d).value ≡ Less
+ascends cmp [] j k d h l m = absurd (omega (arith, m))
+ascends cmp (x ∷ xs) j zero d h l m = absurd (omega (arith, l))
+ascends cmp (x ∷ xs) zero (suc k) d h l m = below_at cmp x.value xs k d h.0 (omega (arith, m))
+ascends cmp (x ∷ xs) (suc j) (suc k) d h l m = ascends cmp xs j k d h.1 (omega (arith, l)) (omega (arith, m))
+
+-- the values before a place are less, and those from another on greater; between the two lies what is looked at next
+pub record IsSearching {T S I : Type 0} (cmp : T → T → Ordering) (value : T) (xs : List (Leaf T S I)) (low high at : ℕ) : Type 0 where
+  pub ordered : low ≤ high
+  pub within : high ≤ length xs
+  pub least : low < high → low ≤ at
+  pub most : low < high → at < high
+  pub before : (k : ℕ) (d : Leaf T S I) → k < low → cmp (get_or xs k d).value value ≡ Less
+  pub after : (k : ℕ) (d : Leaf T S I) → high ≤ k → k < length xs → cmp (get_or xs k d).value value ≡ Greater
+
+pub IsSearching-start : {T S I : Type 0} (cmp : T → T → Ordering) (value : T) (xs : List (Leaf T S I)) (at : ℕ) → at ≡ length xs - 1 → IsSearching cmp value xs 0 (length xs) at
+IsSearching-start cmp value xs at e = record {
+  ordered = omega arith;
+  within = omega arith;
+  least = λ l. omega arith;
+  most = λ l. omega (arith, l, e);
+  before = λ k d l. absurd (omega (arith, l));
+  after = λ k d l m. absurd (omega (arith, l, m));
+}
+
+pub middle : (low high at : ℕ) → low ≤ high → at ≡ low + (high - low) / 2 → low < high → (low ≤ at) × (at < high)
+middle low high at h e l = (omega (arith, e), omega (arith, h, e, l))
+
+pub IsSearching-less : {T S I : Type 0} {cmp : T → T → Ordering} → IsTotalOrder cmp → (value : T) (xs : List (Leaf T S I)) (low high at next : ℕ) (x : Leaf T S I) → AreAscending cmp xs → IsSearching cmp value xs low high at → low < high → x ≡ get_or xs at x → cmp x.value value ≡ Less → next ≡ at + 1 + (high - (at + 1)) / 2 → IsSearching cmp value xs (at + 1) high next
+IsSearching-less {cmp = cmp} o value xs low high at next x asc h l e p n =
+    let inside : at < high = h.most l in
+    let ordered : at + 1 ≤ high = omega (arith, inside) in
+    record {
+      ordered = ordered;
+      within = h.within;
+      least = λ m. (middle (at + 1) high next ordered n m).0;
+      most = λ m. (middle (at + 1) high next ordered n m).1;
+      before = λ k d m. elim (cases_eq k at) [
+        | inl s ↦ rw (s, at_any xs at x d (omega (arith, inside, h.within)) e) p
+        | inr q ↦ o.trans (get_or xs k d).value (get_or xs at d).value value (ascends cmp xs k at d asc (omega (arith, m, q)) (omega (arith, inside, h.within))) (rw (at_any xs at x d (omega (arith, inside, h.within)) e) p)
+      ];
+      after = h.after;
+    }
+
+pub IsSearching-greater : {T S I : Type 0} {cmp : T → T → Ordering} → IsTotalOrder cmp → (value : T) (xs : List (Leaf T S I)) (low high at next : ℕ) (x : Leaf T S I) → AreAscending cmp xs → IsSearching cmp value xs low high at → low < high → x ≡ get_or xs at x → cmp x.value value ≡ Greater → next ≡ low + (at - low) / 2 → IsSearching cmp value xs low at next
+IsSearching-greater {cmp = cmp} o value xs low high at next x asc h l e p n =
+    let least : low ≤ at = h.least l in
+    let inside : at < length xs = omega (arith, h.most l, h.within) in
+    record {
+      ordered = least;
+      within = omega (arith, inside);
+      least = λ m. (middle low at next least n m).0;
+      most = λ m. (middle low at next least n m).1;
+      before = h.before;
+      after = λ k d m u. elim (cases_eq k at) [
+        | inl s ↦ rw (s, at_any xs at x d inside e) p
+        | inr q ↦
+            let here : cmp (get_or xs at d).value value ≡ Greater = rw (at_any xs at x d inside e) p in
+            let less : cmp value (get_or xs at d).value ≡ Less = o.antisymm value (get_or xs at d).value ∙ ap ordering_reverse here in
+            let further : cmp value (get_or xs k d).value ≡ Less = o.trans value (get_or xs at d).value (get_or xs k d).value less (ascends cmp xs at k d asc (omega (arith, m, q)) u) in
+            o.antisymm (get_or xs k d).value value ∙ ap ordering_reverse further
+      ];
+    }
+
+place_from : {T S I : Type 0} (cmp : T → T → Ordering) (value : T) (xs : List (Leaf T S I)) (i : ℕ) (found : Bool) → ((k : ℕ) (d : Leaf T S I) → k < i → cmp (get_or xs k d).value value ≡ Less) → (i < length xs → (d : Leaf T S I) → cmp (get_or xs i d).value value ≡ (if found then Equal else Greater)) → (i ≡ length xs → found ≡ false) → i ≤ length xs → IsPlace cmp value xs i found
+place_from cmp value [] zero found f g e l = e refl
+place_from cmp value [] (suc i) found f g e l = absurd (omega (arith, l))
+place_from cmp value (x ∷ xs) zero found f g e l = g (omega arith) x
+place_from cmp value (x ∷ xs) (suc i) found f g e l = (f 0 x (omega arith), place_from cmp value xs i found (λ k d m. f (suc k) d (omega (arith, m))) (λ m d. g (omega (arith, m)) d) (λ m. e (ap suc m)) (omega (arith, l)))
+
+pub IsSearching-here : {T S I : Type 0} (cmp : T → T → Ordering) (value : T) (xs : List (Leaf T S I)) (low high at : ℕ) (x : Leaf T S I) → IsTotalOrder cmp → ((a b : T) → cmp a b ≡ Equal → a ≡ b) → AreAscending cmp xs → IsSearching cmp value xs low high at → low < high → x ≡ get_or xs at x → cmp x.value value ≡ Equal → IsPlace cmp value xs at true
+IsSearching-here cmp value xs low high at x o exact asc h l e p =
+    let inside : at < length xs = omega (arith, h.most l, h.within) in
+    let same : x.value ≡ value = exact x.value value p in
+    place_from cmp value xs at true
+    (λ k d m. ap (λ v. cmp (get_or xs k d).value v) (sym same) ∙ ap (λ y. cmp (get_or xs k d).value y.value) (sym (at_any xs at x d inside e)) ∙ ascends cmp xs k at d asc m inside)
+    (λ m d. rw (at_any xs at x d inside e) p)
+    (λ m. absurd (omega (arith, m, inside)))
+    (omega (arith, inside))
+
+pub IsSearching-end : {T S I : Type 0} (cmp : T → T → Ordering) (value : T) (xs : List (Leaf T S I)) (low high at : ℕ) → IsSearching cmp value xs low high at → high ≤ low → IsPlace cmp value xs low false
+IsSearching-end cmp value xs low high at h l = place_from cmp value xs low false h.before (λ m d. h.after low d (omega (arith, l)) m) (λ _. refl) (omega (arith, h.ordered, h.within))
+
+-- what a look at a place tells
+is_equal : (o : Ordering) → is_eq o ≡ true → o ≡ Equal
+is_equal Equal h = refl
+is_equal Less h = cc h
+is_equal Greater h = cc h
+
+pub IsSearching-found : {T S I : Type 0} (cmp : T → T → Ordering) (value : T) (xs : List (Leaf T S I)) (low high at : ℕ) (x : Leaf T S I) (order : Ordering) (same : Bool) → IsTotalOrder cmp → ((a b : T) → cmp a b ≡ Equal → a ≡ b) → AreAscending cmp xs → IsSearching cmp value xs low high at → low < high → x ≡ get_or xs at x → order ≡ cmp (get_or xs at x).value value → same ≡ is_eq order → same ≡ true → IsPlace cmp value xs at true
+IsSearching-found cmp value xs low high at x order same o exact asc h l e c b t = IsSearching-here cmp value xs low high at x o exact asc h l e (ap (λ y. cmp y.value value) e ∙ sym c ∙ is_equal order (sym b ∙ t))
+
+pub IsSearching-narrowed : {T S I : Type 0} {cmp : T → T → Ordering} → IsTotalOrder cmp → (value : T) (xs : List (Leaf T S I)) (low high at : ℕ) (x : Leaf T S I) (order : Ordering) (same less : Bool) (part : ℕ × ℕ) → AreAscending cmp xs → IsSearching cmp value xs low high at → low < high → x ≡ get_or xs at x → order ≡ cmp (get_or xs at x).value value → same ≡ is_eq order → same ≡ false → less ≡ is_lt order → part ≡ (if less then (at + 1, high) else (low, at)) → IsSearching cmp value xs part.0 part.1 (part.0 + (part.1 - part.0) / 2)
+IsSearching-narrowed {cmp = cmp} o value xs low high at x order same less part asc h l e c s n b q = by order (c ∙ ap (λ y. cmp y.value value) (sym e)) (sym s ∙ n) (q ∙ ap (λ t. if t then (at + 1, high) else (low, at)) b)
+  where
+    by : (order : Ordering) → order ≡ cmp x.value value → is_eq order ≡ false → part ≡ (if is_lt order then (at + 1, high) else (low, at)) → IsSearching cmp value xs part.0 part.1 (part.0 + (part.1 - part.0) / 2)
+    by Less c n q = let P : ℕ × ℕ → Type 0 = λ r. IsSearching cmp value xs r.0 r.1 (r.0 + (r.1 - r.0) / 2) in subst P (sym q) (IsSearching-less o value xs low high at _ x asc h l e (sym c) refl)
+    by Equal c n q = cc n
+    by Greater c n q = let P : ℕ × ℕ → Type 0 = λ r. IsSearching cmp value xs r.0 r.1 (r.0 + (r.1 - r.0) / 2) in subst P (sym q) (IsSearching-greater o value xs low high at _ x asc h l e (sym c) refl)
 
 pub place_at : {T S I : Type 0} (cmp : T → T → Ordering) (value : T) (xs ys : List (Leaf T S I)) (i : ℕ) (a b : Bool) → IsPlace cmp value xs i a → xs ≡ ys → a ≡ b → IsPlace cmp value ys i b
 place_at {T = T} {S = S} {I = I} cmp value xs ys i a b p e f =

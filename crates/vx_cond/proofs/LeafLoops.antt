@@ -1,5 +1,5 @@
 -- What the loops over leaves keep.
-use Rattle.std.proofs.Common.{◌≡◌, ℕ, ◌+◌, ◌<◌, ◌≤◌, Bool, true, false, List, [], ◌∷◌, ◌++◌, refl, sym, ◌∙◌, ap, arith, take, drop, zero, suc, get_or, length, add-one, drop-cons, inl, ⊎_elim}
+use Rattle.std.proofs.Common.{◌≡◌, ℕ, ◌+◌, ◌<◌, ◌≤◌, Bool, true, false, List, [], ◌∷◌, ◌++◌, refl, sym, ◌∙◌, ap, arith, take, drop, zero, suc, get_or, length, add-one, drop-cons, inl, inr, subst, ⊎_elim}
 use Rattle.std.proofs.lemmas.List.{take_more, take_all, drop_all}
 use Rattle.std.specs.Prelude.{Option, Some, None, if◌then◌else◌, ◌&&◌}
 use Rattle.std.specs.Option.{option_or}
@@ -110,40 +110,93 @@ IsRestricting-apart {T = T} cmp {s0 = s0} {s1 = s1} xs i x within k made h l e r
 pub IsRestricting-end : {T S I : Type 0} (cmp : T → T → Ordering) {s0 s1 : Sets I} (xs : List (Leaf T S I)) (within : I) (i : ℕ) (made : List (Leaf T S I)) → IsRestricting cmp s0 s1 xs within i made → length xs ≤ i → AreLeavesOf cmp s1 (value_within s0 within (value_at s0 xs)) made
 IsRestricting-end cmp xs within i made r l = rw (take_all i xs l) at r.leaves
 
--- some leaves, and the first i of others
-pub record IsAddingAll {T S I : Type 0} (cmp : T → T → Ordering) (start sets : Sets I) (first xs : List (Leaf T S I)) (i : ℕ) (made : List (Leaf T S I)) : Type 0 where
+-- the first i leaves of one list and the first j of another, as far as two that are apart are merged
+pub record IsMerging {T S I : Type 0} (cmp : T → T → Ordering) (start sets : Sets I) (xs ys : List (Leaf T S I)) (i j : ℕ) (made : List (Leaf T S I)) : Type 0 where
   pub extends : Extends start sets
-  pub leaves : AreLeavesOf cmp sets (first_of (value_at start first) (value_at start (take i xs))) made
+  pub first : i ≤ length xs
+  pub second : j ≤ length ys
+  pub leaves : AreLeavesOf cmp sets (first_of (value_at start (take i xs)) (value_at start (take j ys))) made
 
-pub IsAddingAll-start : {T S I : Type 0} (cmp : T → T → Ordering) (sets : Sets I) (first xs : List (Leaf T S I)) → AreLeaves cmp sets first → IsAddingAll cmp sets sets first xs 0 first
-IsAddingAll-start cmp sets first xs h = record {
+pub IsMerging-start : {T S I : Type 0} (cmp : T → T → Ordering) (sets : Sets I) (xs ys : List (Leaf T S I)) → IsMerging cmp sets sets xs ys 0 0 []
+IsMerging-start cmp sets xs ys = record {
   extends = Extends-refl sets;
-  leaves = record { are_leaves = h; values = λ c. sym (option_or_none (value_at sets first c)) };
+  first = omega arith;
+  second = omega arith;
+  leaves = record { are_leaves = tt; values = λ _. refl };
 }
 
-pub IsAddingAll-apart : {T S I : Type 0} (cmp : T → T → Ordering) {s0 s1 : Sets I} (first xs : List (Leaf T S I)) (i : ℕ) (x : Leaf T S I) (made : List (Leaf T S I)) → AreLeaves cmp s0 xs → AreLeavesApart s0 first xs → i < length xs → x ≡ get_or xs i x → IsAddingAll cmp s0 s1 first xs i made → IsApart s1 x.condition made
-IsAddingAll-apart {T = T} cmp {s0 = s0} first xs i x made h a l e r =
+-- where all leaves have no value, the first of them have none
+take_none : {T S I : Type 0} (sets : Sets I) (xs : List (Leaf T S I)) (i : ℕ) (c : List Bool) → value_at sets xs c ≡ None → value_at sets (take i xs) c ≡ None
+take_none sets [] zero c n = refl
+take_none sets [] (suc i) c n = refl
+take_none sets (x ∷ xs) zero c n = refl
+take_none sets (x ∷ xs) (suc i) c n = cases (sets.test x.condition c) x.value (value_at sets xs c) (value_at sets (take i xs) c) (take_none sets xs i c) n
+  where
+    cases : {T : Type 0} (b : Bool) (v : T) (r q : Option T) → (r ≡ None → q ≡ None) → (if b then Some v else r) ≡ None → (if b then Some v else q) ≡ None
+    cases true v r q f m = cc
+    cases false v r q f m = f m
+
+-- where a leaf of one list holds, the first of the other have no value
+other_none : {T S I : Type 0} (sets : Sets I) (xs ys : List (Leaf T S I)) (i j : ℕ) (x : Leaf T S I) (c : List Bool) → AreLeavesApart sets xs ys → i < length xs → x ≡ get_or xs i x → sets.test x.condition c ≡ true → value_at sets (take j ys) c ≡ None
+other_none sets xs ys i j x c a l e t = ⊎_elim (λ n. absurd (leaf_here sets xs i x c l e t n)) (λ n. take_none sets ys j c n) (a.none c)
+
+AreLeavesApart-sym : {T S I : Type 0} {sets : Sets I} {xs ys : List (Leaf T S I)} → AreLeavesApart sets xs ys → AreLeavesApart sets ys xs
+AreLeavesApart-sym a = record { none = λ c. ⊎_elim (λ n. inr n) (λ n. inl n) (a.none c) }
+
+no_value : {T : Type 0} (r q : Option T) → r ≡ None → q ≡ None → option_or r q ≡ None
+no_value r q h k = rw (h, k) refl
+
+pub IsMerging-apart_first : {T S I : Type 0} (cmp : T → T → Ordering) {s0 s1 : Sets I} (xs ys : List (Leaf T S I)) (i j : ℕ) (x : Leaf T S I) (made : List (Leaf T S I)) → AreLeaves cmp s0 xs → AreLeavesApart s0 xs ys → i < length xs → x ≡ get_or xs i x → IsMerging cmp s0 s1 xs ys i j made → IsApart s1 x.condition made
+IsMerging-apart_first cmp {s0 = s0} {s1 = s1} xs ys i j x made h a l e r =
     let next = next_leaf cmp s0 xs i x h l e in
     record {
       none = λ c t.
           let here = sym (r.extends.test x.condition c next.known) ∙ t in
-          r.leaves.values c ∙ both (value_at s0 first c) (value_at s0 (take i xs) c) (⊎_elim (λ n. n) (λ n. absurd (leaf_here s0 xs i x c l e here n)) (a.none c)) (next.before.none c here);
+          r.leaves.values c ∙ no_value (value_at s0 (take i xs) c) (value_at s0 (take j ys) c) (next.before.none c here) (other_none s0 xs ys i j x c a l e here);
     }
-  where
-    both : (r s : Option T) → r ≡ None → s ≡ None → option_or r s ≡ None
-    both r s h k = rw (h, k) refl
 
-pub IsAddingAll-step : {T S I : Type 0} (cmp : T → T → Ordering) {s0 s1 s2 : Sets I} (first xs : List (Leaf T S I)) (i : ℕ) (x : Leaf T S I) (made after : List (Leaf T S I)) → AreLeaves cmp s0 xs → AreLeavesApart s0 first xs → i < length xs → x ≡ get_or xs i x → IsAddingAll cmp s0 s1 first xs i made → Extends s1 s2 → AreLeavesOf cmp s2 (value_under s1 x.condition x.value (value_at s1 made)) after → IsAddingAll cmp s0 s2 first xs (i + 1) after
-IsAddingAll-step {T = T} cmp {s0 = s0} {s1 = s1} first xs i x made after h a l e r e1 u =
+pub IsMerging-apart_second : {T S I : Type 0} (cmp : T → T → Ordering) {s0 s1 : Sets I} (xs ys : List (Leaf T S I)) (i j : ℕ) (y : Leaf T S I) (made : List (Leaf T S I)) → AreLeaves cmp s0 ys → AreLeavesApart s0 xs ys → j < length ys → y ≡ get_or ys j y → IsMerging cmp s0 s1 xs ys i j made → IsApart s1 y.condition made
+IsMerging-apart_second cmp {s0 = s0} {s1 = s1} xs ys i j y made h a l e r =
+    let next = next_leaf cmp s0 ys j y h l e in
+    record {
+      none = λ c t.
+          let here = sym (r.extends.test y.condition c next.known) ∙ t in
+          r.leaves.values c ∙ no_value (value_at s0 (take i xs) c) (value_at s0 (take j ys) c) (other_none s0 ys xs j i y c (AreLeavesApart-sym a) l e here) (next.before.none c here);
+    }
+
+pub IsMerging-first : {T S I : Type 0} (cmp : T → T → Ordering) {s0 s1 s2 : Sets I} (xs ys : List (Leaf T S I)) (i j : ℕ) (x : Leaf T S I) (made after : List (Leaf T S I)) → AreLeaves cmp s0 xs → i < length xs → x ≡ get_or xs i x → IsMerging cmp s0 s1 xs ys i j made → Extends s1 s2 → AreLeavesOf cmp s2 (value_under s1 x.condition x.value (value_at s1 made)) after → IsMerging cmp s0 s2 xs ys (i + 1) j after
+IsMerging-first {T = T} cmp {s0 = s0} {s1 = s1} xs ys i j x made after h l e r e1 u =
     let next = next_leaf cmp s0 xs i x h l e in
     record {
       extends = Extends-trans r.extends e1;
+      first = omega (arith, l);
+      second = r.second;
       leaves = record {
         are_leaves = u.are_leaves;
         values = λ c. u.values c
             ∙ rw (r.extends.test x.condition c next.known) (ap (λ o. if s0.test x.condition c then Some x.value else o) (r.leaves.values c))
-            ∙ cases (s0.test x.condition c) x.value (value_at s0 first c) (value_at s0 (take i xs) c) (λ t. ⊎_elim (λ n. n) (λ n. absurd (leaf_here s0 xs i x c l e t n)) (a.none c))
-            ∙ ap (λ o. option_or (value_at s0 first c) o) (sym (next.more c));
+            ∙ cases (s0.test x.condition c) x.value (value_at s0 (take i xs) c) (value_at s0 (take j ys) c)
+            ∙ ap (λ o. option_or o (value_at s0 (take j ys) c)) (sym (next.more c));
+      };
+    }
+  where
+    cases : (b : Bool) (v : T) (r q : Option T) → (if b then Some v else option_or r q) ≡ option_or (if b then Some v else r) q
+    cases true v r q = refl
+    cases false v r q = refl
+
+pub IsMerging-second : {T S I : Type 0} (cmp : T → T → Ordering) {s0 s1 s2 : Sets I} (xs ys : List (Leaf T S I)) (i j : ℕ) (y : Leaf T S I) (made after : List (Leaf T S I)) → AreLeaves cmp s0 ys → AreLeavesApart s0 xs ys → j < length ys → y ≡ get_or ys j y → IsMerging cmp s0 s1 xs ys i j made → Extends s1 s2 → AreLeavesOf cmp s2 (value_under s1 y.condition y.value (value_at s1 made)) after → IsMerging cmp s0 s2 xs ys i (j + 1) after
+IsMerging-second {T = T} cmp {s0 = s0} {s1 = s1} xs ys i j y made after h a l e r e1 u =
+    let next = next_leaf cmp s0 ys j y h l e in
+    record {
+      extends = Extends-trans r.extends e1;
+      first = r.first;
+      second = omega (arith, l);
+      leaves = record {
+        are_leaves = u.are_leaves;
+        values = λ c. u.values c
+            ∙ rw (r.extends.test y.condition c next.known) (ap (λ o. if s0.test y.condition c then Some y.value else o) (r.leaves.values c))
+            ∙ cases (s0.test y.condition c) y.value (value_at s0 (take i xs) c) (value_at s0 (take j ys) c) (λ t. other_none s0 ys xs j i y c (AreLeavesApart-sym a) l e t)
+            ∙ ap (λ o. option_or (value_at s0 (take i xs) c) o) (sym (next.more c));
       };
     }
   where
@@ -151,8 +204,38 @@ IsAddingAll-step {T = T} cmp {s0 = s0} {s1 = s1} first xs i x made after h a l e
     cases true v m r n = rw (n refl) refl
     cases false v m r n = refl
 
-pub IsAddingAll-end : {T S I : Type 0} (cmp : T → T → Ordering) {s0 s1 : Sets I} (first xs : List (Leaf T S I)) (i : ℕ) (made : List (Leaf T S I)) → IsAddingAll cmp s0 s1 first xs i made → length xs ≤ i → AreLeavesOf cmp s1 (first_of (value_at s0 first) (value_at s0 xs)) made
-IsAddingAll-end cmp first xs i made r l = rw (take_all i xs l) at r.leaves
+-- two readings of one place
+one_item : {X : Type 0} (xs : List X) (i : ℕ) (x y : X) → i < length xs → x ≡ get_or xs i x → y ≡ get_or xs i y → y ≡ x
+one_item [] i x y l e f = absurd (omega (arith, l))
+one_item (z ∷ zs) zero x y l e f = f ∙ sym e
+one_item (z ∷ zs) (suc i) x y l e f = one_item zs i x y (omega (arith, l)) e f
+
+pub IsMerging-there_first : {T S I : Type 0} (cmp : T → T → Ordering) {s0 s1 : Sets I} (xs ys : List (Leaf T S I)) (i j : ℕ) (x : Leaf T S I) (made : List (Leaf T S I)) → AreLeaves cmp s0 xs → AreLeavesApart s0 xs ys → i < length xs → x ≡ get_or xs i x → IsMerging cmp s0 s1 xs ys i j made → IsApart s1 (get_or xs i x).condition made
+IsMerging-there_first {T = T} {S = S} {I = I} cmp {s1 = s1} xs ys i j x made h a l e r =
+    let P : Leaf T S I → Type 0 = λ z. IsApart s1 z.condition made in
+    subst P e (IsMerging-apart_first cmp xs ys i j x made h a l e r)
+
+pub IsMerging-there_second : {T S I : Type 0} (cmp : T → T → Ordering) {s0 s1 : Sets I} (xs ys : List (Leaf T S I)) (i j : ℕ) (y : Leaf T S I) (made : List (Leaf T S I)) → AreLeaves cmp s0 ys → AreLeavesApart s0 xs ys → j < length ys → y ≡ get_or ys j y → IsMerging cmp s0 s1 xs ys i j made → IsApart s1 (get_or ys j y).condition made
+IsMerging-there_second {T = T} {S = S} {I = I} cmp {s1 = s1} xs ys i j y made h a l e r =
+    let P : Leaf T S I → Type 0 = λ z. IsApart s1 z.condition made in
+    subst P e (IsMerging-apart_second cmp xs ys i j y made h a l e r)
+
+pub IsMerging-took_first : {T S I : Type 0} (cmp : T → T → Ordering) {s0 s1 s2 : Sets I} (xs ys : List (Leaf T S I)) (i j : ℕ) (x y : Leaf T S I) (made after : List (Leaf T S I)) → AreLeaves cmp s0 xs → i < length xs → x ≡ get_or xs i x → y ≡ get_or xs i y → IsMerging cmp s0 s1 xs ys i j made → Extends s1 s2 → AreLeavesOf cmp s2 (value_under s1 (get_or xs i y).condition (get_or xs i x).value (value_at s1 made)) after → IsMerging cmp s0 s2 xs ys (i + 1) j after
+IsMerging-took_first {T = T} {S = S} {I = I} cmp {s1 = s1} {s2 = s2} xs ys i j x y made after h l e f r e1 u =
+    let P : Leaf T S I → Type 0 = λ w. AreLeavesOf cmp s2 (value_under s1 (get_or xs i y).condition w.value (value_at s1 made)) after in
+    let Q : Leaf T S I → Type 0 = λ z. AreLeavesOf cmp s2 (value_under s1 z.condition x.value (value_at s1 made)) after in
+    IsMerging-first cmp xs ys i j x made after h l e r e1 (subst Q (sym f ∙ one_item xs i x y l e f) (subst P (sym e) u))
+
+pub IsMerging-took_second : {T S I : Type 0} (cmp : T → T → Ordering) {s0 s1 s2 : Sets I} (xs ys : List (Leaf T S I)) (i j : ℕ) (x y : Leaf T S I) (made after : List (Leaf T S I)) → AreLeaves cmp s0 ys → AreLeavesApart s0 xs ys → j < length ys → x ≡ get_or ys j x → y ≡ get_or ys j y → IsMerging cmp s0 s1 xs ys i j made → Extends s1 s2 → AreLeavesOf cmp s2 (value_under s1 (get_or ys j y).condition (get_or ys j x).value (value_at s1 made)) after → IsMerging cmp s0 s2 xs ys i (j + 1) after
+IsMerging-took_second {T = T} {S = S} {I = I} cmp {s1 = s1} {s2 = s2} xs ys i j x y made after h a l e f r e1 u =
+    let P : Leaf T S I → Type 0 = λ w. AreLeavesOf cmp s2 (value_under s1 (get_or ys j y).condition w.value (value_at s1 made)) after in
+    let Q : Leaf T S I → Type 0 = λ z. AreLeavesOf cmp s2 (value_under s1 z.condition x.value (value_at s1 made)) after in
+    IsMerging-second cmp xs ys i j x made after h a l e r e1 (subst Q (sym f ∙ one_item ys j x y l e f) (subst P (sym e) u))
+
+pub IsMerging-end : {T S I : Type 0} (cmp : T → T → Ordering) {s0 s1 : Sets I} (xs ys : List (Leaf T S I)) (i j : ℕ) (made : List (Leaf T S I)) → IsMerging cmp s0 s1 xs ys i j made → length xs ≤ i → length ys ≤ j → AreLeavesOf cmp s1 (first_of (value_at s0 xs) (value_at s0 ys)) made
+IsMerging-end cmp xs ys i j made r l m = rw (take_all i xs l, take_all j ys m) at r.leaves
+
+pub ruleset leaf_merges = (Extends-trans, AreLeaves-extends, next_leaf, next_known, IsMerging-start, IsMerging-end)
 
 -- the lifted leaves of the first i
 pub record IsMapping {T U S I : Type 0} (cmp : U → U → Ordering) (start sets : Sets I) (R : T → U → Type 0) (xs : List (Leaf T S I)) (i : ℕ) (made : List (Leaf U S I)) : Type 0 where
@@ -265,7 +348,7 @@ IsZippingAll-step {T = T} {U = U} {V = V} cmp cmp_u cmp_v {s0 = s0} {s1 = s1} {s
 pub IsZippingAll-end : {T U V S I : Type 0} (cmp : V → V → Ordering) {s0 s1 : Sets I} (R : T → U → V → Type 0) (xs : List (Leaf T S I)) (ys : List (Leaf U S I)) (i : ℕ) (made : List (Leaf V S I)) → IsZippingAll cmp s0 s1 R xs ys i made → length xs ≤ i → AreLifted2 cmp s1 R (value_at s0 xs) (value_at s0 ys) made
 IsZippingAll-end cmp R xs ys i made r l = rw (take_all i xs l) at r.leaves
 
-pub ruleset leaf_loops = (Extends-trans, AreLeaves-extends, next_leaf, next_known, IsRestricting-step, IsRestricting-end, IsAddingAll-start, IsAddingAll-step, IsAddingAll-end, IsMapping-step, IsMapping-end, IsZipping-start)
+pub ruleset leaf_loops = (Extends-trans, AreLeaves-extends, next_leaf, next_known, IsRestricting-step, IsRestricting-end, IsMapping-step, IsMapping-end, IsZipping-start)
 
 -- the leaves before i have no value
 pub record IsScanning {T S I : Type 0} (sets : Sets I) (xs : List (Leaf T S I)) (i : ℕ) (c : List Bool) : Type 0 where
@@ -284,15 +367,3 @@ pub leaf_known : {T S I : Type 0} (cmp : T → T → Ordering) (sets : Sets I) (
 leaf_known cmp sets xs i x h l e = (at_place cmp sets xs i x h l e).0
 
 pub ruleset leaf_scans = (IsScanning-here, IsScanning-next, IsScanning-end, leaf_known)
-
--- both, one after the other
-pub joined : {T S I : Type 0} (cmp : T → T → Ordering) {s0 s1 s2 : Sets I} (xs ys made after : List (Leaf T S I)) → AreLeaves cmp s0 ys → Extends s0 s1 → AreLeavesOf cmp s1 (first_of (λ _. None) (value_at s0 xs)) made → AreLeavesOf cmp s2 (first_of (value_at s1 made) (value_at s1 ys)) after → AreLeavesOf cmp s2 (first_of (value_at s0 xs) (value_at s0 ys)) after
-joined cmp xs ys made after h e a b = record { are_leaves = b.are_leaves; values = λ c. b.values c ∙ rw (a.values c, value_at-extends cmp e ys h c) refl }
-
-pub joined_apart : {T S I : Type 0} (cmp : T → T → Ordering) {s0 s1 : Sets I} (xs ys made : List (Leaf T S I)) → AreLeaves cmp s0 ys → AreLeavesApart s0 xs ys → Extends s0 s1 → AreLeavesOf cmp s1 (first_of (λ _. None) (value_at s0 xs)) made → AreLeavesApart s1 made ys
-joined_apart cmp xs ys made h p e a = record { none = λ c. rw (a.values c, value_at-extends cmp e ys h c) (p.none c) }
-
-pub nothing_apart : {T S I : Type 0} (sets : Sets I) (xs : List (Leaf T S I)) → AreLeavesApart sets [] xs
-nothing_apart sets xs = record { none = λ c. inl refl }
-
-pub ruleset leaf_joins = (Extends-trans, AreLeaves-extends, nothing_apart, joined_apart, joined)

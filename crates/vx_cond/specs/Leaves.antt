@@ -16,6 +16,11 @@ abbrev pub IsBelow : {T S I : Type 0} → (T → T → Ordering) → T → List 
 IsBelow cmp value [] = Unit {0}
 IsBelow cmp value (leaf ∷ rest) = (cmp value leaf.value ≡ Less) × IsBelow cmp value rest
 
+-- each value is below those after it
+abbrev pub AreAscending : {T S I : Type 0} → (T → T → Ordering) → List (Leaf T S I) → Type 0
+AreAscending cmp [] = Unit {0}
+AreAscending cmp (leaf ∷ rest) = IsBelow cmp leaf.value rest × AreAscending cmp rest
+
 -- no configuration of the condition has a value among the leaves
 pub record IsApart {T S I : Type 0} (sets : Sets I) (condition : I) (leaves : List (Leaf T S I)) : Type 0 where
   pub none : (c : List Bool) → sets.test condition c ≡ true → value_at sets leaves c ≡ None

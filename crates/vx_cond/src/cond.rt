@@ -1,10 +1,11 @@
 //! Conditional values: distinct leaves in ascending value, with nonempty disjoint conditions whose union is the scope.
 
-ghost use Rattle.std.specs.Prelude.{◌≡◌, ◌++◌, false, Some, IfOk, OnOk, IsNone, ◌↔◌};
+ghost use Rattle.std.specs.Prelude.{◌≡◌, ◌++◌, [], false, Some, IfOk, OnOk, IsNone, ◌↔◌};
 ghost use Rattle.vx_space.specs.Sets.{IsKnown, Extends};
 
 use crate::leaves::{
-    conditions_out, join_leaves, map_leaves, restrict_leaves, value_of_leaves, zip_leaves,
+    conditions_out, copy_leaves, join_leaves, map_leaves, restrict_leaves, value_of_leaves,
+    zip_leaves,
 };
 use crate::projects::Projects;
 use std::alloc::{AllocError, Global};
@@ -62,6 +63,21 @@ impl<T: Exact, S: Space> Cond<T, S> {
         Cond { scope, leaves }
     }
 
+    /// The same value once more.
+    fn copied(&self) -> Result<Cond<T, S>, AllocError>
+        ensures { IfOk result (λ r. r ≡ self.now) }
+    {
+        let leaves = copy_leaves(self.allocator(), self.leaves())?;
+        Ok(Cond::of(self.scope(), leaves))
+    }
+
+    /// No value, which needs a scope without configurations.
+    fn nothing(&self, scope: S::Id) -> Cond<T, S>
+        ensures { result ≡ record { scope = scope; leaves = [] } }
+    {
+        Cond::of(scope, Vec::new(self.allocator()))
+    }
+
     /// The allocator of the leaves.
     pub fn allocator(&self) -> Global {
         *self.leaves.allocator()
@@ -99,6 +115,13 @@ impl<T: Exact, S: Space> Cond<T, S> {
         ensures ok { IfOk result (IsCondOf T.cmp (S.sets space.new) (value_within (S.sets space.old) within (cond_at (S.sets space.old) self.now))) }
     {
         let scope = space.and(self.scope(), within)?;
+        if scope == self.scope() {
+            let same = self.copied()?;
+            return Ok(same);
+        }
+        if space.is_never(scope) {
+            return Ok(self.nothing(scope));
+        }
         let leaves = restrict_leaves(self.allocator(), space, self.leaves(), within)?;
         Ok(Cond::of(scope, leaves))
     }

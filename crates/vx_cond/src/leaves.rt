@@ -1,8 +1,9 @@
 //! Leaves: ascending values with the conditions under which they hold. Each call is a loop of `add`.
 
-ghost use Rattle.std.specs.Prelude.{◌≡◌, ◌<◌, ◌≤◌, IsTrue, length, OnOk, IfOk, ◌++◌, map};
+ghost use Rattle.std.specs.Prelude.{◌≡◌, ◌<◌, ◌≤◌, ◌+◌, ◌-◌, if◌then◌else◌, IsTrue, length, OnOk, IfOk, ◌++◌, map};
 ghost use Rattle.vx_space.specs.Sets.{IsKnown, Extends};
-ghost use Rattle.vx_cond.specs.Leaves.{IsPlace, AreLeaves, IsApart, AreLeavesOf, value_at, value_under, value_within, first_of, AreLeavesApart, AreLifted, AreLifted2, IsLiftedUnder};
+ghost use Rattle.vx_cond.specs.Merges.{HasNext};
+ghost use Rattle.vx_cond.specs.Leaves.{IsPlace, AreAscending, AreLeaves, IsApart, AreLeavesOf, value_at, value_under, value_within, first_of, AreLeavesApart, AreLifted, AreLifted2, IsLiftedUnder};
 
 use crate::cond::Leaf;
 use std::alloc::{AllocError, Global};
@@ -10,20 +11,40 @@ use std::cmp::Ordering;
 use vx_space::{Config, Space, SpaceFault};
 use vx_value::Exact;
 
-/// Where a value stands among ascending leaves, and whether it is there.
+/// The part of a range of places that is left when what stands at one of them is less than what is looked for, or greater.
+fn narrowed(low: usize, high: usize, at: usize, is_less: bool) -> (usize, usize)
+    requires least { low ≤ at }
+    requires most { at < high }
+    ensures part { result ≡ (if is_less then (at + 1, high) else (low, at)) }
+    ensures ordered { result.0 ≤ result.1 }
+    ensures within { result.1 ≤ high }
+    ensures smaller { result.1 - result.0 < high - low }
+{
+    if is_less { (at + 1, high) } else { (low, at) }
+}
+
+/// Where a value stands among ascending leaves, and whether it is there. It is looked for by halves, and at the last leaf first, since
+/// values mostly come in ascending order.
 fn place<T: Exact, S: Space>(leaves: &[Leaf<T, S>], value: T) -> (usize, bool)
+    requires { AreAscending T.cmp leaves.now }
     ensures place { IsPlace T.cmp value leaves.now result.0 result.1 }
     ensures within { result.0 ≤ length leaves.now }
     ensures found { IsTrue result.1 → result.0 < length leaves.now }
 {
-    for (i, leaf) in leaves.iter().enumerate() {
-        match leaf.value.cmp(&value) {
-            Ordering::Less => {}
-            Ordering::Equal => return (i, true),
-            Ordering::Greater => return (i, false),
+    let mut low = 0;
+    let mut high = leaves.len();
+    let mut at = high.saturating_sub(1);
+    while low < high {
+        let order = leaves[at].value.cmp(&value);
+        if order.is_eq() {
+            return (at, true);
         }
+        let part = narrowed(low, high, at, order.is_lt());
+        low = part.0;
+        high = part.1;
+        at = low + (high - low) / 2;
     }
-    (leaves.len(), false)
+    (low, false)
 }
 
 /// Adds a value under a condition that is apart from the leaves: its leaf is widened, or a new one is put at its place.
@@ -76,23 +97,22 @@ pub(crate) fn restrict_leaves<T: Exact, S: Space>(
     Ok(made)
 }
 
-/// Adds leaves that are apart from those that are there.
+/// The same leaves.
 #[tactic(auto, using(crate::proofs::LeafLoops::leaf_loops))]
-pub(crate) fn add_all<T: Exact, S: Space>(
-    space: &mut S,
-    made: &mut Vec<Leaf<T, S>>,
+pub(crate) fn copy_leaves<T: Exact, S: Space>(
+    alloc: Global,
     leaves: &[Leaf<T, S>],
-) -> Result<(), SpaceFault>
-    requires made { AreLeaves T.cmp (S.sets space.old) made.old.items }
-    requires leaves { AreLeaves T.cmp (S.sets space.old) leaves.now }
-    requires apart { AreLeavesApart (S.sets space.old) made.old.items leaves.now }
-    ensures extends { Extends (S.sets space.old) (S.sets space.new) }
-    ensures added { OnOk result (AreLeavesOf T.cmp (S.sets space.new) (first_of (value_at (S.sets space.old) made.old.items) (value_at (S.sets space.old) leaves.now)) made.new.items) }
+) -> Result<Vec<Leaf<T, S>>, AllocError>
+    ensures { IfOk result (λ r. r.items ≡ leaves.now) }
 {
+    let mut made = Vec::with_capacity(alloc, leaves.len())?;
     for leaf in leaves {
-        add(space, made, leaf.value, leaf.condition)?;
+        made.push(Leaf {
+            value: leaf.value,
+            condition: leaf.condition,
+        })?;
     }
-    Ok(())
+    Ok(made)
 }
 
 /// The leaves of a function's values.
@@ -164,8 +184,39 @@ pub(crate) fn zip_leaves<T: Exact, U: Exact, V: Exact, S: Space, F: Fn(T, U) -> 
     Ok(made)
 }
 
-/// The leaves of both, which are apart.
-#[tactic(auto, using(crate::proofs::LeafLoops::leaf_joins))]
+/// Which of two lists has the next leaf.
+pub(crate) enum Side {
+    First,
+    Second,
+    Neither,
+}
+
+/// The one of two ascending lists, from two places on, whose next leaf has the lesser value.
+fn next_side<T: Exact, S: Space>(
+    leaves: &[Leaf<T, S>],
+    i: usize,
+    others: &[Leaf<T, S>],
+    j: usize,
+) -> Side
+    ensures { HasNext i (length leaves.now) j (length others.now) result }
+{
+    if i >= leaves.len() {
+        if j >= others.len() {
+            return Side::Neither;
+        }
+        return Side::Second;
+    }
+    if j >= others.len() {
+        return Side::First;
+    }
+    if others[j].value < leaves[i].value {
+        return Side::Second;
+    }
+    Side::First
+}
+
+/// The leaves of both, which are apart, by merging the two.
+#[tactic(auto, using(crate::proofs::LeafLoops::leaf_merges))]
 pub(crate) fn join_leaves<T: Exact, S: Space>(
     alloc: Global,
     space: &mut S,
@@ -179,9 +230,21 @@ pub(crate) fn join_leaves<T: Exact, S: Space>(
     ensures ok { IfOk result (λ r. AreLeavesOf T.cmp (S.sets space.new) (first_of (value_at (S.sets space.old) leaves.now) (value_at (S.sets space.old) others.now)) r.items) }
 {
     let mut made = Vec::new(alloc);
-    add_all(space, &mut made, leaves)?;
-    add_all(space, &mut made, others)?;
-    Ok(made)
+    let mut i = 0;
+    let mut j = 0;
+    'merging: loop {
+        match next_side(leaves, i, others, j) {
+            Side::First => {
+                add(space, &mut made, leaves[i].value, leaves[i].condition)?;
+                i += 1;
+            }
+            Side::Second => {
+                add(space, &mut made, others[j].value, others[j].condition)?;
+                j += 1;
+            }
+            Side::Neither => return Ok(made),
+        }
+    }
 }
 
 /// The value of the leaf that holds a configuration.

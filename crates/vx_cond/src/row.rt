@@ -195,7 +195,7 @@ fn restrict_conds<T: Exact, S: Space>(
     ensures conds { IfOk result (λ r. AreConds T.cmp (S.sets space.new) inner r.items) }
     ensures values { IfOk result (λ r. (c : List Bool) → conds_at (S.sets space.new) r.items c ≡ values_within (S.sets space.old) within (conds_at (S.sets space.old) conds.now) c) }
 {
-    let mut made = Vec::new(alloc);
+    let mut made = Vec::with_capacity(alloc, conds.len())?;
     for cond in conds {
         let part = cond.restrict(space, within)?;
         made.push(part)?;
@@ -223,7 +223,7 @@ fn join_conds<T: Exact, S: Space>(
     ensures conds { IfOk result (λ r. AreConds T.cmp (S.sets space.new) outer r.items) }
     ensures values { IfOk result (λ r. (c : List Bool) → conds_at (S.sets space.new) r.items c ≡ firsts_of (conds_at (S.sets space.old) conds.now) (conds_at (S.sets space.old) others.now) c) }
 {
-    let mut made = Vec::new(alloc);
+    let mut made = Vec::with_capacity(alloc, conds.len())?;
     for i in 0..conds.len() {
         let part = conds[i].join(space, &others[i])?;
         made.push(part)?;

@@ -1,6 +1,6 @@
 -- The ends and pieces of a report by their numbers.
-use Rattle.std.proofs.Common.{◌≡◌, ◌⊎◌, inl, inr, ℕ, ◌+◌, ◌<◌, ◌≤◌, zero, suc, Bool, true, false, List, [], ◌∷◌, length, map, take, get_or, refl, sym, ◌∙◌, ap, subst, arith}
-use Rattle.std.specs.Prelude.{Some, None, cond, ◌&&◌, ◌||◌, not, nat_eq, option_map, slice_get, unwrap_or}
+use Rattle.std.proofs.Common.{◌≡◌, inl, inr, ℕ, ◌+◌, ◌<◌, ◌≤◌, zero, suc, Bool, true, false, List, [], ◌∷◌, length, map, take, get_or, refl, sym, ◌∙◌, ap, arith}
+use Rattle.std.specs.Prelude.{cond, ◌&&◌, ◌||◌, not, nat_eq, option_map, unwrap_or}
 use Rattle.std.specs.List.{AllByRecursion, count_by, list_any}
 use Rattle.std.proofs.lemmas.Bool.Decides.{nat_tests}
 use Rattle.std.proofs.lemmas.List.{length-map}
@@ -9,35 +9,11 @@ use Rattle.std.proofs.lemmas.List.Sums.{sum_by-cons}
 use Rattle.std.proofs.lemmas.Option.{slice_get-get_or, slice_get-map}
 use Rattle.vx_list.specs.Places.{item_or}
 use Rattle.vx_bdd_tools.specs.declared.node.Node.{Node}
-use Rattle.vx_bdd_tools.specs.Listing.{AreSetsOf}
-use Rattle.vx_bdd_tools.specs.Nodes.{holds, node_of}
-use Rattle.vx_bdd_tools.proofs.NodeLists.{node_cases, node_within, walk-end}
+use Rattle.vx_bdd_tools.specs.Nodes.{holds}
 use Rattle.vx_bdd_tools.proofs.NodeSets.{order_cases}
-use Rattle.vx_space.specs.Sets.{Sets, Extends, IsLawful, IsSet}
-use Rattle.vx_space.proofs.Spaces.{IsSet-extends}
 use Rattle.vx_report.specs.declared.report.Report.{Report}
 use Rattle.vx_cover.proofs.Opening.{counted}
 use Rattle.vx_cover.specs.Covers.{end_nodes, has_end, has_this_end, has_this_piece, piece_nodes, some_hold}
-
--- a later space keeps the sets of nodes
-pub sets-extends : {I : Type 0} {old new : Sets I} → Extends old new → (nodes : List Node) (ids : List I) → AreSetsOf old nodes ids → AreSetsOf new nodes ids
-sets-extends x nodes ids h = record { number = h.number; each = λ k id e. IsSet-extends x id (holds nodes k) (h.each k id e) }
-
--- a number past the sets holds nothing
-pub set_past : {I : Type 0} {s : Sets I} → IsLawful s → (nodes : List Node) (sets : List I) (k : ℕ) → length sets ≤ k → AreSetsOf s nodes sets → IsSet s s.never (holds nodes k)
-set_past {s = s} lawful nodes sets k e h = record {
-  known = lawful.never_known;
-  test = λ c. lawful.never_test c ∙ sym (ap (λ w. nat_eq w 1) (walk-end nodes k k c none) ∙ not_one k (omega (arith, e, h.number)));
-}
-  where
-    none : node_of nodes k ≡ None
-    none = elim (node_cases (node_of nodes k)) [
-      | inl n ↦ n
-      | inr p ↦ absurd (omega (arith, (node_within nodes k p.0 p.1).1, e, h.number))
-    ]
-
-    not_one : (n : ℕ) → 2 ≤ n → nat_eq n 1 ≡ false
-    not_one n l = grind (arith, nat_tests)
 
 pub and_left : (a b : Bool) → (a && b) ≡ true → a ≡ true
 and_left true b t = refl

@@ -1,11 +1,11 @@
 -- The targets of the first numbers, one number more.
-use Rattle.std.proofs.Common.{◌≡◌, ◌≢◌, ◌⊎◌, inl, inr, ℕ, ◌+◌, ◌<◌, ◌≤◌, zero, suc, Bool, true, false, List, [], ◌∷◌, ◌++◌, length, refl, sym, ◌∙◌, ap, subst, arith}
+use Rattle.std.proofs.Common.{◌≡◌, ◌≢◌, ◌⊎◌, inl, inr, ℕ, ◌≤◌, suc, Bool, true, false, List, [], refl, sym, ◌∙◌, ap, subst, arith}
 use Rattle.std.specs.Prelude.{nat_eq}
 use Rattle.std.proofs.lemmas.Bool.Decides.{nat_tests}
 use Rattle.vx_space.specs.Sets.{Sets, IsLawful, IsSet, Extends}
 use Rattle.vx_bdd_tools.proofs.NodeSets.{order_cases}
 use Rattle.vx_cover.specs.declared.target.Target.{Target}
-use Rattle.vx_cover.specs.Targets.{AreFirst, AreOpen, AreRight, IsPushed, times_open}
+use Rattle.vx_cover.specs.Targets.{AreFirst, IsPushed}
 use Rattle.vx_cover.proofs.Opening.{AreOpen-extends, AreOpen-push, AreRight-extends, AreRight-push, counted, times_open-push}
 
 pub AreFirst-none : {I : Type 0} (s : Sets I) (has : ℕ → List Bool → Bool) → ((c : List Bool) → has 0 c ≡ false) → AreFirst s has 0 []

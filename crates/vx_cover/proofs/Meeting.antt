@@ -1,5 +1,5 @@
 -- Parts of a set, and the line that a configuration of one makes.
-use Rattle.std.proofs.Common.{◌≡◌, ◌≢◌, ℕ, Bool, true, false, List, [], ◌∷◌, ◌++◌, length, refl, sym, ◌∙◌, ap, subst}
+use Rattle.std.proofs.Common.{◌≡◌, ◌≢◌, Bool, true, List, [], ◌∷◌, ◌++◌, length, sym, ◌∙◌, ap}
 use Rattle.std.specs.Prelude.{◌&&◌}
 use Rattle.vx_space.specs.Sets.{Sets, IsSet, Extends}
 use Rattle.vx_bdd_tools.specs.Members.{IsMember}

@@ -1,7 +1,7 @@
 -- Targets that are still open: what a later space keeps of them, and how a configuration divides them.
 use Rattle.std.proofs.Common.{◌≡◌, ◌≢◌, ℕ, ◌+◌, ◌<◌, ◌≤◌, zero, suc, Bool, true, false, List, [], ◌∷◌, ◌++◌, length, get_or, refl, sym, ◌∙◌, ap, subst, arith}
-use Rattle.std.specs.Prelude.{Option, Some, None, cond, nat_eq, if◌then◌else◌}
-use Rattle.std.specs.List.{AllByRecursion, count_by, flat_map}
+use Rattle.std.specs.Prelude.{Some, None, cond, nat_eq}
+use Rattle.std.specs.List.{AllByRecursion, count_by}
 use Rattle.std.proofs.lemmas.List.Sums.{sum_by-cons, sum_by_push}
 use Rattle.vx_space.specs.Sets.{Sets, Extends}
 use Rattle.vx_cover.specs.declared.target.Target.{Target}

@@ -8,6 +8,6 @@ pub mod text;
 pub mod tries;
 
 pub use covering::cover;
-pub use scope::{ended, set_of};
+pub use scope::ended;
 pub use text::{cover_text, put_configuration};
 pub use tries::Try;

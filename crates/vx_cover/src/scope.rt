@@ -1,23 +1,13 @@
-//! The set of a node of a report, and the configurations at which the report has an end.
+//! The configurations at which a report has an end.
 
 ghost use Rattle.std.specs.Prelude.{IfOk};
 ghost use Rattle.vx_space.specs.Sets.{Extends, IsSet};
 ghost use Rattle.vx_bdd_tools.specs.Listing.{AreSetsOf};
-ghost use Rattle.vx_bdd_tools.specs.Nodes.{holds};
 ghost use Rattle.vx_cover.specs.Covers.{has_end};
 
+use vx_bdd_tools::set_of;
 use vx_report::Report;
 use vx_space::{Space, SpaceFault};
-
-/// The set of a number among the sets of a report's nodes; a number past them holds nothing.
-pub fn set_of<S: Space>(space: &S, sets: &[S::Id], node: u64) -> S::Id
-    ensures { (nodes : _) → AreSetsOf (S.sets space.now) nodes sets.now → IsSet (S.sets space.now) result (holds nodes node) }
-{
-    match sets.get(node as usize) {
-        Some(set) => *set,
-        None => space.never(),
-    }
-}
 
 /// The configurations at which a report has an end, from the sets of its nodes: those that its model allows, where it is the
 /// report of a run.

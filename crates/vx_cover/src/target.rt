@@ -1,13 +1,13 @@
 //! What is to be covered: the pieces and ends of a report that some configuration has.
 
-ghost use Rattle.std.specs.Prelude.{◌≡◌, [], IfOk, OnOk, length};
+ghost use Rattle.std.specs.Prelude.{◌≡◌, [], OnOk, length};
 ghost use Rattle.vx_space.specs.Sets.{Extends, IsKnown, IsSet};
 ghost use Rattle.vx_bdd_tools.specs.Listing.{AreSetsOf};
 ghost use Rattle.vx_cover.specs.Covers.{has_end, has_this_end, has_this_piece};
 ghost use Rattle.vx_cover.specs.Targets.{AreFirst, IsPushed};
 
-use crate::scope::set_of;
 use std::alloc::AllocError;
+use vx_bdd_tools::set_of;
 use vx_report::Report;
 use vx_space::{Space, SpaceFault};
 

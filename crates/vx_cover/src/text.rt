@@ -6,8 +6,7 @@ ghost use Rattle.vx_cover.specs.Text.{configuration_text, cover_text, joined, na
 
 use crate::tries::Try;
 use std::alloc::{AllocError, Global};
-use vx_picture::text::name_of;
-use vx_report::Report;
+use vx_report::{Report, name_of};
 use vx_space::Config;
 use vx_value::Name;
 use vx_words::put_number;

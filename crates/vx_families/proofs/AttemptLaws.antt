@@ -18,7 +18,7 @@ use Rattle.vx_group_states.specs.Stands.{StandsIn, state_at}
 use Rattle.vx_group_states.specs.declared.site.Site.{Site}
 use Rattle.vx_group_states.proofs.OutcomeStates.{CameTo-through}
 use Rattle.vx_group_states.proofs.StateLaws.{Continues-same, StandsIn-extends, state_at-extends}
-use Rattle.vx_families.specs.Attempts.{AttemptsBy, IsAttemptBy, IsGiven}
+use Rattle.vx_families.specs.Attempts.{AttemptsBy, AttemptsIn, IsAttemptBy, IsGiven}
 use Rattle.vx_families.specs.Texts.{HasMoreTexts}
 use Rattle.vx_families.proofs.MoreTexts.{Grows-texts, HasMoreTexts-refl, IsHeap-texts, IsHeapFor-texts, StandsIn-texts, globals_at-texts, state_at-texts}
 
@@ -56,6 +56,10 @@ AttemptsBy-gives site operation says {old = old} heap group outcomes e given giv
 -- of a call that extends nothing and needs no space, as `illegal` and `raise`, after others that extended it
 pub AttemptsBy-ended : {S I : Type 0} (site : Site) (operation : Operation) (says : State → PlainOutcome) {old new : Sets I} (heap : HeapView S I) (group : GroupView S I) (there : State → PlainOutcome) (outcomes : List (Outcome S I)) → Extends old new → IsGiven site operation old heap group → ((tree : List (Option (Caller S I))) → StandsIn site.program.now old heap tree group → (c : List Bool) → old.test (path_of group) c ≡ true → there (state_at old heap tree group c) ≡ says (state_at old heap tree group c)) → Gives site.program.now there new new group outcomes → AttemptsBy site says old new heap heap group outcomes
 AttemptsBy-ended site operation says {new = new} heap group there outcomes e given law gives = AttemptsBy-as site operation says heap group (λ _ _. there) outcomes e (Extends-refl new) given law (gives heap)
+
+-- over one tree
+pub AttemptsIn-by : {S I : Type 0} (site : Site) (says : State → PlainOutcome) (old new : Sets I) (before after : HeapView S I) (tree : List (Option (Caller S I))) (group : GroupView S I) (outcomes : List (Outcome S I)) → StandsIn site.program.now old before tree group → AttemptsBy site says old new before after group outcomes → AttemptsIn site says old new before after tree tree group outcomes
+AttemptsIn-by site says old new before after tree group outcomes s h = record { is_for = h.is_for; attempts = h.attempts tree s }
 
 -- ---- the row of an operation
 

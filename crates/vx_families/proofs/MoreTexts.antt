@@ -138,7 +138,7 @@ globals_at-texts {S = S} {I = I} sets before after m v c =
 pub IsHeapFor-texts : {S I : Type 0} (p : Program) (before after : HeapView S I) → HasMoreTexts before after → IsHeapFor p before → IsHeapFor p after
 IsHeapFor-texts {S = S} {I = I} p before after m v =
     let P : HeapView S I → Type 0 = λ heap. IsHeapFor p heap in
-    subst P (sym m.same) (record { static_count = v.static_count; init_count = v.init_count; literals = v.literals; words = v.words; enough = v.enough; first = v.first })
+    subst P (sym m.same) (record { static_count = v.static_count; init_count = v.init_count; literals = v.literals; resolved = v.resolved; words = v.words; enough = v.enough; first = v.first })
 
 item_there : {A : Type 0} (xs : List A) (n : ℕ) (x d : A) → n < length xs → item_or xs n d ≡ x → slice_get xs n ≡ Some x
 item_there [] n x d h e = absurd (omega arith)

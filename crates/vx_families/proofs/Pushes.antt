@@ -16,7 +16,7 @@ use Rattle.vx_group_states.specs.Answering.{answer_at, answered, answered_by}
 use Rattle.vx_group_states.specs.Sites.{Gives, GivesAt, here}
 use Rattle.vx_group_states.specs.Stands.{state_at}
 use Rattle.vx_group_states.specs.declared.answer.Answer.{Answer}
-use Rattle.vx_group_states.specs.declared.answer.Answer.TheVariants.{Illegal, Jump, Push, Raise}
+use Rattle.vx_group_states.specs.declared.answer.Answer.TheVariants.{Illegal, Jump, Push, Raise, Pass, Give, Write, Exit, Throw}
 use Rattle.vx_group_states.specs.declared.site.Site.{Site}
 use Rattle.vx_group_states.proofs.EndingLaws.{GivesAt-before}
 use Rattle.vx_families.specs.Pushing.{is_push}
@@ -46,6 +46,11 @@ answer_full sets heap c h operands Illegal full t = refl
 answer_full sets heap c h operands (Raise class message) full t = cc
 answer_full sets heap c h operands (Push slot) full t = push_full h (value_of sets heap c slot) operands full
 answer_full sets heap c h operands (Jump position) full t = cc
+answer_full sets heap c h operands Pass full t = cc
+answer_full sets heap c h operands (Give slot) full t = cc
+answer_full sets heap c h operands (Write stream text) full t = cc
+answer_full sets heap c h operands (Exit code) full t = cc
+answer_full sets heap c h operands (Throw slot) full t = cc
 
 -- there are as many plain operands as conditional ones
 pub operand_count : {S I : Type 0} (sets : Sets I) (heap : HeapView S I) (group : GroupView S I) (c : List Bool) → length (map (value_of sets heap c) (frame_at sets group.top c).operands) ≡ length group.top.stack.conds

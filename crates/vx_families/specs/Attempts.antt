@@ -56,6 +56,15 @@ pub record AttemptsBy {S I : Type 0} (site : Site) (says : State → PlainOutcom
 abbrev pub IsAttemptBy : {S I : Type 0} → Site → Operation → Sets I → Sets I → HeapView S I → HeapView S I → GroupView S I → List (Outcome S I) → Type 0
 IsAttemptBy site operation old new before after group outcomes = AttemptsBy site (row_by site operation) old new before after group outcomes
 
+-- an attempt by some row over this tree, which may get more callers; the heap is still one of the program
+pub record AttemptsIn {S I : Type 0} (site : Site) (says : State → PlainOutcome) (old new : Sets I) (before after : HeapView S I) (tree later : List (Option (Caller S I))) (group : GroupView S I) (outcomes : List (Outcome S I)) : Type 0 where
+  pub is_for : IsHeapFor site.program.now after
+  pub attempts : Attempts site.program.now says old new before after tree later group outcomes
+
+-- an attempt by an operation that may push frames, or take them off
+abbrev pub IsAttemptIn : {S I : Type 0} → Site → Operation → Sets I → Sets I → HeapView S I → HeapView S I → (tree later : List (Option (Caller S I))) → GroupView S I → List (Outcome S I) → Type 0
+IsAttemptIn site operation old new before after tree later group outcomes = AttemptsIn site (row_by site operation) old new before after tree later group outcomes
+
 -- some run of the group comes to what isn't built
 abbrev pub MeetsUnbuilt : {S I : Type 0} → Site → Sets I → HeapView S I → GroupView S I → Type 0
 MeetsUnbuilt {S = S} {I = I} site sets heap group =

@@ -1,11 +1,11 @@
--- Names and descriptors of a bounded program are short.
-use Rattle.std.proofs.Common.{◌≡◌, ℕ, ◌<◌, ◌^◌, zero, suc, Bool, true, List, [], ◌∷◌, refl, ap, arith, length}
+-- The descriptors of a bounded program are short.
+use Rattle.std.proofs.Common.{◌≡◌, ℕ, ◌<◌, ◌^◌, zero, suc, Bool, true, List, [], ◌∷◌, refl, arith, length}
 use Rattle.std.proofs.lemmas.Bool.Decides.{nat_tests}
 use Rattle.std.specs.Prelude.{Option, Some, None, nat_lt, option_and_then, slice_get, unwrap_or}
 use Rattle.std.specs.List.{list_all}
-use Rattle.vx_code.specs.Lookups.{class, entry_of, member_descriptor, name_and_type, text, utf8}
+use Rattle.vx_code.specs.Lookups.{entry_of, member_descriptor, name_and_type, text, utf8}
 use Rattle.vx_families.specs.Bounds.{IsBounded, has_short_texts, is_short_entry}
-use Rattle.vx_link.specs.Names.{class_name, member, member_named}
+use Rattle.vx_link.specs.Names.{member, member_named}
 use Rattle.vx_link.specs.Parts.{class_at, no_class}
 use Rattle.vx_link.specs.declared.program.LinkedClass.{LinkedClass}
 use Rattle.vx_link.specs.declared.program.Program.{Program}
@@ -39,13 +39,6 @@ module _ (pool : Pool) (h : list_all is_short_entry pool.entries ≡ true) where
   text_short : (i : ℕ) → IsShort (unwrap_or (text pool i) [])
   text_short i = utf8_short (entry_of pool i) (passes_if pool.entries i h)
 
-  class_short : (i : ℕ) → IsShort (class_name pool i)
-  class_short i = by_class (class (entry_of pool i))
-    where
-      by_class : (o : Option ℕ) → IsShort (unwrap_or (option_and_then (text pool) o) [])
-      by_class None = omega arith
-      by_class (Some j) = text_short j
-
   descriptor_short : (i : ℕ) → IsShort (unwrap_or (member_descriptor pool i) [])
   descriptor_short i = by_type (name_and_type (entry_of pool i))
     where
@@ -53,33 +46,20 @@ module _ (pool : Pool) (h : list_all is_short_entry pool.entries ≡ true) where
       by_type None = omega arith
       by_type (Some p) = text_short p.1
 
-  named_short : (o : Option Entry) → IsShort (member_named pool o).class × IsShort (member_named pool o).descriptor
-  named_short (Some (entry.Field c t)) = (class_short c, descriptor_short t)
-  named_short (Some (entry.Method c t)) = (class_short c, descriptor_short t)
-  named_short (Some (entry.InterfaceMethod c t)) = (class_short c, descriptor_short t)
-  named_short (Some _) = (class_short 0, descriptor_short 0)
-  named_short None = (class_short 0, descriptor_short 0)
+  named_short : (o : Option Entry) → IsShort (member_named pool o).descriptor
+  named_short (Some (entry.Field c t)) = descriptor_short t
+  named_short (Some (entry.Method c t)) = descriptor_short t
+  named_short (Some (entry.InterfaceMethod c t)) = descriptor_short t
+  named_short (Some _) = descriptor_short 0
+  named_short None = descriptor_short 0
 
 class_pool : (classes : List LinkedClass) (c : ℕ) → list_all has_short_texts classes ≡ true → has_short_texts (item_or classes c no_class) ≡ true
 class_pool [] c h = refl
 class_pool (x ∷ xs) zero h = both_first (has_short_texts x) (list_all has_short_texts xs) h
 class_pool (x ∷ xs) (suc c) h = class_pool xs c (both_second (has_short_texts x) (list_all has_short_texts xs) h)
 
-pub class_of_member : (p : Program) (c i : ℕ) → IsBounded p → length (member (class_at p c).pool i).class < 2 ^ 32
-class_of_member p c i b =
-    let pool = (class_at p c).pool in
-    let short : length (member pool i).class < 65536 = (named_short pool (class_pool p.classes c b.texts) (entry_of pool i)).0 in
-    omega (arith, short)
-
 pub descriptor_of_member : (p : Program) (c i : ℕ) → IsBounded p → length (member (class_at p c).pool i).descriptor < 2 ^ 32
 descriptor_of_member p c i b =
     let pool = (class_at p c).pool in
-    let short : length (member pool i).descriptor < 65536 = (named_short pool (class_pool p.classes c b.texts) (entry_of pool i)).1 in
+    let short : length (member pool i).descriptor < 65536 = named_short pool (class_pool p.classes c b.texts) (entry_of pool i) in
     omega (arith, short)
-
--- a class by its place
-pub class_there : (p : Program) (c : ℕ) (x : LinkedClass) → Some x ≡ slice_get p.classes c → x ≡ class_at p c
-class_there p c x e = ap (λ o. unwrap_or o no_class) e
-
-pub class_missing : (p : Program) (c : ℕ) → None ≡ slice_get p.classes c → no_class ≡ class_at p c
-class_missing p c e = ap (λ (o : Option LinkedClass). unwrap_or o no_class) e

@@ -3,7 +3,7 @@
 ghost use Rattle.std.specs.Prelude.{◌≡◌, ◌+◌, ◌<◌, ◌∷◌, ◌^◌, ℕ, Bool, IfOk, List, OnOk, drop, if◌then◌else◌, is_some, length, true};
 ghost use Rattle.vx_cond.specs.Cond.{IsInside};
 ghost use Rattle.vx_group.specs.Group.{IsGroup, path_of};
-ghost use Rattle.vx_heap.specs.Heap.{HeapView, IsHeap, are_held, value_of};
+ghost use Rattle.vx_heap.specs.Heap.{HeapView, IsHeap, IsHeapFor, are_held, value_of};
 ghost use Rattle.vx_java.specs.Ids.{HasClassNumbers};
 ghost use Rattle.vx_java.specs.Checks.{sort_of};
 ghost use Rattle.vx_java.specs.Fields.{put_value};
@@ -284,12 +284,19 @@ fn put_fitting<S: Space>(
 }
 
 /// The static field that an entry of the pool of a class names.
-fn static_field(program: &Program, class: ClassId, index: u16) -> FieldReference
-    requires { IsBounded program.now }
+fn static_field<S: Space>(
+    program: &Program,
+    heap: &Heap<S>,
+    class: ClassId,
+    index: u16,
+) -> FieldReference
+    requires bounded { IsBounded program.now }
+    requires for_program { IsHeapFor program.now heap.now }
     ensures { IsFieldReference program.now (class_at program.now class.0).pool index true result }
 {
+    let owner = heap.owner(program, class, index);
     match program.class(class) {
-        Some(class) => field_reference(program, &class.pool, index, true),
+        Some(class) => field_reference(program, &class.pool, index, owner, true),
         None => FieldReference::NoType,
     }
 }
@@ -323,7 +330,7 @@ fn get_static<S: Space>(
     ensures ok { IfOk result (λ r. IsAttemptBy site.now (Operation.GetStatic index) (S.sets space.old) (S.sets space.new) heap.old heap.new group r.items.items) }
 {
     let class = class_of_method(site.program, group.top_frame().method);
-    match static_field(site.program, class, index) {
+    match static_field(site.program, heap, class, index) {
         FieldReference::Found {
             field,
             field_type,
@@ -354,7 +361,7 @@ fn put_static<S: Space>(
     ensures ok { IfOk result (λ r. IsAttemptBy site.now (Operation.PutStatic index) (S.sets space.old) (S.sets space.new) heap.old heap.new group r.items.items) }
 {
     let class = class_of_method(site.program, group.top_frame().method);
-    match static_field(site.program, class, index) {
+    match static_field(site.program, heap, class, index) {
         FieldReference::Found {
             field,
             field_type,

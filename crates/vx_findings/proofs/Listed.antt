@@ -1,11 +1,11 @@
 -- Lists of shared values as lists of leaves.
-use Rattle.std.proofs.Common.{◌≡◌, ℕ, Bool, false, List, [], ◌∷◌, refl, sym, ◌∙◌, ap, subst, zero, suc, ◌<◌, ◌≤◌, ◌+◌, length, get_or, set, if◌then◌else◌}
+use Rattle.std.proofs.Common.{◌≡◌, ℕ, Bool, false, List, [], ◌∷◌, refl, sym, ◌∙◌, ap, arith, subst, drop, zero, suc, ◌<◌, ◌≤◌, ◌+◌, length, get_or, set, if◌then◌else◌, add-zero, add-one, drop-cons}
 use Rattle.std.specs.Prelude.{insert}
-use Rattle.std.proofs.lemmas.List.{get_or-map, map-set}
+use Rattle.std.proofs.lemmas.List.{drop_all, get_or-map, map-set}
 use Rattle.std.specs.declared.cmp.Ordering.{Ordering}
 use Rattle.std.specs.declared.cmp.Ordering.TheVariants.{Less, Equal, Greater}
 use Rattle.vx_cond.specs.Leaves.{IsPlace}
-use Rattle.vx_cond.proofs.LeafLaws.{PlacesFrom, places_here, places_next, places_end}
+use Rattle.vx_cond.specs.declared.cond.Leaf.{Leaf}
 use Rattle.vx_findings.specs.Shared.{leaf_of, leaves_of}
 use Rattle.vx_findings.specs.declared.shared.Shared.{Shared}
 
@@ -25,6 +25,31 @@ leaves_insert [] zero x = refl
 leaves_insert [] (suc i) x = refl
 leaves_insert (y ∷ ys) zero x = refl
 leaves_insert (y ∷ ys) (suc i) x = ap (λ zs. leaf_of y ∷ zs) (leaves_insert ys i x)
+
+-- a place among the leaves from i on is a place among all
+abbrev pub PlacesFrom : {T S I : Type 0} → (T → T → Ordering) → T → List (Leaf T S I) → ℕ → Type 0
+PlacesFrom cmp value xs i = (j : ℕ) (found : Bool) → IsPlace cmp value (drop i xs) j found → IsPlace cmp value xs (i + j) found
+
+places_here : {T S I : Type 0} (cmp : T → T → Ordering) (value : T) (xs : List (Leaf T S I)) (i : ℕ) (x : Leaf T S I) (found : Bool) → PlacesFrom cmp value xs i → i < length xs → x ≡ get_or xs i x → cmp x.value value ≡ (if found then Equal else Greater) → IsPlace cmp value xs i found
+places_here {T = T} {S = S} {I = I} cmp value xs i x found f l e p =
+    let P : List (Leaf T S I) → Type 0 = λ ys. IsPlace cmp value ys zero found in
+    let Q : ℕ → Type 0 = λ k. IsPlace cmp value xs k found in
+    subst Q (add-zero i) (f zero found (subst P (sym (drop-cons xs i x l)) (ap (λ w. cmp w.value value) (sym e) ∙ p)))
+
+places_next : {T S I : Type 0} (cmp : T → T → Ordering) (value : T) (xs : List (Leaf T S I)) (i : ℕ) (x : Leaf T S I) → PlacesFrom cmp value xs i → i < length xs → x ≡ get_or xs i x → cmp x.value value ≡ Less → PlacesFrom cmp value xs (i + 1)
+places_next {T = T} {S = S} {I = I} cmp value xs i x f l e p j found h =
+    let P : List (Leaf T S I) → Type 0 = λ ys. IsPlace cmp value ys (suc j) found in
+    let Q : ℕ → Type 0 = λ k. IsPlace cmp value xs k found in
+    let R : ℕ → Type 0 = λ k. IsPlace cmp value (drop k xs) j found in
+    let same : i + suc j ≡ i + 1 + j = omega arith in
+    subst Q same (f (suc j) found (subst P (sym (drop-cons xs i x l)) (ap (λ w. cmp w.value value) (sym e) ∙ p, subst R (add-one i) h)))
+
+places_end : {T S I : Type 0} (cmp : T → T → Ordering) (value : T) (xs : List (Leaf T S I)) (i : ℕ) → PlacesFrom cmp value xs i → i ≤ length xs → length xs ≤ i → IsPlace cmp value xs (length xs) false
+places_end {T = T} {S = S} {I = I} cmp value xs i f u l =
+    let P : List (Leaf T S I) → Type 0 = λ ys. IsPlace cmp value ys zero false in
+    let Q : ℕ → Type 0 = λ k. IsPlace cmp value xs k false in
+    let same : i + 0 ≡ length xs = omega (arith, u, l) in
+    subst Q same (f zero false (subst P (sym (drop_all i xs l)) refl))
 
 -- the walk to the place of a value
 pub stands_here : {V S I : Type 0} (cmp : V → V → Ordering) (value : V) (list : List (Shared V S I)) (i : ℕ) (x : Shared V S I) (found : Bool) → PlacesFrom cmp value (leaves_of list) i → i < length list → x ≡ get_or list i x → cmp x.value value ≡ (if found then Equal else Greater) → IsPlace cmp value (leaves_of list) i found

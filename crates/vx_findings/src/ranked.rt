@@ -7,8 +7,7 @@ ghost use Rattle.std.specs.declared.cmp.Ordering.{Ordering};
 ghost use Rattle.std.specs.declared.cmp.Ordering.TheVariants.{Equal};
 ghost use Rattle.std.proofs.lemmas.Map.Lookups.{exact_unsigned};
 ghost use Rattle.vx_value.specs.Ends.{compare_ends};
-ghost use Rattle.vx_java.proofs.Orders.{end_equal};
-ghost use Rattle.vx_findings.specs.Orders.{end_total};
+ghost use Rattle.vx_end_order.proofs.EndOrder.{end_equal, end_total};
 
 use std::cmp::Ordering;
 use vx_value::End;

@@ -293,6 +293,26 @@ split_inside {s0 = s0} e g group part within v k p =
       at = λ c t. top_at-extends g part p.is_group c ∙ p.at c (sym (g.test (path_of part) c p.path.known) ∙ t) ∙ top_at-extends e group v c;
     }
 
+-- where nothing is outside, the group is its own part
+pub split_whole : {S I : Type 0} {s0 s1 s2 : Sets I} → Extends s0 s1 → Extends s1 s2 → (group : GroupView S I) (within rest : I) → IsGroup s0 group → IsSet s1 rest (λ c. s0.test (path_of group) c && not (s0.test within c)) → ((c : List Bool) → s1.test rest c ≡ false) → IsPartOf s0 s2 (λ c. s0.test (path_of group) c && s0.test within c) group group
+unfolding IsPartOf
+split_whole {s0 = s0} e f group within rest v u never =
+    let known = IsGroup-path_known s0 group v in
+    let to2 = Extends-trans e f in
+    record {
+      is_group = IsGroup-extends to2 group v;
+      path = record { known = to2.known (path_of group) known; test = λ c. to2.test (path_of group) c known ∙ covered (s0.test (path_of group) c) (s0.test within c) (sym (u.test c) ∙ never c) };
+      below = refl;
+      caller = refl;
+      shape = refl;
+      at = λ c t. top_at-extends to2 group v c;
+    }
+  where
+    covered : (a b : Bool) → (a && not b) ≡ false → a ≡ (a && b)
+    covered true true h = refl
+    covered true false h = cc
+    covered false b h = refl
+
 pub split_outside : {S I : Type 0} {s0 s1 s2 s3 : Sets I} → Extends s0 s1 → Extends s1 s2 → Extends s2 s3 → (group part : GroupView S I) (within rest : I) → IsGroup s0 group → IsSet s1 rest (λ c. s0.test (path_of group) c && not (s0.test within c)) → IsPartOf s2 s3 (λ c. s2.test (path_of group) c && s2.test rest c) group part → IsPartOf s0 s3 (λ c. s0.test (path_of group) c && not (s0.test within c)) group part
 unfolding IsPartOf
 split_outside {s0 = s0} e f g group part within rest v u p =

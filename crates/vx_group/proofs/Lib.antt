@@ -3,3 +3,4 @@ pub mod JoinLaws
 pub mod GroupLaws
 pub mod GroupJoins
 pub mod SweepLaws
+pub mod SameKeys

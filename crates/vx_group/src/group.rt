@@ -1,13 +1,13 @@
 //! Groups: a path of configurations at one key, with their attempts and their frames.
 
-ghost use Rattle.std.specs.Prelude.{◌≡◌, ◌∷◌, [], ◌++◌, ◌&&◌, ◌||◌, ◌↔◌, ◌<◌, ◌^◌, ◌+◌, not, ℕ, suc, true, length, List, Bool, IfOk, IfSome, IsNone, None, Ok, OnOk, OnErr};
+ghost use Rattle.std.specs.Prelude.{◌≡◌, ◌∷◌, [], ◌++◌, ◌&&◌, ◌||◌, ◌↔◌, ◌<◌, ◌^◌, ◌+◌, IsTrue, not, ℕ, suc, true, length, List, Bool, IfOk, IfSome, IsNone, None, Ok, OnOk, OnErr};
 ghost use Rattle.vx_space.specs.Sets.{IsKnown, IsSet, Extends};
 ghost use Rattle.vx_cond.specs.Cond.{AreDisjoint};
 ghost use Rattle.vx_frame.specs.Frame.{IsFrame, scope_of, side_at};
 
 use crate::callers::{Caller, Callers};
 use crate::joins::{Reach, frame_inside, join_callers};
-use crate::parts::Parts;
+use crate::parts::{Parts, is_same_part};
 use std::alloc::{AllocError, Global};
 use std::marker::Model;
 use std::mem;
@@ -130,6 +130,16 @@ impl<S: Space> Group<S> {
         self.below.key(self.top.part())
     }
 
+    /// Whether its key is that of another group. It takes no memory.
+    pub fn has_key_of(&self, other: &Group<S>) -> bool
+        ensures { IsTrue result ↔ (key_of self.now ≡ key_of other.now) }
+    {
+        if !is_same_part(self.top.part(), other.top.part()) {
+            return false;
+        }
+        self.below.are(&other.below)
+    }
+
     /// Takes the frame on top off, by a move. The frames below stay.
     pub fn take_top(self) -> (Below<S>, Frame<S>)
         ensures { result ≡ (record { attempts = self.attempts; below = self.below; caller = self.caller }, self.top) }
@@ -240,7 +250,8 @@ impl<S: Space> Group<S> {
         })
     }
 
-    /// The parts of the group inside and outside a condition. No caller frame is copied.
+    /// The parts of the group inside and outside a condition. No caller frame is copied, and where the whole group is inside it, it
+    /// stays as it is.
     pub fn split(self, space: &mut S, within: S::Id) -> Result<(Group<S>, Group<S>), SpaceFault>
         requires group { IsGroup (S.sets space.old) self }
         requires known { IsKnown (S.sets space.old) within }
@@ -249,8 +260,11 @@ impl<S: Space> Group<S> {
         ensures outside { IfOk result (λ r. IsPartOf (S.sets space.old) (S.sets space.new) (λ c. (S.sets space.old).test (path_of self) c && not ((S.sets space.old).test within c)) self r.1) }
     {
         let rest = space.minus(self.path(), within)?;
-        let inner = self.inside(space, within)?;
         let outer = self.inside(space, rest)?;
+        if space.is_never(rest) {
+            return Ok((self, outer));
+        }
+        let inner = self.inside(space, within)?;
         Ok((inner, outer))
     }
 

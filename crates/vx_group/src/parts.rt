@@ -1,8 +1,12 @@
 //! The parts of a key below the top, as a stack.
 
-ghost use Rattle.std.specs.Prelude.{◌≡◌, [], ◌∷◌, length, reverse, IfOk, IfSome, IfNone, OnErr};
+ghost use Rattle.std.specs.Prelude.{◌≡◌, ◌↔◌, [], ◌∷◌, IsTrue, length, reverse, IfOk, IfSome, IfNone, OnErr};
+ghost use Rattle.std.specs.Cmp.Lexicographic.{slice_cmp};
+ghost use Rattle.std.specs.Ordering.{eq_by_cmp};
+ghost use Rattle.vx_value.specs.Key.{part_cmp};
 
 use std::alloc::{AllocError, Global};
+use std::cmp::Ordering;
 use std::marker::Model;
 use vx_value::{Key, KeyPart};
 
@@ -62,12 +66,35 @@ impl Parts {
         })
     }
 
+    /// Whether they are these parts.
+    pub(crate) fn are(&self, other: &Parts) -> bool
+        ensures { IsTrue result ↔ (self.now ≡ other.now) }
+    {
+        are_same_parts(self.parts.as_slice(), other.parts.as_slice())
+    }
+
     /// The key of these parts below the part of the frame on top.
     pub(crate) fn key(&self, top: KeyPart) -> Result<Key, AllocError>
         ensures { IfOk result (λ r. r ≡ reverse (top ∷ self.now)) }
     {
-        let mut parts = Vec::from_slice(*self.parts.allocator(), self.parts.as_slice())?;
+        let room = self.parts.len().saturating_add(1);
+        let mut parts = Vec::with_capacity(*self.parts.allocator(), room)?;
+        parts.extend_from_slice(self.parts.as_slice())?;
         parts.push(top)?;
         Ok(Key::from_vec(parts))
     }
+}
+
+/// Whether two parts are one part.
+pub(crate) fn is_same_part(first: KeyPart, second: KeyPart) -> bool
+    ensures { result ≡ eq_by_cmp part_cmp first second }
+{
+    first.cmp(&second) == Ordering::Equal
+}
+
+/// Whether these are the same parts in the same order.
+fn are_same_parts(first: &[KeyPart], second: &[KeyPart]) -> bool
+    ensures { result ≡ eq_by_cmp (slice_cmp part_cmp) first.now second.now }
+{
+    first.cmp(&second) == Ordering::Equal
 }

@@ -15,7 +15,7 @@ use Rattle.vx_cond.proofs.CondLaws.{cond_at-of}
 use Rattle.vx_cond.proofs.RowLaws.{scope_is}
 use Rattle.vx_cond.proofs.RowSteps.{IsRow-popped, slots_at-push}
 use Rattle.vx_cond.proofs.SideLaws.{cond_at-covers}
-use Rattle.vx_group_states.specs.Answering.{answer_at, operands_at, pushed_by}
+use Rattle.vx_group_states.specs.Answering.{answer_at, operands_at, slot_by}
 use Rattle.vx_group_states.specs.Answers.{answer_cmp}
 use Rattle.vx_group_states.specs.declared.answer.Answer.{Answer}
 use Rattle.vx_group_states.specs.declared.answer.Answer.TheVariants.{Illegal}
@@ -83,12 +83,12 @@ values_scope cmp {s0 = s0} {s1 = s1} lawful answers inside path e k v i w =
     covered true o f = f refl
     covered false o f = refl
 
-value_of_answer : (R : Answer → Slot → Type 0) (a : Option Answer) (s : Option Slot) → ((a : Answer) (s : Slot) → R a s → s ≡ pushed_by a) → is_some a ≡ true → IsLifted R a s → or_top s ≡ pushed_by (unwrap_or a Illegal)
+value_of_answer : (R : Answer → Slot → Type 0) (a : Option Answer) (s : Option Slot) → ((a : Answer) (s : Slot) → R a s → s ≡ slot_by a) → is_some a ≡ true → IsLifted R a s → or_top s ≡ slot_by (unwrap_or a Illegal)
 value_of_answer R None s law t l = cc
 value_of_answer R (Some a) None law t l = absurd l
 value_of_answer R (Some a) (Some s) law t l = law a s l
 
-pub values_at : {S I : Type 0} (s0 s1 s2 : Sets I) (R : Answer → Slot → Type 0) (answers inside : Conditional Answer S I) (values : Conditional Slot S I) (path : I) → ((a : Answer) (s : Slot) → R a s → s ≡ pushed_by a) → IsCond answer_cmp s0 answers → IsInside s0 path answers.scope → IsCondOf answer_cmp s1 (value_within s0 path (cond_at s0 answers)) inside → IsCondLifting slot_cmp s2 R (cond_at s1 inside) values → (c : List Bool) → s0.test path c ≡ true → slot_at s2 values c ≡ pushed_by (answer_at s0 answers c)
+pub values_at : {S I : Type 0} (s0 s1 s2 : Sets I) (R : Answer → Slot → Type 0) (answers inside : Conditional Answer S I) (values : Conditional Slot S I) (path : I) → ((a : Answer) (s : Slot) → R a s → s ≡ slot_by a) → IsCond answer_cmp s0 answers → IsInside s0 path answers.scope → IsCondOf answer_cmp s1 (value_within s0 path (cond_at s0 answers)) inside → IsCondLifting slot_cmp s2 R (cond_at s1 inside) values → (c : List Bool) → s0.test path c ≡ true → slot_at s2 values c ≡ slot_by (answer_at s0 answers c)
 unfolding IsCondLifting
 values_at s0 s1 s2 R answers inside values path law v i w l c t =
     let same : cond_at s1 inside c ≡ cond_at s0 answers c = cond_at-of answer_cmp s1 _ inside c w ∙ within (s0.test path c) (cond_at s0 answers c) t in

@@ -1,6 +1,6 @@
 -- A group that is divided by the kinds of answers.
 use Rattle.std.proofs.Common.{◌≡◌, ◌≢◌, ℕ, ◌<◌, zero, suc, Bool, true, false, List, [], ◌∷◌, refl, sym, ◌∙◌, ap, subst, arith, drop, get_or, length}
-use Rattle.std.specs.Prelude.{Option, Some, None, is_some, unwrap_or}
+use Rattle.std.specs.Prelude.{◌&&◌, Option, Some, None, is_some, unwrap_or}
 use Rattle.std.proofs.lemmas.Bool.Decides.{nat_tests}
 use Rattle.vx_space.specs.Sets.{Sets, Extends, IsLawful}
 use Rattle.vx_space.proofs.Differences.{some_difference}
@@ -14,17 +14,22 @@ use Rattle.vx_group.specs.Group.{GroupView, IsPartOf, path_of}
 use Rattle.vx_group.proofs.GroupLaws.{IsGroup-extends, IsGroup-path_known}
 use Rattle.vx_heap.specs.Heap.{HeapView, IsHeap, is_held, value_of}
 use Rattle.vx_heap.proofs.HeapLaws.{is_held-extends, value_of-extends}
-use Rattle.vx_java.specs.Machine.{State, push}
-use Rattle.vx_group_states.specs.Answering.{AreHeld, AreKinds, IsKindHeld, IsReady, answer_at, answered, answered_as, answered_by, is_answer_held, is_message, kind_of, pushed_by}
+use Rattle.vx_java.specs.Machine.{State, go, push}
+use Rattle.vx_java.specs.Machine.{Throw as ThrowOutcome}
+use Rattle.vx_value.specs.declared.end.Stream.{Stream}
+use Rattle.vx_value.specs.declared.slot.Slot.{Slot}
+use Rattle.vx_group_states.specs.Answering.{AreHeld, AreKinds, IsKindHeld, IsReady, answer_at, answered, answered_as, answered_by, is_answer_held, is_message, kind_of, slot_by}
 use Rattle.vx_group_states.specs.Answers.{answer_cmp}
 use Rattle.vx_group_states.specs.Sites.{here}
-use Rattle.vx_group_states.specs.Stands.{IsMessage}
+use Rattle.vx_group_states.specs.Stands.{IsMessage, is_object, object_named}
 use Rattle.vx_group_states.specs.declared.answer.Answer.{Answer}
-use Rattle.vx_group_states.specs.declared.answer.Answer.TheVariants.{Illegal, Raise, Push, Jump}
+use Rattle.vx_group_states.specs.declared.answer.Answer.TheVariants.{Illegal, Raise, Push, Jump, Pass, Give, Write, Exit, Throw}
 use Rattle.vx_group_states.specs.declared.site.Site.{Site}
 use Rattle.vx_group_states.proofs.EndingLaws.{HasPast-part}
 use Rattle.vx_group_states.proofs.Gathering.{AreLeaves-of, Cover-answers, leaf_value}
+use Rattle.vx_group_states.proofs.OutcomeStates.{object_named-extends}
 use Rattle.vx_group_states.proofs.SettleLaws.{lifting_at, lifting_cond}
+use Rattle.vx_group_states.proofs.StateLaws.{both_first, both_second}
 
 scope_known : {S I : Type 0} (sets : Sets I) (answers : Conditional Answer S I) → IsCond answer_cmp sets answers → sets.is_known answers.scope ≡ true
 unfolding IsCond
@@ -46,18 +51,32 @@ IsReady-part site {s0 = s0} {s1 = s1} set group part taken answers e r inside q 
 answer_at-extends : {S I : Type 0} {s0 s1 : Sets I} → Extends s0 s1 → (answers : Conditional Answer S I) → IsCond answer_cmp s0 answers → (c : List Bool) → answer_at s1 answers c ≡ answer_at s0 answers c
 answer_at-extends e answers v c = ap (λ o. unwrap_or o Illegal) (cond_at-extends answer_cmp e answers v c)
 
+-- the plain value of its slot
+value_by-extends : {S I : Type 0} {s0 s1 : Sets I} → Extends s0 s1 → (answers : Conditional Answer S I) → IsCond answer_cmp s0 answers → (heap : HeapView S I) → IsHeap s0 heap → (c : List Bool) → value_of s1 heap c (slot_by (answer_at s1 answers c)) ≡ value_of s0 heap c (slot_by (answer_at s0 answers c))
+value_by-extends {s0 = s0} {s1 = s1} e answers v heap h c = ap (λ a. value_of s1 heap c (slot_by a)) (answer_at-extends e answers v c) ∙ value_of-extends e heap h c (slot_by (answer_at s0 answers c))
+
 -- what comes of an answer, by its kind and over a later space
 answered_as-extends : {S I : Type 0} (site : Site) (taken : ℕ) {s0 s1 : Sets I} → Extends s0 s1 → (answers : Conditional Answer S I) → IsCond answer_cmp s0 answers → (heap : HeapView S I) → IsHeap s0 heap → (kind : Answer) (c : List Bool) (s : State) → answered_as site taken s1 kind answers heap c s ≡ answered_as site taken s0 kind answers heap c s
 answered_as-extends site taken e answers v heap h Illegal c s = refl
 answered_as-extends site taken e answers v heap h (Raise class message) c s = refl
-answered_as-extends site taken {s0 = s0} {s1 = s1} e answers v heap h (Push slot) c s = ap (λ top. push (here site s) top (drop taken s.top.operands)) (ap (λ a. value_of s1 heap c (pushed_by a)) (answer_at-extends e answers v c) ∙ value_of-extends e heap h c (pushed_by (answer_at s0 answers c)))
+answered_as-extends site taken e answers v heap h (Push slot) c s = ap (λ top. push (here site s) top (drop taken s.top.operands)) (value_by-extends e answers v heap h c)
 answered_as-extends site taken e answers v heap h (Jump position) c s = refl
+answered_as-extends site taken e answers v heap h Pass c s = refl
+answered_as-extends site taken e answers v heap h (Give slot) c s = ap (λ top. go (here site s) (top ∷ drop taken s.top.operands)) (value_by-extends e answers v heap h c)
+answered_as-extends site taken e answers v heap h (Write stream text) c s = refl
+answered_as-extends site taken e answers v heap h (Exit code) c s = refl
+answered_as-extends site taken {s0 = s0} {s1 = s1} e answers v heap h (Throw slot) c s = ap (λ r. ThrowOutcome r s) (ap (λ a. object_named s1 heap c (slot_by a)) (answer_at-extends e answers v c) ∙ object_named-extends e heap h c (slot_by (answer_at s0 answers c)))
 
 by_kind : {S I : Type 0} (site : Site) (taken : ℕ) (sets : Sets I) (answers : Conditional Answer S I) (heap : HeapView S I) (c : List Bool) (s : State) (a : Answer) → answer_at sets answers c ≡ a → answered_as site taken sets (kind_of a) answers heap c s ≡ answered sets heap c (here site s) (drop taken s.top.operands) a
 by_kind site taken sets answers heap c s Illegal e = refl
 by_kind site taken sets answers heap c s (Raise class message) e = refl
-by_kind site taken sets answers heap c s (Push slot) e = ap (λ a. push (here site s) (value_of sets heap c (pushed_by a)) (drop taken s.top.operands)) e
+by_kind site taken sets answers heap c s (Push slot) e = ap (λ a. push (here site s) (value_of sets heap c (slot_by a)) (drop taken s.top.operands)) e
 by_kind site taken sets answers heap c s (Jump position) e = refl
+by_kind site taken sets answers heap c s Pass e = refl
+by_kind site taken sets answers heap c s (Give slot) e = ap (λ a. go (here site s) (value_of sets heap c (slot_by a) ∷ drop taken s.top.operands)) e
+by_kind site taken sets answers heap c s (Write stream text) e = refl
+by_kind site taken sets answers heap c s (Exit code) e = refl
+by_kind site taken sets answers heap c s (Throw slot) e = ap (λ a. ThrowOutcome (object_named sets heap c (slot_by a)) s) e
 
 pub some_same : {T : Type 0} (a b : T) → Some a ≡ Some b → a ≡ b
 some_same a b e = cc
@@ -85,12 +104,58 @@ raise_known sets heap c (Raise d m) class message e h =
     subst P same (message_known heap m h)
 raise_known sets heap c (Push slot) class message e h = cc
 raise_known sets heap c (Jump position) class message e h = cc
+raise_known sets heap c Pass class message e h = cc
+raise_known sets heap c (Give slot) class message e h = cc
+raise_known sets heap c (Write stream text) class message e h = cc
+raise_known sets heap c (Exit code) class message e h = cc
+raise_known sets heap c (Throw slot) class message e h = cc
 
-push_held : {S I : Type 0} (sets : Sets I) (heap : HeapView S I) (c : List Bool) (a : Answer) (slot : _) → kind_of a ≡ Push slot → is_answer_held sets heap c a ≡ true → is_held sets heap c (pushed_by a) ≡ true
+push_held : {S I : Type 0} (sets : Sets I) (heap : HeapView S I) (c : List Bool) (a : Answer) (slot : _) → kind_of a ≡ Push slot → is_answer_held sets heap c a ≡ true → is_held sets heap c (slot_by a) ≡ true
 push_held sets heap c Illegal slot e h = cc
 push_held sets heap c (Raise d m) slot e h = cc
 push_held sets heap c (Push s) slot e h = h
 push_held sets heap c (Jump position) slot e h = cc
+push_held sets heap c Pass slot e h = cc
+push_held sets heap c (Give s) slot e h = cc
+push_held sets heap c (Write stream text) slot e h = cc
+push_held sets heap c (Exit code) slot e h = cc
+push_held sets heap c (Throw s) slot e h = cc
+
+give_held : {S I : Type 0} (sets : Sets I) (heap : HeapView S I) (c : List Bool) (a : Answer) (slot : _) → kind_of a ≡ Give slot → is_answer_held sets heap c a ≡ true → is_held sets heap c (slot_by a) ≡ true
+give_held sets heap c Illegal slot e h = cc
+give_held sets heap c (Raise d m) slot e h = cc
+give_held sets heap c (Push s) slot e h = cc
+give_held sets heap c (Jump position) slot e h = cc
+give_held sets heap c Pass slot e h = cc
+give_held sets heap c (Give s) slot e h = h
+give_held sets heap c (Write stream text) slot e h = cc
+give_held sets heap c (Exit code) slot e h = cc
+give_held sets heap c (Throw s) slot e h = cc
+
+write_known : {S I : Type 0} (sets : Sets I) (heap : HeapView S I) (c : List Bool) (a : Answer) (stream : Stream) (text : ℕ) → kind_of a ≡ Write stream text → is_answer_held sets heap c a ≡ true → text < length heap.texts
+write_known sets heap c Illegal stream text e h = cc
+write_known sets heap c (Raise d m) stream text e h = cc
+write_known sets heap c (Push s) stream text e h = cc
+write_known sets heap c (Jump position) stream text e h = cc
+write_known sets heap c Pass stream text e h = cc
+write_known sets heap c (Give s) stream text e h = cc
+write_known sets heap c (Write other n) stream text e h =
+    let same : n ≡ text = cc in
+    let P : ℕ → Type 0 = λ m. m < length heap.texts in
+    subst P same (message_known heap (Some n) h)
+write_known sets heap c (Exit code) stream text e h = cc
+write_known sets heap c (Throw s) stream text e h = cc
+
+throw_held : {S I : Type 0} (sets : Sets I) (heap : HeapView S I) (c : List Bool) (a : Answer) (slot : _) → kind_of a ≡ Throw slot → is_answer_held sets heap c a ≡ true → (is_object (slot_by a) ≡ true) × (is_held sets heap c (slot_by a) ≡ true)
+throw_held sets heap c Illegal slot e h = cc
+throw_held sets heap c (Raise d m) slot e h = cc
+throw_held sets heap c (Push s) slot e h = cc
+throw_held sets heap c (Jump position) slot e h = cc
+throw_held sets heap c Pass slot e h = cc
+throw_held sets heap c (Give s) slot e h = cc
+throw_held sets heap c (Write stream text) slot e h = cc
+throw_held sets heap c (Exit code) slot e h = cc
+throw_held sets heap c (Throw s) slot e h = (both_first (is_object s) (is_held sets heap c s) h, both_second (is_object s) (is_held sets heap c s) h)
 
 -- some configuration of a leaf
 somewhere : {S I : Type 0} {sets : Sets I} → IsLawful sets → (kinds : List (Leaf Answer S I)) (i : ℕ) (x : Leaf Answer S I) → AreLeaves answer_cmp sets kinds → i < length kinds → x ≡ get_or kinds i x → (c : List Bool) × (sets.test x.condition c ≡ true)
@@ -114,6 +179,11 @@ kind_held {S = S} {I = I} {s0 = s0} {s2 = s2} lawful e path inner answers kinds 
     at_kind : (c : List Bool) → s0.test x.condition c ≡ true → kind_of (answer_at s0 answers c) ≡ x.value
     at_kind c t = kind_here s0 path answers kinds i x k l at c (inside c t) t
 
+    thrown : (slot : Slot) → x.value ≡ Throw slot → (c : List Bool) → s2.test inner c ≡ true → (is_object (slot_by (answer_at s0 answers c)) ≡ true) × (is_held s0 heap c (slot_by (answer_at s0 answers c)) ≡ true)
+    thrown slot f c t =
+        let there = within c t in
+        throw_held s0 heap c (answer_at s0 answers c) slot (at_kind c there ∙ f) (held.held c (inside c there))
+
     here : (kind : Answer) → x.value ≡ kind → IsKindHeld s2 heap inner kind answers
     here Illegal f = tt
     here (Raise class message) f =
@@ -122,9 +192,23 @@ kind_held {S = S} {I = I} {s0 = s0} {s2 = s2} lawful e path inner answers kinds 
     here (Push slot) f = record {
       held = λ c t.
           let there = within c t in
-          ap (λ a. is_held s2 heap c (pushed_by a)) (answer_at-extends e answers v c) ∙ is_held-extends e heap h c (pushed_by (answer_at s0 answers c)) ∙ push_held s0 heap c (answer_at s0 answers c) slot (at_kind c there ∙ f) (held.held c (inside c there));
+          ap (λ a. is_held s2 heap c (slot_by a)) (answer_at-extends e answers v c) ∙ is_held-extends e heap h c (slot_by (answer_at s0 answers c)) ∙ push_held s0 heap c (answer_at s0 answers c) slot (at_kind c there ∙ f) (held.held c (inside c there));
     }
     here (Jump position) f = tt
+    here Pass f = tt
+    here (Give slot) f = record {
+      held = λ c t.
+          let there = within c t in
+          ap (λ a. is_held s2 heap c (slot_by a)) (answer_at-extends e answers v c) ∙ is_held-extends e heap h c (slot_by (answer_at s0 answers c)) ∙ give_held s0 heap c (answer_at s0 answers c) slot (at_kind c there ∙ f) (held.held c (inside c there));
+    }
+    here (Write stream text) f =
+        let some = somewhere lawful kinds i x k.are_leaves l at in
+        write_known s0 heap some.0 (answer_at s0 answers some.0) stream text (at_kind some.0 some.1 ∙ f) (held.held some.0 (inside some.0 some.1))
+    here (Exit code) f = tt
+    here (Throw slot) f = record {
+      object = λ c t. ap (λ a. is_object (slot_by a)) (answer_at-extends e answers v c) ∙ (thrown slot f c t).0;
+      held = λ c t. ap (λ a. is_held s2 heap c (slot_by a)) (answer_at-extends e answers v c) ∙ is_held-extends e heap h c (slot_by (answer_at s0 answers c)) ∙ (thrown slot f c t).1;
+    }
 
 -- ---- the kinds of answers
 
@@ -157,6 +241,11 @@ AreHeld-extends {s0 = s0} {s1 = s1} e path answers known v heap h held = record 
     same c (Raise class message) = refl
     same c (Push slot) = is_held-extends e heap h c slot
     same c (Jump position) = refl
+    same c Pass = refl
+    same c (Give slot) = is_held-extends e heap h c slot
+    same c (Write stream text) = refl
+    same c (Exit code) = refl
+    same c (Throw slot) = ap (λ b. is_object slot && b) (is_held-extends e heap h c slot)
 
 pub IsReady-later : {S I : Type 0} (site : Site) {s0 s1 : Sets I} (group : GroupView S I) (taken : ℕ) (answers : Conditional Answer S I) → Extends s0 s1 → IsReady site s0 group taken answers → IsReady site s1 group taken answers
 unfolding IsCond

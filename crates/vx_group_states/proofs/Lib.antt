@@ -1,5 +1,6 @@
 pub mod StateLaws
 pub mod OutcomeStates
+pub mod GrownStates
 pub mod Gathering
 pub mod EndingLaws
 pub mod Fitting

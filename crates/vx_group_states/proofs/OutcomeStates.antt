@@ -124,7 +124,7 @@ abbrev named : Value → ℕ
 named (RefValue n) = n
 named _ = 0
 
-object_named-extends : {S I : Type 0} {old new : Sets I} → Extends old new → (heap : HeapView S I) → IsHeap old heap → (c : List Bool) (s : Slot) → object_named new heap c s ≡ object_named old heap c s
+pub object_named-extends : {S I : Type 0} {old new : Sets I} → Extends old new → (heap : HeapView S I) → IsHeap old heap → (c : List Bool) (s : Slot) → object_named new heap c s ≡ object_named old heap c s
 object_named-extends e heap v c slot.Top = refl
 object_named-extends e heap v c (slot.Int n) = refl
 object_named-extends e heap v c (slot.Long n) = refl
@@ -157,7 +157,7 @@ comes_to-extends : {S I : Type 0} (p : Program) (s0 : Sets I) {s1 s2 : Sets I} (
 comes_to-extends p s0 tree e heap v group [] h c = refl
 comes_to-extends p s0 {s1 = s1} {s2 = s2} tree e heap v group (x ∷ xs) h c = chosen (s2.test (condition_of x) c) (s1.test (condition_of x) c) _ _ _ _ (e.test (condition_of x) c (condition_known p s0 s1 heap tree group x h.0)) (outcome_at-extends p s0 tree e heap v group x h.0 c) (comes_to-extends p s0 tree e heap v group xs h.1 c)
 
-Divide-extends : {S I : Type 0} (p : Program) (s0 : Sets I) {s1 s2 : Sets I} (tree : List (Option (Caller S I))) → Extends s1 s2 → (heap : HeapView S I) (group : GroupView S I) (set : List Bool → Bool) (xs : List (Outcome S I)) → AreOutcomes p s0 s1 heap tree group xs → Divide s1 set xs → Divide s2 set xs
+pub Divide-extends : {S I : Type 0} (p : Program) (s0 : Sets I) {s1 s2 : Sets I} (tree : List (Option (Caller S I))) → Extends s1 s2 → (heap : HeapView S I) (group : GroupView S I) (set : List Bool → Bool) (xs : List (Outcome S I)) → AreOutcomes p s0 s1 heap tree group xs → Divide s1 set xs → Divide s2 set xs
 Divide-extends p s0 tree e heap group set [] h d = d
 Divide-extends p s0 {s1 = s1} {s2 = s2} tree e heap group set (x ∷ xs) h d =
     let same : (c : List Bool) → s2.test (condition_of x) c ≡ s1.test (condition_of x) c = λ c. e.test (condition_of x) c (condition_known p s0 s1 heap tree group x h.0) in
@@ -209,20 +209,21 @@ CameTo-append p old new heap tree group what a b xs ys apart f g = record {
 
 -- ---- what one group comes to, told of the group from which it goes on
 
-IsOutcome-through : {S I : Type 0} (p : Program) (s0 s1 s2 : Sets I) (heap : HeapView S I) (tree : List (Option (Caller S I))) (group middle : GroupView S I) (x : Outcome S I) → Continues p s0 s1 heap tree group middle → IsOutcome p s1 s2 heap tree middle x → IsOutcome p s0 s2 heap tree group x
-IsOutcome-through p s0 s1 s2 heap tree group middle (shared.Go after) f h = Continues-trans p s0 s1 s2 heap heap tree tree group middle after f h
-IsOutcome-through p s0 s1 s2 heap tree group middle (shared.Raise after class message) f h = (Continues-trans p s0 s1 s2 heap heap tree tree group middle after f h.0, h.1)
-IsOutcome-through p s0 s1 s2 heap tree group middle (shared.Throw after thrown) f h = (Continues-trans p s0 s1 s2 heap heap tree tree group middle after f h.0, h.1)
-IsOutcome-through p s0 s1 s2 heap tree group middle (shared.Begin after class) f h = Continues-trans p s0 s1 s2 heap heap tree tree group middle after f h
-IsOutcome-through p s0 s1 s2 heap tree group middle (shared.Native after method) f h = Continues-trans p s0 s1 s2 heap heap tree tree group middle after f h
-IsOutcome-through p s0 s1 s2 heap tree group middle (shared.Write after stream text) f h = (Continues-trans p s0 s1 s2 heap heap tree tree group middle after f h.0, h.1)
+-- the first heap and the first tree may be earlier ones
+IsOutcome-through : {S I : Type 0} {before : HeapView S I} {earlier : List (Option (Caller S I))} (p : Program) (s0 s1 s2 : Sets I) (heap : HeapView S I) (tree : List (Option (Caller S I))) (group middle : GroupView S I) (x : Outcome S I) → Continues p s0 s1 before earlier group middle → IsOutcome p s1 s2 heap tree middle x → IsOutcome p s0 s2 heap tree group x
+IsOutcome-through {before = before} {earlier = earlier} p s0 s1 s2 heap tree group middle (shared.Go after) f h = Continues-trans p s0 s1 s2 heap before tree earlier group middle after f h
+IsOutcome-through {before = before} {earlier = earlier} p s0 s1 s2 heap tree group middle (shared.Raise after class message) f h = (Continues-trans p s0 s1 s2 heap before tree earlier group middle after f h.0, h.1)
+IsOutcome-through {before = before} {earlier = earlier} p s0 s1 s2 heap tree group middle (shared.Throw after thrown) f h = (Continues-trans p s0 s1 s2 heap before tree earlier group middle after f h.0, h.1)
+IsOutcome-through {before = before} {earlier = earlier} p s0 s1 s2 heap tree group middle (shared.Begin after class) f h = Continues-trans p s0 s1 s2 heap before tree earlier group middle after f h
+IsOutcome-through {before = before} {earlier = earlier} p s0 s1 s2 heap tree group middle (shared.Native after method) f h = Continues-trans p s0 s1 s2 heap before tree earlier group middle after f h
+IsOutcome-through {before = before} {earlier = earlier} p s0 s1 s2 heap tree group middle (shared.Write after stream text) f h = (Continues-trans p s0 s1 s2 heap before tree earlier group middle after f h.0, h.1)
 IsOutcome-through p s0 s1 s2 heap tree group middle (shared.Ended condition end) f h = h
 
-AreOutcomes-through : {S I : Type 0} (p : Program) (s0 s1 s2 : Sets I) (heap : HeapView S I) (tree : List (Option (Caller S I))) (group middle : GroupView S I) (xs : List (Outcome S I)) → Continues p s0 s1 heap tree group middle → AreOutcomes p s1 s2 heap tree middle xs → AreOutcomes p s0 s2 heap tree group xs
+AreOutcomes-through : {S I : Type 0} {before : HeapView S I} {earlier : List (Option (Caller S I))} (p : Program) (s0 s1 s2 : Sets I) (heap : HeapView S I) (tree : List (Option (Caller S I))) (group middle : GroupView S I) (xs : List (Outcome S I)) → Continues p s0 s1 before earlier group middle → AreOutcomes p s1 s2 heap tree middle xs → AreOutcomes p s0 s2 heap tree group xs
 AreOutcomes-through p s0 s1 s2 heap tree group middle [] f h = tt
 AreOutcomes-through p s0 s1 s2 heap tree group middle (x ∷ xs) f h = (IsOutcome-through p s0 s1 s2 heap tree group middle x f h.0, AreOutcomes-through p s0 s1 s2 heap tree group middle xs f h.1)
 
-pub CameTo-through : {S I : Type 0} (p : Program) (s0 s1 s2 : Sets I) (heap : HeapView S I) (tree : List (Option (Caller S I))) (group middle : GroupView S I) (there what : List Bool → PlainOutcome) (set : List Bool → Bool) (xs : List (Outcome S I)) → Continues p s0 s1 heap tree group middle → ((c : List Bool) → s1.test (path_of middle) c ≡ set c) → ((c : List Bool) → set c ≡ true → there c ≡ what c) → CameTo p s1 s2 heap tree middle there (s1.test (path_of middle)) xs → CameTo p s0 s2 heap tree group what set xs
+pub CameTo-through : {S I : Type 0} {before : HeapView S I} {earlier : List (Option (Caller S I))} (p : Program) (s0 s1 s2 : Sets I) (heap : HeapView S I) (tree : List (Option (Caller S I))) (group middle : GroupView S I) (there what : List Bool → PlainOutcome) (set : List Bool → Bool) (xs : List (Outcome S I)) → Continues p s0 s1 before earlier group middle → ((c : List Bool) → s1.test (path_of middle) c ≡ set c) → ((c : List Bool) → set c ≡ true → there c ≡ what c) → CameTo p s1 s2 heap tree middle there (s1.test (path_of middle)) xs → CameTo p s0 s2 heap tree group what set xs
 CameTo-through p s0 s1 s2 heap tree group middle there what set xs f e h y =
     let same = CameTo-same p s1 s2 heap tree middle there what (s1.test (path_of middle)) set xs e (λ c t. h c (sym (e c) ∙ t)) y in
     record { divide = same.divide; continue = AreOutcomes-through p s0 s1 s2 heap tree group middle xs f same.continue; at = same.at }

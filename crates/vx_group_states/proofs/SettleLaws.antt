@@ -1,5 +1,7 @@
 -- Operands that are settled: from sizes to what the parts come to.
-use Rattle.std.proofs.Common.{◌≡◌, ℕ, Bool, true, false, List, sym, ◌∙◌, ap, subst}
+use Rattle.std.proofs.Common.{◌≡◌, ℕ, ◌+◌, ◌≤◌, Bool, true, false, List, sym, ◌∙◌, ap, subst, length, arith}
+use Rattle.std.proofs.lemmas.Bool.{le-leb}
+use Rattle.std.proofs.lemmas.List.{length-map}
 use Rattle.std.specs.Prelude.{Option, Some, None, nat_le, unwrap_or}
 use Rattle.std.specs.Ordering.{bool_cmp}
 use Rattle.std.specs.declared.cmp.Ordering.{Ordering}
@@ -22,7 +24,7 @@ use Rattle.vx_group_states.specs.Widths.{slots_size}
 use Rattle.vx_group_states.specs.declared.site.Site.{Site}
 use Rattle.vx_group_states.proofs.EndingLaws.{GivesAt-before}
 use Rattle.vx_group_states.proofs.StateLaws.{IsGroup-moved}
-use Rattle.vx_group_states.proofs.Fitting.{stack_size_of}
+use Rattle.vx_group_states.proofs.Fitting.{slots_size-most, stack_size_of}
 
 pub lifting_cond : {T U S I : Type 0} (cmp : U → U → Ordering) (sets : Sets I) (R : T → U → Type 0) (value : List Bool → Option T) (cond : Conditional U S I) → IsCondLifting cmp sets R value cond → IsCond cmp sets cond
 unfolding IsCondLifting
@@ -51,6 +53,16 @@ settle-gives {S = S} {I = I} site {s0 = s0} {s1 = s1} {s2 = s2} {s3 = s3} group 
     let size = at c (ap (λ i. s0.test i c) (stack_scope s0 group v) ∙ t) in
     let fit = truth R (cond_at s1 sizes c) (cond_at s2 fits c) (slots_size slots) site.code.now.max_stack law size (lifting_at bool_cmp s2 R (cond_at s1 sizes) fits l c) in
     ap (λ b. when b (go (here site state) state.top.operands) (illegal (here site state))) (fit ∙ ap (λ n. nat_le n site.code.now.max_stack) (sym (stack_size_of s0 heap c slots)))) (gives heap)
+
+-- operands that fit though each of them took two words
+pub surely-settles : {S I : Type 0} (site : Site) (sets : Sets I) (group : GroupView S I) (outcomes : List (Outcome S I)) → length group.top.stack.conds + length group.top.stack.conds ≤ site.code.now.max_stack → Gives site.program.now (λ s. go (here site s) s.top.operands) sets sets group outcomes → Gives site.program.now (λ s. settle (here site s) s.top.operands) sets sets group outcomes
+surely-settles site sets group outcomes few gives heap =
+    GivesAt-before site.program.now sets group heap (λ _ _ s. go (here site s) s.top.operands) (λ _ _ s. settle (here site s) s.top.operands) outcomes (Extends-refl sets) (λ tree h s c t.
+    let state = state_at sets heap tree group c in
+    let slots = slots_at sets group.top.stack c in
+    let short : length slots ≡ length group.top.stack.conds = simp length-map in
+    let fit : nat_le (slots_size slots) site.code.now.max_stack ≡ true = le-leb (slots_size slots) site.code.now.max_stack (omega (arith, slots_size-most slots, short, few)) in
+    sym (ap (λ b. when b (go (here site state) state.top.operands) (illegal (here site state))) (ap (λ n. nat_le n site.code.now.max_stack) (stack_size_of sets heap c slots) ∙ fit))) (gives heap)
 
 -- a group with other operands of the same scope
 pub with_stack : {S I : Type 0} (sets : Sets I) (group after : GroupView S I) → IsGroup sets group → after ≡ record group { top = record (group.top) { stack = after.top.stack } } → IsRow slot_cmp sets after.top.stack → after.top.stack.scope ≡ path_of group → IsGroup sets after

@@ -8,15 +8,15 @@ ghost use Rattle.vx_cond.specs.Slots.{slot_at};
 ghost use Rattle.vx_value.specs.Slot.{slot_cmp};
 ghost use Rattle.vx_group.specs.Group.{IsGroup, path_of};
 ghost use Rattle.vx_heap.specs.Heap.{HeapView};
-ghost use Rattle.vx_java.specs.Machine.{at_position, Go, Raise as RaiseOf};
+ghost use Rattle.vx_java.specs.Machine.{at_position, go as go_of, settle as settle_of, Ended, Go, Raise as RaiseOf};
 ghost use Rattle.vx_link.specs.declared.program.Program.{Program};
-ghost use Rattle.vx_group_states.specs.Answering.{AreHeld, AreKinds, ArePushedHeld, IsKindHeld, IsReady, answer_at, answered_as, answered_by, kind_of, operands_at, pushed_by, pushed_to};
+ghost use Rattle.vx_group_states.specs.Answering.{AreHeld, AreKinds, AreObjectsHeld, AreSlotsHeld, IsKindHeld, IsReady, answer_at, answered_as, answered_by, end_by, kind_of, operands_at, put_on, slot_by, thrown_by, written};
 ghost use Rattle.vx_group_states.specs.Answers.{answer_cmp};
-ghost use Rattle.vx_group_states.specs.Sites.{Gives, GivesAt, HasPast};
+ghost use Rattle.vx_group_states.specs.Sites.{Gives, GivesAt, HasPast, here};
 ghost use Rattle.vx_group_states.specs.Stands.{IsMessage, message_of};
 
 use crate::answer::Answer;
-use crate::endings::illegal;
+use crate::endings::{illegal, pass};
 use crate::settling::settle;
 use crate::site::Site;
 use std::alloc::{AllocError, Global};
@@ -24,25 +24,37 @@ use vx_cond::{Cond, Leaf, Row};
 use vx_group::Group;
 use vx_outcome::{Outcome, Outcomes};
 use vx_space::{Space, SpaceFault};
-use vx_value::{ClassId, Slot};
+use vx_value::{ClassId, End, Slot, Stream};
 
-/// What parts are told apart by: the answer without its value.
+/// What parts are told apart by: the answer without its slot.
 fn kind(answer: Answer) -> Answer
     ensures { result ≡ kind_of answer }
 {
     match answer {
         Answer::Push(_) => Answer::Push(Slot::Top),
+        Answer::Give(_) => Answer::Give(Slot::Top),
+        Answer::Throw(_) => Answer::Throw(Slot::Top),
         other => other,
     }
 }
 
-/// The value of an answer that is one.
-fn pushed(answer: Answer) -> Slot
-    ensures { result ≡ pushed_by answer }
+/// The slot of an answer that has one.
+fn slot_of(answer: Answer) -> Slot
+    ensures { result ≡ slot_by answer }
 {
     match answer {
-        Answer::Push(slot) => slot,
+        Answer::Push(slot) | Answer::Give(slot) | Answer::Throw(slot) => slot,
         _ => Slot::Top,
+    }
+}
+
+/// The end of an answer that ends the run.
+fn end_of(answer: Answer) -> End
+    ensures { result ≡ end_by answer }
+{
+    match answer {
+        Answer::Exit(code) => End::Exit(code),
+        _ => End::Unfinished,
     }
 }
 
@@ -62,8 +74,8 @@ fn drop_operands<S: Space>(space: &S, stack: &mut Row<Slot, S>, count: usize)
     }
 }
 
-/// The values of the answers inside a path.
-fn values_inside<S: Space>(
+/// The slots of the answers inside a path.
+fn slots_inside<S: Space>(
     space: &mut S,
     answers: &Cond<Answer, S>,
     path: S::Id,
@@ -74,10 +86,10 @@ fn values_inside<S: Space>(
     ensures extends { Extends (S.sets space.old) (S.sets space.new) }
     ensures cond { IfOk result (IsCond slot_cmp (S.sets space.new)) }
     ensures scope { IfOk result (λ r. r.scope ≡ path) }
-    ensures at { IfOk result (λ r. (c : List Bool) → (S.sets space.old).test path c ≡ true → slot_at (S.sets space.new) r c ≡ pushed_by (answer_at (S.sets space.old) answers.now c)) }
+    ensures at { IfOk result (λ r. (c : List Bool) → (S.sets space.old).test path c ≡ true → slot_at (S.sets space.new) r c ≡ slot_by (answer_at (S.sets space.old) answers.now c)) }
 {
     let inside = answers.restrict(space, path)?;
-    let values = inside.map(space, pushed)?;
+    let values = inside.map(space, slot_of)?;
     Ok(values)
 }
 
@@ -104,6 +116,21 @@ fn with_operand<S: Space>(
     Ok(below.put_top(frame))
 }
 
+/// The group at a position, with so many operands taken off.
+fn moved_to<S: Space>(space: &S, group: Group<S>, taken: usize, position: u32) -> Group<S>
+    requires group { IsGroup (S.sets space.now) group }
+    requires enough { taken ≤ length group.top.stack.conds }
+    ensures same { result ≡ record group { top = record group.top { position = position; stack = result.top.stack } } }
+    ensures row { IsRow slot_cmp (S.sets space.now) result.top.stack }
+    ensures scope { result.top.stack.scope ≡ path_of group }
+    ensures at { (c : List Bool) → operands_at (S.sets space.now) result.top.stack c ≡ drop taken (operands_at (S.sets space.now) group.top.stack c) }
+{
+    let (below, mut frame) = group.take_top();
+    drop_operands(space, &mut frame.stack, taken);
+    frame.position = position;
+    below.put_top(frame)
+}
+
 /// The part of a group in which values are pushed.
 fn pushed_part<S: Space>(
     alloc: Global,
@@ -120,11 +147,35 @@ fn pushed_part<S: Space>(
     requires answers { IsCond answer_cmp (S.sets space.old) answers.now }
     requires inside { IsInside (S.sets space.old) (path_of part) answers.now.scope }
     ensures extends { Extends (S.sets space.old) (S.sets space.new) }
-    ensures gives { IfOk result (λ r. (heap : HeapView S S.Id) → ArePushedHeld (S.sets space.old) heap (path_of part) answers.now → GivesAt site.now.program.now (pushed_to site.now taken (S.sets space.old) answers.now) (S.sets space.old) (S.sets space.new) part r.items.items heap) }
+    ensures gives { IfOk result (λ r. (heap : HeapView S S.Id) → AreSlotsHeld (S.sets space.old) heap (path_of part) answers.now → GivesAt site.now.program.now (put_on settle_of site.now taken (S.sets space.old) answers.now) (S.sets space.old) (S.sets space.new) part r.items.items heap) }
 {
-    let values = values_inside(space, answers, part.path())?;
+    let values = slots_inside(space, answers, part.path())?;
     let group = with_operand(space, part, taken, values)?;
     let outcomes = settle(alloc, site, space, group)?;
+    Ok(outcomes)
+}
+
+/// The part of a group in which values are given for which room was asked before.
+fn given_part<S: Space>(
+    alloc: Global,
+    site: &Site,
+    space: &mut S,
+    part: Group<S>,
+    taken: usize,
+    answers: &Cond<Answer, S>,
+) -> Result<Outcomes<S>, SpaceFault>
+    requires group { IsGroup (S.sets space.old) part }
+    requires past { HasPast site.now part }
+    requires enough { taken ≤ length part.top.stack.conds }
+    requires few { length part.top.stack.conds + 1 < 2 ^ 32 + taken }
+    requires answers { IsCond answer_cmp (S.sets space.old) answers.now }
+    requires inside { IsInside (S.sets space.old) (path_of part) answers.now.scope }
+    ensures extends { Extends (S.sets space.old) (S.sets space.new) }
+    ensures gives { IfOk result (λ r. (heap : HeapView S S.Id) → AreSlotsHeld (S.sets space.old) heap (path_of part) answers.now → GivesAt site.now.program.now (put_on go_of site.now taken (S.sets space.old) answers.now) (S.sets space.old) (S.sets space.new) part r.items.items heap) }
+{
+    let values = slots_inside(space, answers, part.path())?;
+    let group = with_operand(space, part, taken, values)?;
+    let outcomes = pass(alloc, site, space, group)?;
     Ok(outcomes)
 }
 
@@ -140,10 +191,86 @@ fn jumped_part<S: Space>(
     requires enough { taken ≤ length part.top.stack.conds }
     ensures { IfOk result (λ r. (program : Program) → Gives program (λ s. Go (at_position s position (drop taken s.top.operands))) (S.sets space.now) (S.sets space.now) part r.items.items) }
 {
-    let (below, mut frame) = part.take_top();
-    drop_operands(space, &mut frame.stack, taken);
-    frame.position = position;
-    let outcomes = Outcomes::go(alloc, below.put_top(frame))?;
+    let moved = moved_to(space, part, taken, position);
+    let outcomes = Outcomes::go(alloc, moved)?;
+    Ok(outcomes)
+}
+
+/// The part of a group that goes past the instruction with the operands that are left.
+fn passed_part<S: Space>(
+    alloc: Global,
+    site: &Site,
+    space: &S,
+    part: Group<S>,
+    taken: usize,
+) -> Result<Outcomes<S>, AllocError>
+    requires group { IsGroup (S.sets space.now) part }
+    requires past { HasPast site.now part }
+    requires enough { taken ≤ length part.top.stack.conds }
+    ensures { IfOk result (λ r. Gives site.now.program.now (λ s. go_of (here site.now s) (drop taken s.top.operands)) (S.sets space.now) (S.sets space.now) part r.items.items) }
+{
+    let position = part.top_frame().position + site.size;
+    let outcomes = jumped_part(alloc, space, part, taken, position)?;
+    Ok(outcomes)
+}
+
+/// The part of a group that writes a text and goes past the instruction.
+fn written_part<S: Space>(
+    alloc: Global,
+    site: &Site,
+    space: &S,
+    part: Group<S>,
+    taken: usize,
+    stream: Stream,
+    text: u64,
+) -> Result<Outcomes<S>, AllocError>
+    requires group { IsGroup (S.sets space.now) part }
+    requires past { HasPast site.now part }
+    requires enough { taken ≤ length part.top.stack.conds }
+    ensures { IfOk result (λ r. (heap : HeapView S S.Id) → text < length heap.texts → GivesAt site.now.program.now (λ heap _ s. written site.now taken stream text heap s) (S.sets space.now) (S.sets space.now) part r.items.items heap) }
+{
+    let position = part.top_frame().position + site.size;
+    let group = moved_to(space, part, taken, position);
+    let mut outcomes = Outcomes::new(alloc);
+    outcomes.push(Outcome::Write {
+        group,
+        stream,
+        text,
+    })?;
+    Ok(outcomes)
+}
+
+/// The part of a group whose runs end.
+fn ended_part<S: Space>(alloc: Global, part: &Group<S>, end: End) -> Result<Outcomes<S>, AllocError>
+    ensures { IfOk result (λ r. (program : Program) (sets : Sets S.Id) → Gives program (λ _. Ended end) sets sets part.now r.items.items) }
+{
+    let mut outcomes = Outcomes::new(alloc);
+    outcomes.push(Outcome::Ended {
+        condition: part.path(),
+        end,
+    })?;
+    Ok(outcomes)
+}
+
+/// The part of a group that throws objects.
+fn thrown_part<S: Space>(
+    alloc: Global,
+    space: &mut S,
+    part: Group<S>,
+    answers: &Cond<Answer, S>,
+) -> Result<Outcomes<S>, SpaceFault>
+    requires group { IsGroup (S.sets space.old) part }
+    requires answers { IsCond answer_cmp (S.sets space.old) answers.now }
+    requires inside { IsInside (S.sets space.old) (path_of part) answers.now.scope }
+    ensures extends { Extends (S.sets space.old) (S.sets space.new) }
+    ensures gives { IfOk result (λ r. (program : Program) (heap : HeapView S S.Id) → AreObjectsHeld (S.sets space.old) heap (path_of part) answers.now → GivesAt program (thrown_by (S.sets space.old) answers.now) (S.sets space.old) (S.sets space.new) part r.items.items heap) }
+{
+    let thrown = slots_inside(space, answers, part.path())?;
+    let mut outcomes = Outcomes::new(alloc);
+    outcomes.push(Outcome::Throw {
+        group: part,
+        thrown,
+    })?;
     Ok(outcomes)
 }
 
@@ -196,6 +323,26 @@ fn answered_part<S: Space>(
             let jumped = jumped_part(alloc, space, part, taken, position)?;
             Ok(jumped)
         }
+        Answer::Pass => {
+            let passed = passed_part(alloc, site, space, part, taken)?;
+            Ok(passed)
+        }
+        Answer::Give(_) => {
+            let given = given_part(alloc, site, space, part, taken, answers)?;
+            Ok(given)
+        }
+        Answer::Write(stream, text) => {
+            let wrote = written_part(alloc, site, space, part, taken, stream, text)?;
+            Ok(wrote)
+        }
+        Answer::Exit(_) => {
+            let exited = ended_part(alloc, &part, end_of(kind))?;
+            Ok(exited)
+        }
+        Answer::Throw(_) => {
+            let thrown = thrown_part(alloc, space, part, answers)?;
+            Ok(thrown)
+        }
     }
 }
 
@@ -226,7 +373,8 @@ fn answered_parts<S: Space>(
 }
 
 /// Does at each configuration of a group what the answer there says, with so many operands taken off: ends the run, raises,
-/// pushes a value and goes past the instruction, or goes to a position. The group is divided by the kinds of the answers.
+/// throws, goes to a position, or goes past the instruction, where it may put a value on the operands or write a text. The
+/// group is divided by the kinds of the answers: a part has one outcome, whatever the values in it.
 pub fn carry_out<S: Space>(
     alloc: Global,
     site: &Site,

@@ -1,6 +1,6 @@
 //! Operands that have to fit in a method's greatest stack.
 
-ghost use Rattle.std.specs.Prelude.{◌≡◌, ◌+◌, ◌<◌, ◌^◌, Some, IfOk, Bool, List, length, nat_le, true};
+ghost use Rattle.std.specs.Prelude.{◌≡◌, ◌+◌, ◌<◌, ◌≤◌, ◌^◌, Some, IfOk, IsTrue, Bool, List, length, nat_le, true};
 ghost use Rattle.std.specs.Ordering.{nat_cmp};
 ghost use Rattle.vx_space.specs.Sets.{Extends};
 ghost use Rattle.vx_cond.specs.Cond.{IsCond, cond_at};
@@ -12,6 +12,7 @@ ghost use Rattle.vx_java.specs.Machine.{settle as settle_of};
 ghost use Rattle.vx_group_states.specs.Sites.{Gives, HasPast, here};
 ghost use Rattle.vx_group_states.specs.Widths.{slot_width, slots_size};
 
+use crate::endings::pass;
 use crate::passing::pass_where;
 use crate::site::Site;
 use std::alloc::Global;
@@ -54,6 +55,13 @@ pub fn stack_size<S: Space>(
     Ok(total)
 }
 
+/// Whether so many operands fit in so many words, though each of them were a long.
+fn surely_fit(operands: usize, room: usize) -> bool
+    ensures { IsTrue result → operands + operands ≤ room }
+{
+    operands <= room && operands <= room - operands
+}
+
 /// Goes past the instruction where the operands fit in the method's greatest stack, and ends the runs elsewhere (JVMS
 /// 4.7.3).
 pub fn settle<S: Space>(
@@ -67,8 +75,13 @@ pub fn settle<S: Space>(
     ensures extends { Extends (S.sets space.old) (S.sets space.new) }
     ensures gives { IfOk result (λ r. Gives site.now.program.now (λ s. settle_of (here site.now s) s.top.operands) (S.sets space.old) (S.sets space.new) group r.items.items) }
 {
+    let stack = &group.top_frame().stack;
+    if surely_fit(stack.len(), usize::from(site.code.max_stack)) {
+        let passed = pass(alloc, site, space, group)?;
+        return Ok(passed);
+    }
     let room = u64::from(site.code.max_stack);
-    let sizes = stack_size(alloc, space, &group.top_frame().stack)?;
+    let sizes = stack_size(alloc, space, stack)?;
     let is_within = |n: u64| -> bool
         ensures { result ≡ nat_le n room }
     { n <= room };

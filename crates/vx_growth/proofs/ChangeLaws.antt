@@ -1,4 +1,4 @@
--- Changes one after another, and attempts after a change.
+-- Changes one after another, and outcomes and attempts after a change.
 use Rattle.std.proofs.Common.{◌≡◌, Bool, true, false, List, refl, sym, ◌∙◌, ap, subst}
 use Rattle.std.specs.Prelude.{◌||◌, if◌then◌else◌, slice_get}
 use Rattle.vx_space.specs.Sets.{Sets}
@@ -7,10 +7,10 @@ use Rattle.vx_group.proofs.GroupLaws.{IsGroup-path_known, IsGroupIn-group, attem
 use Rattle.vx_heap.specs.Heap.{Globals, HeapView, IsHeapFor, globals_at}
 use Rattle.vx_heap.proofs.HeapLaws.{IsHeap-extends, globals_at-extends}
 use Rattle.vx_group_states.specs.Stands.{Continues, state_at}
+use Rattle.vx_group_states.proofs.GrownStates.{CameTo-grown, Grows-trans, StandsIn-grown, state_at-changed}
 use Rattle.vx_group_states.proofs.OutcomeStates.{CameTo-through}
 use Rattle.vx_growth.specs.Changing.{IsChangedIn, changed_in}
-use Rattle.vx_growth.specs.Laws.{AttemptsFollow, ChangesFollow, StaticsChangeIn}
-use Rattle.vx_growth.proofs.GrownStates.{Grows-trans, StandsIn-grown, state_at-changed}
+use Rattle.vx_growth.specs.Laws.{AttemptsFollow, ChangesFollow, OutcomesStay, StaticsChangeIn}
 
 -- what a change makes at each configuration
 pub changed_at : {S I : Type 0} (old new : Sets I) (before after : HeapView S I) (set : List Bool → Bool) (change : List Bool → Globals → Globals) → IsChangedIn old new before after set change → (c : List Bool) → globals_at new after c ≡ changed_in set change c (globals_at old before c)
@@ -50,11 +50,15 @@ statics_change_in {S = S} {I = I} old new before after set change v same statics
         literals = h.literals;
         words = h.words;
         enough = h.enough;
+        resolved = h.resolved;
         first = h.first;
       }));
   inside = λ c t. at c;
   outside = λ c t. at c ∙ stays c t (globals_at old before c);
 }
+
+pub outcomes_stay : {S I : Type 0} → OutcomesStay S I
+outcomes_stay p start old new before after tree later group what set outcomes e v g k stays h = CameTo-grown p e k before after v g start group what set outcomes stays h
 
 pub attempts_follow : {S I : Type 0} → AttemptsFollow S I
 attempts_follow {S = S} {I = I} p says there s0 s1 s2 before after set change tree later group outcomes v s e changed inside f k law came =

@@ -28,6 +28,8 @@ use Rattle.vx_java.specs.Step.{first_inits, first_static}
 use Rattle.vx_link.specs.CoreFiles.{core_count}
 use Rattle.vx_link.specs.declared.program.LinkedField.{LinkedField}
 use Rattle.vx_link.specs.declared.program.Program.{Program}
+use Rattle.vx_references.specs.Named.{class_table}
+use Rattle.vx_value.specs.declared.ids.ClassId.{ClassId}
 use Rattle.vx_heap.specs.declared.object.HeapObject.{HeapObject}
 use Rattle.vx_heap.specs.First.{IsFirstHeap}
 use Rattle.vx_heap.specs.Heap.{AreEverywhere, AreObjects, HeapView, IsHeap, IsObject, are_held, has_option, has_options, inits_at, is_held, object_of, objects_at, statics_at, value_of}
@@ -197,16 +199,16 @@ state_count n k h = omega (arith, h, length-append (replicate (n - k) Not) (repl
 
 -- ---- the heap
 
-abbrev lifted_heap : {S I : Type 0} → I → First → List (HeapObject S I) → List (Conditional Slot S I) → List (Conditional InitState S I) → HeapView S I
-lifted_heap allowed first objects statics inits = record { objects = objects; statics = statics; inits = inits; texts = first.texts.texts; allowed = allowed; literals = first.literals.items; words = first.words }
+abbrev lifted_heap : {S I : Type 0} → I → First → List (List (Option ClassId)) → List (HeapObject S I) → List (Conditional Slot S I) → List (Conditional InitState S I) → HeapView S I
+lifted_heap allowed first table objects statics inits = record { objects = objects; statics = statics; inits = inits; texts = first.texts.texts; allowed = allowed; literals = first.literals.items; resolved = table; words = first.words }
 
-pub lifted_is_first : {S I : Type 0} (p : Program) (sets : Sets I) (allowed : I) (first : First) (objects : List (HeapObject S I)) (statics : List (Conditional Slot S I)) (inits : List (Conditional InitState S I))
-    → sets.is_known allowed ≡ true → core_count ≤ length p.classes → IsFirst p first
+pub lifted_is_first : {S I : Type 0} (p : Program) (sets : Sets I) (allowed : I) (first : First) (table : List (List (Option ClassId))) (objects : List (HeapObject S I)) (statics : List (Conditional Slot S I)) (inits : List (Conditional InitState S I))
+    → table ≡ class_table p → sets.is_known allowed ≡ true → core_count ≤ length p.classes → IsFirst p first
     → AreLifted sets allowed first.objects.items objects → AreStatics sets allowed first.statics.items statics → AreSame init_state_cmp sets allowed first.inits.items inits
-    → IsFirstHeap p sets allowed (lifted_heap allowed first objects statics inits)
+    → IsFirstHeap p sets allowed (lifted_heap allowed first table objects statics inits)
 unfolding IsHeap
-lifted_is_first {S = S} {I = I} p sets allowed first objects statics inits known core f os ss is =
-    let heap : HeapView S I = lifted_heap allowed first objects statics inits in
+lifted_is_first {S = S} {I = I} p sets allowed first table objects statics inits resolved known core f os ss is =
+    let heap : HeapView S I = lifted_heap allowed first table objects statics inits in
     let all : AreEverywhere allowed objects = everywhere sets allowed known first.objects.items objects os in
     let firsts = linked (IsFirstObject p first.texts.texts) (IsLifted sets allowed) (first_objects p) first.objects.items objects f.objects os in
     let fields = linked (IsFirstStatic p) (IsStatic sets allowed) p.fields first.statics.items statics f.statics ss in
@@ -227,6 +229,7 @@ lifted_is_first {S = S} {I = I} p sets allowed first objects statics inits known
         static_count = zip_length (Linked (IsFirstStatic p) (IsStatic sets allowed)) p.fields statics fields;
         init_count = zip_length (IsSame init_state_cmp sets allowed) first.inits.items inits is ∙ ap length f.inits ∙ state_count (length p.classes) core_count core;
         literals = f.literals;
+        resolved = resolved;
         words = f.words;
         enough = enough;
         first = AreEverywhere-take allowed (suc (first_words p)) objects all;

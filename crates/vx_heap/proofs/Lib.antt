@@ -7,3 +7,4 @@ pub mod Cells
 pub mod Throughout
 pub mod Present
 pub mod FirstHeap
+pub mod Table

@@ -1,5 +1,5 @@
 -- The shared heap: objects, statics and initialisation states that depend on the configuration, and what stands at one configuration.
-use Rattle.std.specs.Prelude.{◌≡◌, ℕ, ◌<◌, Bool, true, false, List, [], ◌∷◌, ◌++◌, length, map, take, filter, flat_map, Option, Some, None, slice_get, slice_set, unwrap_or, nat_lt, zero, suc}
+use Rattle.std.specs.Prelude.{◌≡◌, ℕ, ◌<◌, Bool, true, false, List, [], ◌∷◌, ◌++◌, length, map, take, filter, flat_map, Option, Some, None, option_map, slice_get, slice_set, unwrap_or, nat_lt, zero, suc}
 use Rattle.std.specs.List.{list_all}
 use Rattle.vx_value.specs.declared.slot.Slot.{Slot}
 use Rattle.vx_value.specs.declared.slot.Slot.TheVariants.{Top, Int, Long, Null, Ref, Text}
@@ -17,9 +17,11 @@ use Rattle.vx_java.specs.Machine.{Value, Object, no_object}
 use Rattle.vx_java.specs.Machine.{Top as TopValue, Int as IntValue, Long as LongValue, Null as NullValue, Ref as RefValue, Text as TextValue}
 use Rattle.vx_link.specs.declared.program.LinkedField.{LinkedField}
 use Rattle.vx_link.specs.declared.program.Program.{Program}
+use Rattle.vx_references.specs.Named.{class_table}
+use Rattle.vx_value.specs.declared.ids.ClassId.{ClassId}
 use Rattle.vx_heap.specs.declared.object.HeapObject.{HeapObject}
 
--- a `Heap` as contracts see it: the objects in the order in which they were made, a value per field and an initialisation state per class, the texts by their numbers, the set of all configurations that run, the objects of the literals by class and pool entry, and the array for main
+-- a `Heap` as contracts see it: the objects in the order in which they were made, a value per field and an initialisation state per class, the texts by their numbers, the set of all configurations that run, the objects of the literals by class and pool entry, the class that each entry names in the program, and the array for main
 pub record HeapView (S I : Type 0) : Type 0 where
   pub objects : List (HeapObject S I)
   pub statics : List (Conditional Slot S I)
@@ -27,6 +29,7 @@ pub record HeapView (S I : Type 0) : Type 0 where
   pub texts : List (List ℕ)
   pub allowed : I
   pub literals : List (List ℕ)
+  pub resolved : List (List (Option ClassId))
   pub words : ℕ
 
 -- ---- names
@@ -137,11 +140,12 @@ AreEverywhere allowed (o ∷ os) = (o.presence ≡ allowed) × AreEverywhere all
 abbrev pub literal_table : Program → List (List ℕ)
 literal_table p = map (λ c. map (literal_object p c.pool) c.pool.entries) p.classes
 
--- it was made for this program: a value per field, a state per class, and the first objects, which are there everywhere
+-- it was made for this program: a value per field, a state per class, the classes that its entries name, and the first objects, which are there everywhere
 pub record IsHeapFor {S I : Type 0} (p : Program) (heap : HeapView S I) : Type 0 where
   pub static_count : length heap.statics ≡ length p.fields
   pub init_count : length heap.inits ≡ length p.classes
   pub literals : heap.literals ≡ literal_table p
+  pub resolved : heap.resolved ≡ class_table p
   pub words : heap.words ≡ first_words p
   pub enough : first_words p < length heap.objects
   pub first : AreEverywhere heap.allowed (take (suc (first_words p)) heap.objects)
@@ -154,6 +158,11 @@ no_heap_object scope = record { class = record { 0 = 0 }; length = 0; presence =
 
 abbrev pub object_in : {S I : Type 0} → HeapView S I → ℕ → HeapObject S I
 object_in heap reference = item_or heap.objects reference (no_heap_object heap.allowed)
+
+-- the class of the object that a slot names, if it names one
+abbrev pub class_at_slot : {S I : Type 0} → HeapView S I → Slot → Option ClassId
+class_at_slot heap (Ref i) = option_map (λ o. o.class) (slice_get heap.objects i)
+class_at_slot heap _ = None
 
 abbrev pub no_cond : {T S I : Type 0} → I → Conditional T S I
 no_cond scope = record { scope = scope; leaves = [] }
@@ -208,6 +217,10 @@ KeepsPlain {I = I} before after =
 -- the object of a pool entry
 abbrev pub literal_at : {S I : Type 0} → HeapView S I → (class entry : ℕ) → ℕ
 literal_at heap class entry = item_or (item_or heap.literals class []) entry 0
+
+-- what the table says of a pool entry, if it has the entry
+abbrev pub resolved_in : {S I : Type 0} → HeapView S I → (class entry : ℕ) → Option (Option ClassId)
+resolved_in heap class entry = slice_get (item_or heap.resolved class []) entry
 
 -- each option that a field belongs to is one of the space
 abbrev pub has_option : (options : ℕ) → Option ℕ → Bool

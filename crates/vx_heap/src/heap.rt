@@ -1,16 +1,19 @@
 //! The heap, its statics and its initialisation states.
 
-ghost use Rattle.std.specs.Prelude.{◌≡◌, ◌++◌, ◌<◌, ◌≤◌, ◌≤ℤ◌, negsuc, pos, [], length, IfOk, OnOk, OnErr, List, Bool, true, slice_set, if◌then◌else◌};
+ghost use Rattle.std.specs.Prelude.{◌≡◌, ◌++◌, ◌<◌, ◌≤◌, ◌≤ℤ◌, negsuc, pos, [], length, IfOk, OnOk, OnErr, List, Bool, true, option_map, slice_set, if◌then◌else◌};
 ghost use Rattle.vx_space.specs.Sets.{IsKnown, Extends};
 ghost use Rattle.std.specs.List.{flat_map};
 ghost use Rattle.vx_cond.specs.Cond.{IsCond, IsInside, cond_ids};
 ghost use Rattle.vx_value.specs.Slot.{slot_cmp, init_state_cmp};
 ghost use Rattle.vx_java.specs.FirstObjects.{first_boolean, first_integer};
-ghost use Rattle.vx_java.specs.Ids.{HasClassNumbers};
+ghost use Rattle.vx_java.specs.Ids.{HasClassNumbers, as_class};
+ghost use Rattle.vx_link.specs.ClassNames.{class_named};
 ghost use Rattle.vx_link.specs.CoreFiles.{core_count};
+ghost use Rattle.vx_link.specs.Names.{class_name, member};
+ghost use Rattle.vx_link.specs.Parts.{class_at};
 ghost use Rattle.vx_list.specs.Places.{item_or};
 ghost use Rattle.vx_heap.specs.First.{IsFirstHeap};
-ghost use Rattle.vx_heap.specs.Heap.{IsHeap, IsCellRead, IsStaticRead, IsStaticWritten, IsInitWritten, IsTextPut, KeepsPlain, has_options, heap_ids, init_of, is_held, literal_at, object_ids, object_in, static_of};
+ghost use Rattle.vx_heap.specs.Heap.{IsHeap, IsHeapFor, IsCellRead, IsStaticRead, IsStaticWritten, IsInitWritten, IsTextPut, KeepsPlain, class_at_slot, has_options, heap_ids, init_of, is_held, literal_at, object_ids, object_in, resolved_in, static_of};
 ghost use Rattle.vx_cond.specs.Slots.{slot_at};
 
 use crate::lifted::{lifted_objects, same_values, static_values};
@@ -19,8 +22,10 @@ use std::alloc::{AllocError, Global};
 use std::marker::Model;
 use vx_cond::{Cond, Projects};
 use vx_initial_heap::First;
+use vx_java::{class_named, name_of_entry};
 use vx_link::Program;
 use vx_list::Items;
+use vx_references::{class_table, owner_entry};
 use vx_space::{Space, SpaceFault};
 use vx_value::{ClassId, Exact, FieldId, InitState, Slot, TextTable};
 
@@ -33,6 +38,7 @@ pub struct Heap<S: Space> {
     texts: TextTable,
     allowed: S::Id,
     literals: Vec<Items<u64>>,
+    resolved: Vec<Items<Option<ClassId>>>,
     words: u64,
 }
 
@@ -41,7 +47,7 @@ impl<S: Space> Model for Heap<S> {
 
     ghost Value = { HeapView S S.Id };
 
-    ghost view = { λ h. record { objects = h.objects.items; statics = h.statics.items; inits = h.inits.items; texts = h.texts.texts; allowed = h.allowed; literals = h.literals.items; words = h.words } };
+    ghost view = { λ h. record { objects = h.objects.items; statics = h.statics.items; inits = h.inits.items; texts = h.texts.texts; allowed = h.allowed; literals = h.literals.items; resolved = h.resolved.items; words = h.words } };
 }
 
 impl<S: Space> Heap<S> {
@@ -64,6 +70,7 @@ impl<S: Space> Heap<S> {
         let statics = static_values(alloc, space, &first.statics, allowed)?;
         let objects = lifted_objects(alloc, space, &first.objects, allowed)?;
         let inits = same_values(alloc, space, &first.inits, allowed)?;
+        let resolved = class_table(alloc, program)?;
         let First {
             texts,
             literals,
@@ -77,6 +84,7 @@ impl<S: Space> Heap<S> {
             texts,
             allowed,
             literals,
+            resolved,
             words,
         })
     }
@@ -94,6 +102,19 @@ impl<S: Space> Heap<S> {
         ensures { result ≡ (object_in self.now reference).class }
     {
         self.objects[reference as usize].class
+    }
+
+    /// The class of the object that a slot names, or `None` where it names none. It takes any slot, so that a closure may ask it.
+    pub fn class_at(&self, slot: Slot) -> Option<ClassId>
+        ensures { result ≡ class_at_slot self.now slot }
+    {
+        match slot {
+            Slot::Ref(reference) => match self.objects.get(reference as usize) {
+                Some(object) => Some(object.class),
+                None => None,
+            },
+            _ => None,
+        }
     }
 
     /// The number of elements of an array, and 0 for another object.
@@ -127,6 +148,36 @@ impl<S: Space> Heap<S> {
         ensures { result ≡ literal_at self.now class.0 entry }
     {
         self.literals[class.0 as usize].as_slice()[entry as usize]
+    }
+
+    fn resolved_in(&self, class: ClassId, entry: u16) -> Option<Option<ClassId>>
+        ensures { result ≡ resolved_in self.now class.0 entry }
+    {
+        match self.resolved.get(class.0 as usize) {
+            Some(row) => row.get(entry as usize).copied(),
+            None => None,
+        }
+    }
+
+    /// The class that an entry of the pool of a class names in the program (JVMS 5.4.3.1). It was found when the heap was made.
+    pub fn resolved(&self, program: &Program, class: ClassId, entry: u16) -> Option<ClassId>
+        requires classes { HasClassNumbers program.now }
+        requires for_program { IsHeapFor program.now self.now }
+        ensures { result ≡ option_map as_class (class_named program.now (class_name (class_at program.now class.0).pool entry)) }
+    {
+        match self.resolved_in(class, entry) {
+            Some(found) => found,
+            None => class_named(program, name_of_entry(program, class, entry)),
+        }
+    }
+
+    /// The class that a member's entry of the pool of a class names, in which the member is looked for (JVMS 5.4.3.2, 5.4.3.3).
+    pub fn owner(&self, program: &Program, class: ClassId, entry: u16) -> Option<ClassId>
+        requires classes { HasClassNumbers program.now }
+        requires for_program { IsHeapFor program.now self.now }
+        ensures { result ≡ option_map as_class (class_named program.now (member (class_at program.now class.0).pool entry).class) }
+    {
+        self.resolved(program, class, owner_entry(program, class, entry))
     }
 
     /// The Integer object of a value from -128 to 127.

@@ -17,3 +17,4 @@ pub use first::First;
 pub use inits::first_inits;
 pub use objects::FirstObject;
 pub use statics::FirstStatic;
+pub use units::units_of;

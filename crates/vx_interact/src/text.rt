@@ -1,25 +1,14 @@
 //! The text of interactions.
 
-ghost use Rattle.std.specs.Prelude.{◌≡◌, ◌++◌, IfOk, OnOk, []};
+ghost use Rattle.std.specs.Prelude.{◌≡◌, ◌++◌, IfOk, OnOk};
 ghost use Rattle.std.specs.List.{flat_map};
-ghost use Rattle.vx_list.specs.Places.{item_or};
 ghost use Rattle.vx_interact.specs.Text.{entry_text, interactions_text, joined_names, kind_word};
 
 use crate::interaction::Interaction;
 use std::alloc::{AllocError, Global};
-use vx_report::Report;
+use vx_report::{Report, name_of};
 use vx_value::Name;
 use vx_words::put_number;
-
-/// The name of an option; one that isn't there has none.
-fn name_of(names: &[Name], option: u32) -> &[u8]
-    ensures { result.now ≡ item_or names.now option [] }
-{
-    match names.get(option as usize) {
-        Some(name) => name.bytes(),
-        None => &[],
-    }
-}
 
 /// Puts the names of options, joined by commas, or a dash for none.
 fn put_names(out: &mut Vec<u8>, names: &[Name], options: &[u32]) -> Result<(), AllocError>

@@ -1,7 +1,7 @@
 -- The row of the call at a state of its site, and what it means that it enters a method.
 use Rattle.std.proofs.Common.{◌≡◌, ℕ, Bool, true, false, List, [], ◌∷◌, refl, sym, ◌∙◌, ap, length, suc}
 use Rattle.std.proofs.lemmas.Slice.Eq.{bytes_eq-Decides}
-use Rattle.std.specs.Prelude.{Option, Some, ◌&&◌, bytes_eq, codes, nat_lt, not}
+use Rattle.std.specs.Prelude.{Option, Some, ◌&&◌, bytes_eq, codes, nat_lt, not, option_map}
 use Rattle.vx_families.specs.Attempts.{IsAttemptBy, IsGiven, MeetsUnbuilt, row_by}
 use Rattle.vx_families.proofs.AttemptLaws.{AttemptsBy-as}
 use Rattle.vx_families.specs.Built.{has_none, is_built, is_built_at, is_built_outcome, is_call, is_println, is_single, is_virtual}
@@ -10,6 +10,7 @@ use Rattle.vx_group.specs.Group.{GroupView}
 use Rattle.vx_heap.specs.Heap.{HeapView}
 use Rattle.vx_java.specs.Calls.{invoke, on_class, state_in_callee, wrong_kind}
 use Rattle.vx_java.specs.Checks.{same_bool, with_class}
+use Rattle.vx_java.specs.Ids.{as_class}
 use Rattle.vx_java.specs.Machine.{Frame, Here, Outcome, State, Go, current_class, depth, frame_bound, raise, when}
 use Rattle.vx_java.specs.Operation.{operation_of}
 use Rattle.vx_java.specs.Row.{row, row_if, row_in, row_of}
@@ -18,6 +19,7 @@ use Rattle.vx_java.specs.declared.operation.Mode.{Mode}
 use Rattle.vx_java.specs.declared.operation.Mode.TheVariants.{Interface, Special, Static, Virtual}
 use Rattle.vx_java.specs.declared.operation.Operation.{Operation}
 use Rattle.vx_java.specs.declared.operation.Operation.TheVariants.{Invoke}
+use Rattle.vx_link.specs.ClassNames.{class_named}
 use Rattle.vx_link.specs.Names.{Member, member}
 use Rattle.vx_link.specs.Parts.{class_at, is_interface, method_at}
 use Rattle.vx_opcode.specs.Decode.{instruction_at}
@@ -69,6 +71,12 @@ invoke_is h mode i e =
     let names = is_of_println (member h.pool i) parts.1 in
     λ j. by_member h (virtual j) (names j)
 
+-- the class that the entry of such a call names
+pub owner_println : {S I : Type 0} (site : Site) (group : GroupView S I) (mode : Mode) (i : ℕ) (operation : Operation) → operation ≡ Invoke mode i → is_built_call (pool_of site group) operation ≡ true → option_map as_class (class_named site.program.now (member (pool_of site group) i).class) ≡ option_map as_class (class_named site.program.now println.class)
+owner_println site group mode i operation is family =
+    let built = sym (ap (is_built_call (pool_of site group)) is) ∙ family in
+    ap (λ (m : Member). option_map as_class (class_named site.program.now m.class)) (is_of_println (member (pool_of site group) i) (both_parts (is_virtual mode) (is_println (member (pool_of site group) i)) built).1)
+
 -- the row at a state of the group
 pub row_by-is : {S I : Type 0} (site : Site) (sets : Sets I) (heap : HeapView S I) (tree : List (Option (Caller S I))) (group : GroupView S I) (mode : Mode) (i : ℕ) (operation : Operation) → operation ≡ Invoke mode i → is_built_call (pool_of site group) operation ≡ true → (c : List Bool) → row_by site operation (state_at sets heap tree group c) ≡ referenced (here site (state_at sets heap tree group c))
 row_by-is site sets heap tree group mode i operation is family c =
@@ -96,7 +104,7 @@ third_false true true c d e = ap (λ x. x && d) e
 third_false true false c d e = refl
 third_false false b c d e = refl
 
-first_false : (a b c d : Bool) → a ≡ false → (a && b && c && d) ≡ false
+pub first_false : (a b c d : Bool) → a ≡ false → (a && b && c && d) ≡ false
 first_false a b c d e = ap (λ x. x && b && c && d) e
 
 -- a state with one frame enters a second one

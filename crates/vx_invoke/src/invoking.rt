@@ -1,12 +1,13 @@
 //! The call of println of an int (JVMS 6.5 invokevirtual): what the name comes to is the same in all runs; then the group is
 //! divided by its receivers, and each part has one outcome.
 
-ghost use Rattle.std.specs.Prelude.{◌≡◌, ◌<◌, [], Err, IfOk, IfSome, IsNone, false, true};
+ghost use Rattle.std.specs.Prelude.{◌≡◌, ◌<◌, [], Err, IfOk, IfSome, IsNone, false, option_map, true};
 ghost use Rattle.vx_space.specs.Sets.{Sets, Extends};
 ghost use Rattle.vx_group.specs.Group.{path_of};
 ghost use Rattle.vx_java.specs.Calls.{call_instance};
-ghost use Rattle.vx_java.specs.Ids.{HasClassNumbers};
+ghost use Rattle.vx_java.specs.Ids.{HasClassNumbers, as_class};
 ghost use Rattle.vx_java.specs.declared.operation.Mode.TheVariants.{Virtual};
+ghost use Rattle.vx_link.specs.ClassNames.{class_named};
 ghost use Rattle.vx_group_states.specs.Sites.{Gives, GivesAt, here, IsSomewhere};
 ghost use Rattle.vx_families.specs.Attempts.{IsAttemptBy, IsGiven, MeetsUnbuilt};
 ghost use Rattle.vx_invoke.specs.Called.{AreReceivers, HasReceiver, IsCalling, IsRunning, SomeEnters, called, is_enter};
@@ -21,6 +22,7 @@ use vx_group::Group;
 use vx_group_states::{Site, illegal};
 use vx_heap::Heap;
 use vx_java::Operation;
+use vx_java::parts::class_of_method;
 use vx_outcome::{Outcome, Outcomes};
 use vx_references::{MethodReference, method_name, println_class, println_reference, println_text};
 use vx_space::{Space, SpaceFault};
@@ -167,20 +169,22 @@ fn instance_call<S: Space>(
     Ok(made)
 }
 
-/// All runs by what the name comes to.
+/// All runs by what the name comes to, where `owner` is the class that it names.
 fn referenced_call<S: Space>(
     alloc: Global,
     site: &Site,
     space: &mut S,
     heap: &Heap<S>,
     group: Group<S>,
+    owner: Option<ClassId>,
 ) -> Result<Option<Outcomes<S>>, SpaceFault>
     requires running { IsRunning site.now (S.sets space.old) heap.now group }
+    requires owner { owner ≡ option_map as_class (class_named site.now.program.now println.class) }
     ensures extends { Extends (S.sets space.old) (S.sets space.new) }
     ensures gives { IfOk result (λ r. IfSome r (λ o. GivesAt site.now.program.now (λ _ _ s. referenced (here site.now s)) (S.sets space.old) (S.sets space.new) group o.items.items heap.now)) }
     ensures enters { IfOk result (λ r. IsNone r → SomeEnters site.now (S.sets space.old) heap.now group (λ s. referenced (here site.now s))) }
 {
-    match println_reference(site.program) {
+    match println_reference(site.program, owner) {
         MethodReference::Found { named, resolved } => {
             let made = instance_call(alloc, site, space, heap, group, named, resolved)?;
             Ok(made)
@@ -225,10 +229,12 @@ pub fn attempt<S: Space>(
     ensures ok { IfOk result (λ r. IsAttemptBy site.now operation (S.sets space.old) (S.sets space.new) heap.now heap.now group r.items.items) }
     ensures not_yet { result ≡ Err AttemptFault.NotYet → MeetsUnbuilt site.now (S.sets space.old) heap.now group }
 {
-    let Operation::Invoke(_mode, _entry) = operation else {
+    let Operation::Invoke(_mode, entry) = operation else {
         unreachable!()
     };
-    match referenced_call(alloc, site, space, heap, group) {
+    let class = class_of_method(site.program, group.top_frame().method);
+    let owner = heap.owner(site.program, class, entry);
+    match referenced_call(alloc, site, space, heap, group, owner) {
         Ok(Some(outcomes)) => Ok(outcomes),
         Ok(None) => Err(AttemptFault::NotYet),
         Err(SpaceFault::NoMemory) => Err(AttemptFault::NoMemory),

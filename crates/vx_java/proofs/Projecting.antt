@@ -16,7 +16,8 @@ use Rattle.vx_value.specs.Ends.{compare_ends}
 use Rattle.vx_java.specs.Lockstep.{Shared, ConfigRun, Piece, Lockstep, groups_of, live_progress, key_at, member_after_round, run_after_round, first_key, lesser_key, output_of, piece_of, all_pieces_appended, compare_pieces, round, rounds_from, if_first, member_at_start, begun, lockstep}
 use Rattle.vx_java.specs.Report.{values_held, bytes_of, first_of, attempts_in, attempts_shown, projection_of, report_of, lock_report, projection_at}
 use Rattle.vx_java.proofs.Grouping.{values_at, grouped_other, grouped_own}
-use Rattle.vx_java.proofs.Orders.{nat_equal, end_equal, piece_equal}
+use Rattle.vx_end_order.proofs.EndOrder.{end_equal}
+use Rattle.vx_java.proofs.Orders.{nat_equal, piece_equal}
 use Rattle.vx_java.proofs.Members.{attempts_of, step_advances, runs_at, runs_at-stepped, added, appended_at, added_bytes, Moves, stays, steps_on, stepped_moves, rest_stays, left, total}
 use Rattle.vx_java.proofs.Rounds.{total_falls}
 

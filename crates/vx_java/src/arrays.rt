@@ -12,13 +12,14 @@ use vx_value::ClassId;
 const PRIMITIVE_ELEMENTS: u64 = 8;
 
 /// How many numbers the array classes of one number of dimensions take.
-fn elements(program: &Program) -> u64
+pub fn elements(program: &Program) -> u64
     ensures { result ≡ class_count program.now + 8 }
 {
     program.classes.as_slice().len() as u64 + PRIMITIVE_ELEMENTS
 }
 
-fn dimensions_of(program: &Program, class: ClassId) -> u64
+/// How many dimensions an array class has; a class that is no array has none.
+pub fn dimensions_of(program: &Program, class: ClassId) -> u64
     ensures { result ≡ dimensions_of program.now class.0 }
 {
     if !is_array(program, class) {
@@ -27,7 +28,8 @@ fn dimensions_of(program: &Program, class: ClassId) -> u64
     (u64::from(class.0) - program.classes.len() as u64) / elements(program) + 1
 }
 
-fn element_of(program: &Program, class: ClassId) -> u64
+/// The number of an array class's element among the elements of arrays, and of a class that is no array its own number among them.
+pub fn element_of(program: &Program, class: ClassId) -> u64
     ensures { result ≡ element_of program.now class.0 }
 {
     if !is_array(program, class) {

@@ -15,7 +15,7 @@ use vx_link::Program;
 use vx_value::{ClassId, MethodId};
 
 /// The name that a class entry of a class's pool has.
-fn name_of_entry(program: &Program, class: ClassId, index: u16) -> &[u8]
+pub fn name_of_entry(program: &Program, class: ClassId, index: u16) -> &[u8]
     ensures name { result.now ≡ class_name (class_at program.now class.0).pool index }
     ensures few { length result.now < 2 ^ 16 }
 {
@@ -50,7 +50,8 @@ fn takes(program: &Program, class: ClassId, row: Catch, thrown: ClassId) -> bool
     takes_class(program, thrown, named)
 }
 
-fn covers(row: Catch, position: u32) -> bool
+/// Whether a row covers a position: from its start on, and before its end.
+pub fn covers(row: Catch, position: u32) -> bool
     ensures { result ≡ covers row position }
 {
     u32::from(row.start) <= position && position < u32::from(row.end)

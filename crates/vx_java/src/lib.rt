@@ -3,7 +3,7 @@
 //! law that joins single runs with all runs side by side.
 #![tactic(auto)]
 
-mod arrays;
+pub mod arrays;
 mod assignability;
 pub mod decoding;
 mod fields;
@@ -26,13 +26,14 @@ mod specific;
 
 pub use assignability::assignable;
 pub use fields::resolve_field;
-pub use handlers::handler_for;
+pub use handlers::{covers, handler_for, name_of_entry};
+pub use hierarchy::is_superclass;
 pub use initialisation::{blocked, init_chain, quiet_chain};
 pub use law::lockstep_is_runs;
-pub use naming::{class_named, class_of_name};
+pub use naming::{class_in, class_named, class_of_name, class_of_type, object_id};
 pub use operation::{Element, Mode, Operation, Shuffle, Sort, Test};
 pub use places::place;
-pub use references::{MemberReference, member};
+pub use references::{MemberReference, member, member_by};
 pub use resolution::resolve_method;
 pub use selected::Selected;
 pub use selection::{select, select_special};

@@ -72,7 +72,7 @@ pub fn serializable_class(program: &Program) -> usize
 }
 
 /// The name of the class that a type of a descriptor is, behind its `[`.
-fn class_in<'a>(descriptor: &'a [u8], item: &JavaType) -> &'a [u8]
+pub fn class_in<'a>(descriptor: &'a [u8], item: &JavaType) -> &'a [u8]
     ensures { result.now ≡ class_in descriptor.now item.now }
 {
     let behind = descriptor.get(item.from as usize..).unwrap_or(&[]);
@@ -112,7 +112,8 @@ fn element_of(program: &Program, descriptor: &[u8], item: &JavaType) -> Option<u
     }
 }
 
-fn class_of_type(program: &Program, descriptor: &[u8], item: &JavaType) -> Option<ClassId>
+/// The class of a type of a descriptor, or `None` where it isn't there and for a primitive type. It looks at each class in turn.
+pub fn class_of_type(program: &Program, descriptor: &[u8], item: &JavaType) -> Option<ClassId>
     requires { HasClassNumbers program.now }
     ensures { result ≡ option_map as_class (class_of_type program.now descriptor.now item.now) }
 {

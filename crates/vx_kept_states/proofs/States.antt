@@ -2,22 +2,25 @@
 use Rattle.std.proofs.Common.{if◌then◌else◌, Bool, List, None, Option, Some, [], ap, cond, false, refl, subst, sym, true, ℕ, ◌∙◌, ◌∷◌, ◌≡◌}
 use Rattle.std.specs.Prelude.{nat_lt}
 use Rattle.vx_group.specs.Group.{GroupView, path_of}
+use Rattle.vx_group.specs.declared.callers.Caller.{Caller}
 use Rattle.vx_group_states.specs.Stands.{comes_to, state_at}
 use Rattle.vx_heap.specs.Heap.{HeapView}
-use Rattle.vx_java.specs.Machine.{State}
+use Rattle.vx_java.specs.Machine.{Begin, Ended, Ends, Go, Goes, Native, Next, Raise, State, Throw, Write}
 use Rattle.vx_java.specs.Machine.{Outcome as PlainOutcome}
 use Rattle.vx_java.specs.Row.{row}
 use Rattle.vx_java.specs.Step.{Live, Over, Progress, Run, RunResult, start, step}
+use Rattle.vx_java.specs.Throwing.{next_after_raise, next_after_throw}
 use Rattle.vx_kept_facts.proofs.Rows.{row_comes}
 use Rattle.vx_kept_facts.proofs.Runs.{RunStands, carried_out_comes, goes_on, is_throwing, kept, start_stands, step_stands}
-use Rattle.vx_kept_facts.proofs.Sites.{StandsAtPlace}
+use Rattle.vx_kept_facts.proofs.Sites.{MayCome, StandsAtPlace}
+use Rattle.vx_kept_facts.proofs.Unwinding.{NextStands, raised_stands, thrown_stands}
 use Rattle.vx_kept_facts.specs.Kept.{GoesOnPlaced, IsThrowing}
 use Rattle.vx_kept_facts.specs.Law.{IsRunnable}
 use Rattle.vx_kept_states.specs.ByRounds.{Begins, Follows, ComesByRounds, KeepsFrames, KeepsOutcomes}
 use Rattle.vx_link.specs.declared.program.Program.{Program}
 use Rattle.vx_outcome.specs.declared.outcome.Outcome.{Outcome}
 use Rattle.vx_space.specs.Sets.{Sets}
-use Rattle.vx_standing.specs.Attempted.{IsAttempted, carried_out_row}
+use Rattle.vx_standing.specs.Attempted.{IsAttempted, attempted_row, carried_out_row, outcome_of, thrown_out}
 use Rattle.vx_standing.specs.Rounds.{IsStart, after_round}
 use Rattle.vx_standing.specs.State.{AreRunning, Came, IsRunning, IsState, Runs, Standing, StateView, came_to, group_of, progress_at, result_at, standing_at, standing_if, standing_in, standing_of}
 
@@ -103,16 +106,35 @@ keeps_frames p whole allowed limit sets st is = record {
   kept = λ c group there. kept p (state_at sets st.heap st.tree group c) (group_stood p sets st c group (reached p whole allowed limit sets st is c) there);
 }
 
+-- what is thrown goes on in a frame that takes it, or ends
+next_placed : (p : Program) (n : Next) → NextStands p n → GoesOnPlaced p (outcome_of n)
+next_placed p (Goes s) stands = kept p s stands
+next_placed p (Ends end) stands = tt
+
+thrown_placed : (p : Program) → IsRunnable p → (o : PlainOutcome) → MayCome p o → GoesOnPlaced p (thrown_out p o)
+thrown_placed p whole (Raise class message s) may = next_placed p (next_after_raise p s class message) (raised_stands p whole s class message may.leaves.1.below may.leaves.1.classes)
+thrown_placed p whole (Throw r s) may = next_placed p (next_after_throw p s r) (thrown_stands p whole s r may.leaves.1.below may.leaves.1.classes)
+thrown_placed p whole (Go s) may = goes_on p (Go s) may
+thrown_placed p whole (Begin class s) may = goes_on p (Begin class s) may
+thrown_placed p whole (Native m s) may = goes_on p (Native m s) may
+thrown_placed p whole (Write stream units s) may = goes_on p (Write stream units s) may
+thrown_placed p whole (Ended end) may = tt
+
 pub keeps_outcomes : {S I : Type 0} (p : Program) → IsRunnable p → (allowed : I) (limit : ℕ) (sets : Sets I) (st : StateView S I) → ComesByRounds p allowed limit sets st → KeepsOutcomes p sets st
-keeps_outcomes {S = S} {I = I} p whole allowed limit sets st is = record { comes = comes }
+keeps_outcomes {S = S} {I = I} p whole allowed limit sets st is = record {
+  rows = λ c group there. (goes_on p (carried_out_row p (plain group c)) (may c group there), is_throwing p (carried_out_row p (plain group c)) (may c group there));
+  comes = comes;
+}
   where
-    comes : (new : Sets I) (after : HeapView S I) (group : GroupView S I) (outcomes : List (Outcome S I)) → IsAttempted p sets new st.heap after group outcomes
-        → (c : List Bool) → group_of sets st.groups c ≡ Some group → (o : PlainOutcome) → comes_to new after st.tree c outcomes ≡ Some o → GoesOnPlaced p o × IsThrowing p o
-    comes new after group outcomes attempted c there o says =
+    plain : GroupView S I → List Bool → State
+    plain group c = state_at sets st.heap st.tree group c
+
+    may : (c : List Bool) (group : GroupView S I) → group_of sets st.groups c ≡ Some group → MayCome p (carried_out_row p (plain group c))
+    may c group there = carried_out_comes p whole (row p (plain group c)) (row_comes p whole (plain group c) (group_stood p sets st c group (reached p whole allowed limit sets st is c) there))
+
+    comes : (new : Sets I) (after : HeapView S I) (later : List (Option (Caller S I))) (group : GroupView S I) (outcomes : List (Outcome S I)) → IsAttempted p sets new st.heap after st.tree later group outcomes
+        → (c : List Bool) → group_of sets st.groups c ≡ Some group → (o : PlainOutcome) → comes_to new after later c outcomes ≡ Some o → GoesOnPlaced p o
+    comes new after later group outcomes attempted c there o says =
         let running = running_there p sets st st.groups c group (state_reached p allowed limit sets st is).running there in
-        let plain : State = state_at sets st.heap st.tree group c in
-        let came = (attempted.attempts st.tree running.0.stands).came.at c running.1 in
-        let same : carried_out_row p plain ≡ o = some_is (carried_out_row p plain) o (sym came ∙ says) in
-        let stands = group_stood p sets st c group (reached p whole allowed limit sets st is c) there in
-        let may = carried_out_comes p whole (row p plain) (row_comes p whole plain stands) in
-        subst (λ o. GoesOnPlaced p o × IsThrowing p o) same (goes_on p (carried_out_row p plain) may, is_throwing p (carried_out_row p plain) may)
+        let same : attempted_row p (plain group c) ≡ o = some_is (attempted_row p (plain group c)) o (sym (attempted.attempts.came.at c running.1) ∙ says) in
+        subst (GoesOnPlaced p) same (thrown_placed p whole (carried_out_row p (plain group c)) (may c group there))

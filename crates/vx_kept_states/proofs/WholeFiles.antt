@@ -16,6 +16,7 @@ use Rattle.vx_link.specs.CoreTable.{core_table}
 use Rattle.vx_link.specs.Names.{utf8}
 use Rattle.vx_link.specs.Written.{WrittenClass, class_file}
 use Rattle.vx_pool.specs.declared.pool.Pool.{Pool}
+use Rattle.vx_program_bounds.proofs.ShortCore.{all_rows}
 
 -- a <clinit> has code
 abbrev pub begins_class : Pool → Method → Bool
@@ -88,9 +89,6 @@ exception_rows = refl
 
 error_rows : list_all is_whole_row (take 11 (drop 35 core_table)) ≡ true
 error_rows = refl
-
-all_rows : take 46 core_table ≡ core_table
-all_rows = refl
 
 pub whole_core : list_all is_whole_file core_files ≡ true
 whole_core =

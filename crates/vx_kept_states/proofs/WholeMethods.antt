@@ -18,6 +18,7 @@ use Rattle.vx_link.specs.declared.program.LinkedClass.{LinkedClass}
 use Rattle.vx_link.specs.declared.program.LinkedMethod.{LinkedMethod}
 use Rattle.vx_list.specs.Places.{item_or}
 use Rattle.vx_pool.specs.declared.pool.Pool.{Pool}
+use Rattle.vx_program_bounds.proofs.MainRoom.{count_methods, count_of_class}
 
 -- ---- codes
 
@@ -50,20 +51,6 @@ codes_have_bytes class (c ∷ files) (ns ∷ numbers) all =
     ∙ both_true (bytes_in_class class c ns (and_true _ _ all).0) (codes_have_bytes (suc class) files numbers (and_true _ _ all).1)
 
 -- ---- the methods of a class by their places
-
-count_methods : (class : ℕ) (pool : Pool) (methods : List Method) (numbers : List ℕ) → length (linked_methods class pool methods numbers) ≡ length methods
-count_methods class pool [] numbers = refl
-count_methods class pool (m ∷ methods) [] = ap suc (count_methods class pool methods [])
-count_methods class pool (m ∷ methods) (n ∷ numbers) = ap suc (count_methods class pool methods numbers)
-
-count_with_clinit : (class n : ℕ) (own : Bool) (methods : List LinkedMethod) → length methods ≡ n
-    → length (methods ++ (if own then [] else empty_clinit class ∷ [])) ≡ (if own then n else n + 1)
-count_with_clinit class n true methods same = length-append methods [] ∙ omega (arith, same)
-count_with_clinit class n false methods same = length-append methods (empty_clinit class ∷ []) ∙ ap (λ k. k + 1) same
-
-pub count_of_class : (class : ℕ) (c : ClassFile) (numbers : List ℕ) → length (methods_of_class class c numbers) ≡ method_count c
-count_of_class class c numbers =
-    count_with_clinit class (length c.methods) (is_some (own_clinit c)) (linked_methods class c.pool c.methods numbers) (count_methods class c.pool c.methods numbers)
 
 -- the code of a method by its place
 code_there : (class : ℕ) (pool : Pool) (methods : List Method) (numbers : List ℕ) (rest : List LinkedMethod) (k : ℕ) (m : Method) → slice_get methods k ≡ Some m

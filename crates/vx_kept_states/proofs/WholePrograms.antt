@@ -1,9 +1,9 @@
 -- The program of class files that a reading can give is whole.
-use Rattle.std.proofs.Common.{All, Bool, Err, List, None, Ok, Option, Result, Some, [], ap, append-nil, arith, false, is_some, length, length-append, map, refl, slice_get, subst, sym, true, unwrap_or, ℕ, ◌++◌, ◌+◌, ◌<◌, ◌≤◌, ◌∙◌, ◌≡◌}
+use Rattle.std.proofs.Common.{All, List, None, Ok, Option, Some, [], ap, append-nil, arith, is_some, length, length-append, map, refl, slice_get, subst, sym, true, unwrap_or, ℕ, ◌++◌, ◌+◌, ◌<◌, ◌≤◌, ◌∙◌, ◌≡◌}
 use Rattle.std.proofs.lemmas.List.{length-map}
 use Rattle.std.proofs.lemmas.List.Folds.{list_all-append}
 use Rattle.std.specs.Cmp.Derive.{both_true}
-use Rattle.std.specs.List.{find, list_all, list_any}
+use Rattle.std.specs.List.{find, list_all}
 use Rattle.std.specs.Option.{option_or}
 use Rattle.vx_class.specs.File.{Holds}
 use Rattle.vx_class.specs.declared.class_file.ClassFile.{ClassFile}
@@ -19,48 +19,24 @@ use Rattle.vx_kept_states.proofs.WholeFiles.{is_whole_file, whole_core, whole_fi
 use Rattle.vx_kept_states.proofs.WholeMethods.{begins_in, classes_begin, codes_have_bytes}
 use Rattle.vx_link.specs.CoreFiles.{core_count, core_files, native_numbers}
 use Rattle.vx_link.specs.CoreTable.{core_table}
-use Rattle.vx_link.specs.Faults.{bad_super, cycle, file_named, is_main, link_fault, no_main, no_option, passes, twice}
+use Rattle.vx_link.specs.Faults.{link_fault, twice}
 use Rattle.vx_link.specs.Linked.{is_main_method, linked_classes, linked_program, methods_from, methods_named, program_of, unless_fault}
 use Rattle.vx_link.specs.Parts.{class_count, no_method}
 use Rattle.vx_link.specs.Tables.{names_of}
 use Rattle.vx_link.specs.Written.{WrittenClass, class_file}
-use Rattle.vx_link.specs.declared.fault.LinkFault.{LinkFault}
-use Rattle.vx_link.specs.declared.fault.LinkFault.TheVariants.{NoMain}
 use Rattle.vx_link.specs.declared.program.LinkedMethod.{LinkedMethod}
 use Rattle.vx_link.specs.declared.program.Program.{Program}
 use Rattle.vx_list.specs.Places.{item_or}
 use Rattle.vx_model.specs.declared.model.OptionField.{OptionField}
-use Rattle.vx_program_bounds.proofs.ListLaws.{last_none}
+use Rattle.vx_program_bounds.proofs.Bounded.{main_declared, no_fault}
 use Rattle.vx_program_bounds.proofs.MainRoom.{HasMain, main_among}
 use Rattle.vx_program_bounds.proofs.ShortParts.{count_classes}
 
 -- ---- no fault
 
-no_fault : (fault : Option LinkFault) (made p : Program) → unless_fault fault made ≡ Ok p → (fault ≡ None) × (made ≡ p)
-no_fault None made p is = (refl, ap (program_in made) is)
-  where
-    program_in : Program → Result Program LinkFault → Program
-    program_in other (Ok p) = p
-    program_in other (Err fault) = other
-no_fault (Some fault) made p is = cc
-
 first_none : {A : Type 0} (first last : Option A) → option_or first last ≡ None → first ≡ None
 first_none None last is = refl
 first_none (Some x) last is = cc
-
-main_there : (b : Bool) → ◌≡◌ {A = Option LinkFault} (elim b [ true ↦ None | false ↦ Some NoMain ]) None → b ≡ true
-main_there true is = refl
-main_there false is = cc
-
-main_declared : (classes core : List ClassFile) (options : List OptionField) (main : List ℕ) → link_fault classes core options main ≡ None
-    → passes (λ c. list_any (is_main c) c.methods) (file_named classes main) ≡ true
-main_declared classes core options main is =
-    main_there
-    (passes (λ c. list_any (is_main c) c.methods) (file_named classes main))
-    (last_none (no_option classes options) (no_main classes main)
-    (last_none (cycle (classes ++ core) classes) _
-    (last_none (bad_super (classes ++ core) classes) _
-    (last_none (twice core classes) _ is))))
 
 -- ---- main
 

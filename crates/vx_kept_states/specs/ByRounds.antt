@@ -1,6 +1,7 @@
 -- What holds of every state that rounds lead to (own).
-use Rattle.std.specs.Prelude.{Bool, List, Some, ℕ, ◌≡◌}
+use Rattle.std.specs.Prelude.{Bool, List, Option, Some, ℕ, ◌≡◌}
 use Rattle.vx_group.specs.Group.{GroupView}
+use Rattle.vx_group.specs.declared.callers.Caller.{Caller}
 use Rattle.vx_group_states.specs.Stands.{comes_to, state_at}
 use Rattle.vx_heap.specs.Heap.{HeapView}
 use Rattle.vx_java.specs.Machine.{Outcome as PlainOutcome}
@@ -8,7 +9,7 @@ use Rattle.vx_kept_facts.specs.Kept.{GoesOnPlaced, HasPlacedFrames, IsThrowing}
 use Rattle.vx_link.specs.declared.program.Program.{Program}
 use Rattle.vx_outcome.specs.declared.outcome.Outcome.{Outcome}
 use Rattle.vx_space.specs.Sets.{Sets}
-use Rattle.vx_standing.specs.Attempted.{IsAttempted}
+use Rattle.vx_standing.specs.Attempted.{IsAttempted, carried_out_row}
 use Rattle.vx_standing.specs.Rounds.{IsRound, IsStart}
 use Rattle.vx_standing.specs.State.{StateView, group_of}
 
@@ -22,7 +23,10 @@ pub data ComesByRounds {S I : Type 0} (p : Program) (allowed : I) (limit : ℕ) 
 pub record KeepsFrames {S I : Type 0} (p : Program) (sets : Sets I) (st : StateView S I) : Type 0 where
   pub kept : (c : List Bool) (group : GroupView S I) → group_of sets st.groups c ≡ Some group → HasPlacedFrames p (state_at sets st.heap st.tree group c)
 
--- what an attempt of a group of the state comes to at a configuration of it keeps this too; and what it raises is Throwable or a class below it, as is the class of what it throws
+-- what the row at a configuration of a group comes to, with natives and beginnings carried out, keeps this too, and what it raises is Throwable or a class below it, as is the class of what it throws; and what an attempt of the group comes to there keeps it
 pub record KeepsOutcomes {S I : Type 0} (p : Program) (sets : Sets I) (st : StateView S I) : Type 0 where
-  pub comes : (new : Sets I) (after : HeapView S I) (group : GroupView S I) (outcomes : List (Outcome S I)) → IsAttempted p sets new st.heap after group outcomes
-      → (c : List Bool) → group_of sets st.groups c ≡ Some group → (o : PlainOutcome) → comes_to new after st.tree c outcomes ≡ Some o → GoesOnPlaced p o × IsThrowing p o
+  pub rows : (c : List Bool) (group : GroupView S I) → group_of sets st.groups c ≡ Some group
+      → GoesOnPlaced p (carried_out_row p (state_at sets st.heap st.tree group c)) × IsThrowing p (carried_out_row p (state_at sets st.heap st.tree group c))
+  pub comes : (new : Sets I) (after : HeapView S I) (later : List (Option (Caller S I))) (group : GroupView S I) (outcomes : List (Outcome S I))
+      → IsAttempted p sets new st.heap after st.tree later group outcomes
+      → (c : List Bool) → group_of sets st.groups c ≡ Some group → (o : PlainOutcome) → comes_to new after later c outcomes ≡ Some o → GoesOnPlaced p o

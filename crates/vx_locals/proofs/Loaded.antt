@@ -1,7 +1,7 @@
 -- What a group comes to by the kind of the constant that it loads.
-use Rattle.std.proofs.Common.{◌≡◌, ℕ, Bool, true, List, refl, sym, ◌∙◌, ap}
-use Rattle.std.specs.Prelude.{Option, Some, None, codes, option_map}
-use Rattle.vx_code.specs.Lookups.{entry_of}
+use Rattle.std.proofs.Common.{◌≡◌, ℕ, Bool, true, List, [], refl, sym, ◌∙◌, ap}
+use Rattle.std.specs.Prelude.{Option, Some, None, codes, option_and_then, option_map, unwrap_or}
+use Rattle.vx_code.specs.Lookups.{class, entry_of, text}
 use Rattle.vx_pool.specs.declared.pool.Entry.{Entry}
 use Rattle.vx_pool.specs.declared.pool.Entry.TheVariants as entry
 use Rattle.vx_value.specs.declared.ids.ClassId.{ClassId}
@@ -20,13 +20,15 @@ use Rattle.vx_java.specs.Machine.{Here, illegal, illegal_in, push, unsupported, 
 use Rattle.vx_java.specs.Machine.{Ref as RefValue}
 use Rattle.vx_java.specs.Operation.{class_word, constant_word, float_word}
 use Rattle.vx_link.specs.ClassNames.{class_named}
-use Rattle.vx_link.specs.Names.{utf8}
+use Rattle.vx_link.specs.Names.{class_name, utf8}
 use Rattle.vx_link.specs.Parts.{class_at, method_at}
 use Rattle.vx_outcome.specs.declared.outcome.Outcome.{Outcome}
 use Rattle.vx_group_states.specs.Sites.{GivesAt, here}
 use Rattle.vx_group_states.specs.Stands.{state_at}
 use Rattle.vx_group_states.specs.declared.site.Site.{Site}
 use Rattle.vx_group_states.proofs.EndingLaws.{GivesAt-before}
+use Rattle.vx_link.specs.declared.program.Program.{Program}
+use Rattle.vx_pool.specs.declared.pool.Pool.{Pool}
 use Rattle.vx_locals.specs.Constants.{constant_of}
 use Rattle.vx_locals.specs.declared.constant.Constant.TheVariants.{Class, LeftOut, Literal, Number, Unloadable}
 use Rattle.vx_locals.proofs.Literals.{literal_is, literal_named}
@@ -129,3 +131,7 @@ none_named (Some n) r e h = cc
 pub some_named : (o : Option ℕ) (r : Option ClassId) (c : ClassId) → r ≡ option_map as_class o → r ≡ Some c → (n : ℕ) × (o ≡ Some n)
 some_named None r c e h = cc
 some_named (Some n) r c e h = (n, refl)
+
+-- the class that the entry of a class names
+pub class_resolved : (p : Program) (pool : Pool) (index name : ℕ) → constant_of (entry_of pool index) ≡ Class name → option_map as_class (class_named p (class_name pool index)) ≡ option_map as_class (class_named p (utf8 pool name))
+class_resolved p pool index name e = ap (λ o. option_map as_class (class_named p (unwrap_or (option_and_then (text pool) (class o)) []))) (class_entry (entry_of pool index) name e)

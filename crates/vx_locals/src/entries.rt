@@ -22,7 +22,6 @@ use vx_families::{CLASS_WORD, unsupported};
 use vx_group::Group;
 use vx_group_states::{Site, illegal};
 use vx_heap::Heap;
-use vx_java::class_named;
 use vx_java::parts::class_of_method;
 use vx_outcome::Outcomes;
 use vx_space::{Space, SpaceFault};
@@ -65,10 +64,10 @@ fn push_class<S: Space>(
     ensures extends { Extends (S.sets space.old) (S.sets space.new) }
     ensures gives { IfOk result (λ r. GivesAt site.now.program.now (λ _ _ s. push_entry_of (here site.now s) (entry_of (here site.now s).pool index)) (S.sets space.old) (S.sets space.new) group r.items.items heap.now) }
 {
-    let text = text_of(site.program, class, name);
-    match class_named(site.program, text) {
+    let resolved = heap.resolved(site.program, class, index);
+    match resolved {
         None => {
-            let what = Name::of(alloc, text)?;
+            let what = Name::of(alloc, text_of(site.program, class, name))?;
             unsupported(alloc, site.program, &group, CLASS_WORD, what)
         }
         Some(_) => push_literal(alloc, site, space, heap, group, class, index),

@@ -11,7 +11,7 @@ use Rattle.vx_lockstep.proofs.Grouped.{are_met, grouped, pairs_of-same, shared_i
 use Rattle.vx_lockstep.proofs.LockRounds.{AreStanding}
 use Rattle.vx_lockstep.proofs.Standings.{not_came}
 use Rattle.vx_lockstep.specs.Findings.{AreAllowed, piece_by, report_by, shared_by}
-use Rattle.vx_findings.specs.Orders.{end_total}
+use Rattle.vx_end_order.proofs.EndOrder.{end_total}
 use Rattle.vx_findings.specs.Shared.{leaves_of}
 use Rattle.vx_findings.specs.declared.shared.Shared.{Shared}
 use Rattle.vx_java.specs.Lockstep.{groups_of, live_progress}

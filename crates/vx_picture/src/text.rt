@@ -1,14 +1,13 @@
 //! The text of a picture in the language DOT of Graphviz.
 
-ghost use Rattle.std.specs.Prelude.{◌≡◌, ◌++◌, IfOk, OnOk, codes, decimal, []};
+ghost use Rattle.std.specs.Prelude.{◌≡◌, ◌++◌, IfOk, OnOk};
 ghost use Rattle.std.specs.List.{flat_map};
-ghost use Rattle.vx_list.specs.Places.{item_or};
 ghost use Rattle.vx_picture.specs.Text.{always_text, arrow_text, box_name, box_style, box_text, box_word, edge_text, ellipse_text, is_marked, label_text, picture_text, quoted_byte, style};
 
 use crate::shape::{Edge, Ellipse, Picture};
 use crate::subject::Subject;
 use std::alloc::{AllocError, Global};
-use vx_report::Report;
+use vx_report::{Report, name_of};
 use vx_value::Name;
 use vx_words::put_number;
 
@@ -47,16 +46,6 @@ fn put_label(out: &mut Vec<u8>, label: &[u8]) -> Result<(), AllocError>
     out.extend_from_slice(b" [label=\"")?;
     put_quoted(out, label)?;
     out.extend_from_slice(b"\"")
-}
-
-/// The name of an option; one that isn't there has none.
-pub fn name_of(names: &[Name], option: u32) -> &[u8]
-    ensures { result.now ≡ item_or names.now option [] }
-{
-    match names.get(option as usize) {
-        Some(name) => name.bytes(),
-        None => &[],
-    }
 }
 
 /// Puts an ellipse with the name of its option.

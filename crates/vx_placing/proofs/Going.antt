@@ -8,11 +8,12 @@ use Rattle.vx_space.specs.Sets.{Sets, Extends}
 use Rattle.vx_cond.specs.Cond.{Conditional, IsCond, cond_at}
 use Rattle.vx_cond.specs.Leaves.{AreLeaves, AreLeavesOf, IsApart, value_at, value_under}
 use Rattle.vx_cond.proofs.LeafLaws.{value_at-extends}
+use Rattle.vx_group.specs.declared.callers.Caller.{Caller}
+use Rattle.vx_group.specs.Callers.{Keeps}
 use Rattle.vx_group.specs.Group.{GroupView, IsPartOf, attempts_at, path_of}
 use Rattle.vx_group.proofs.GroupLaws.{IsGroupIn-group, IsGroup-attempts, IsGroup-path_known, attempts_at-extends}
 use Rattle.vx_heap.specs.Heap.{HeapView, IsHeap}
 use Rattle.vx_heap.proofs.HeapLaws.{IsHeap-extends}
-use Rattle.vx_families.specs.Built.{is_call}
 use Rattle.vx_findings.specs.Orders.{piece_cmp}
 use Rattle.vx_findings.specs.Shared.{leaves_of}
 use Rattle.vx_findings.specs.declared.piece.Piece.{Piece}
@@ -55,8 +56,8 @@ used_in sets group used c = sets.test (path_of group) c && sets.test used c
 abbrev pub left_in : {S I : Type 0} → Sets I → GroupView S I → I → List Bool → Bool
 left_in sets group used c = sets.test (path_of group) c && not (sets.test used c)
 
-pub part_attempts : {S I : Type 0} (p : Program) {s0 s1 : Sets I} → Extends s0 s1 → (heap : HeapView S I) → IsHeap s0 heap → (set : List Bool → Bool) (group part : GroupView S I) → ((c : List Bool) → set c ≡ true → s0.test (path_of group) c ≡ true) → StandsIn p s0 heap [] group → IsPartOf s0 s1 set group part → (c : List Bool) → s1.test (path_of part) c ≡ true → attempts_at s1 part c ≡ attempts_at s0 group c
-part_attempts p e heap v set group part h s q c t = (Continues-part p [] e heap v set group part h s q).attempts c t
+pub part_attempts : {S I : Type 0} (p : Program) {s0 s1 : Sets I} {tree : List (Option (Caller S I))} → Extends s0 s1 → (heap : HeapView S I) → IsHeap s0 heap → (set : List Bool → Bool) (group part : GroupView S I) → ((c : List Bool) → set c ≡ true → s0.test (path_of group) c ≡ true) → StandsIn p s0 heap tree group → IsPartOf s0 s1 set group part → (c : List Bool) → s1.test (path_of part) c ≡ true → attempts_at s1 part c ≡ attempts_at s0 group c
+part_attempts p {tree = tree} e heap v set group part h s q c t = (Continues-part p tree e heap v set group part h s q).attempts c t
 
 at_most : (a n : ℕ) → a ≤ n → a ≢ n → a < n
 at_most a n h k = cases (nat_lt a n) refl
@@ -69,8 +70,8 @@ at_most a n h k = cases (nat_lt a n) refl
         same f = grind (arith, nat_tests)
 
 -- those that have attempts left
-pub left_attempts : {S I : Type 0} (p : Program) {s0 s1 s2 : Sets I} → Extends s0 s1 → Extends s1 s2 → (heap : HeapView S I) → IsHeap s0 heap → (limit : ℕ) (group going : GroupView S I) (used : I) → StandsIn p s0 heap [] group → IsUsedUp s0 group.attempts limit (Some used) → ((c : List Bool) → s0.test (path_of group) c ≡ true → attempts_at s0 group c ≤ limit) → IsPartOf s0 s1 (left_in s0 group used) group going → (c : List Bool) → s2.test (path_of going) c ≡ true → attempts_at s2 going c < limit
-left_attempts p {s0 = s0} {s1 = s1} {s2 = s2} e1 e2 heap v limit group going used s u b q c t =
+pub left_attempts : {S I : Type 0} (p : Program) {s0 s1 s2 : Sets I} {tree : List (Option (Caller S I))} → Extends s0 s1 → Extends s1 s2 → (heap : HeapView S I) → IsHeap s0 heap → (limit : ℕ) (group going : GroupView S I) (used : I) → StandsIn p s0 heap tree group → IsUsedUp s0 group.attempts limit (Some used) → ((c : List Bool) → s0.test (path_of group) c ≡ true → attempts_at s0 group c ≤ limit) → IsPartOf s0 s1 (left_in s0 group used) group going → (c : List Bool) → s2.test (path_of going) c ≡ true → attempts_at s2 going c < limit
+left_attempts p {s0 = s0} {s1 = s1} {s2 = s2} {tree = tree} e1 e2 heap v limit group going used s u b q c t =
     let is_group = IsPartOf-group s0 s1 (left_in s0 group used) group going q in
     let there = sym (e2.test (path_of going) c (IsGroup-path_known s1 going is_group)) ∙ t in
     let inside = sym (part_path s0 s1 (left_in s0 group used) group going q c) ∙ there in
@@ -83,7 +84,7 @@ left_attempts p {s0 = s0} {s1 = s1} {s2 = s2} e1 e2 heap v limit group going use
     off false h = refl
 
     IsGroup-some : (c : List Bool) → s0.test (path_of group) c ≡ true → cond_at s0 group.attempts c ≡ Some (attempts_at s0 group c)
-    IsGroup-some c t = some_inside s0 group.attempts c (IsGroup-attempts s0 group (IsGroupIn-group s0 [] group s.is_group)) t
+    IsGroup-some c t = some_inside s0 group.attempts c (IsGroup-attempts s0 group (IsGroupIn-group s0 tree group s.is_group)) t
 
     other : (o : Option ℕ) → o ≡ Some (attempts_at s0 group c) → o ≢ Some limit → attempts_at s0 group c ≢ limit
     other o k f h = f (k ∙ ap Some h)
@@ -94,6 +95,7 @@ left_attempts p {s0 = s0} {s1 = s1} {s2 = s2} e1 e2 heap v limit group going use
 pub used_same : {S I : Type 0} (p : Program) (old new : Sets I) (heap : HeapView S I) (limit : ℕ) (made : List Bool → ℕ) (a b : List Bool → Option Next) (before after : Round S I) → ((c : List Bool) → (a c ≡ b c) ⊎ ((s : State) × (made c ≡ limit) × (a c ≡ Some (Ends Unfinished)) × (b c ≡ Some (Goes s)))) → IsPut p old new heap limit made a before after → IsPut p old new heap limit made b before after
 used_same {S = S} {I = I} p old new heap limit made a b before after h q = record {
   underway = q.underway;
+  keeps = q.keeps;
   waits = λ c. q.waits c ∙ waits c (h c) (waiting_at old heap before.callers before.groups.items c);
   ends = λ c. q.ends c ∙ ends c (h c) (value_at old (leaves_of before.ends.items) c);
   spent = λ c. q.spent c ∙ spent c (h c) (value_at old (leaves_of before.spent.items) c);
@@ -146,30 +148,26 @@ left_vacant {S = S} {I = I} p {s0 = s0} {s1 = s1} {s2 = s2} e1 e2 heap v limit g
     none true h = cc h
     none false h = refl
 
-pub left_stands : {S I : Type 0} (p : Program) {s0 s1 s2 : Sets I} → Extends s0 s1 → Extends s1 s2 → (heap : HeapView S I) → IsHeap s0 heap → (group going : GroupView S I) (used : I) → StandsIn p s0 heap [] group → IsPartOf s0 s1 (left_in s0 group used) group going → StandsIn p s2 heap [] going
-left_stands p {s0 = s0} e1 e2 heap v group going used s q =
-    StandsIn-extends p [] e2 heap (IsHeap-extends e1 heap v) going (StandsIn-part p [] e1 heap v (left_in s0 group used) group going (λ c t. both_first (s0.test (path_of group) c) (not (s0.test used c)) t) s q)
-
-pub part_kind : {S I : Type 0} (s0 s1 : Sets I) (set : List Bool → Bool) (group part : GroupView S I) → IsPartOf s0 s1 set group part → is_call group.top.kind ≡ true → is_call part.top.kind ≡ true
-unfolding IsPartOf
-part_kind s0 s1 set group part q k = ap (λ s. is_call s.part.kind) q.shape ∙ k
+pub left_stands : {S I : Type 0} (p : Program) {s0 s1 s2 : Sets I} {tree : List (Option (Caller S I))} → Extends s0 s1 → Extends s1 s2 → (heap : HeapView S I) → IsHeap s0 heap → (group going : GroupView S I) (used : I) → StandsIn p s0 heap tree group → IsPartOf s0 s1 (left_in s0 group used) group going → StandsIn p s2 heap tree going
+left_stands p {s0 = s0} {tree = tree} e1 e2 heap v group going used s q =
+    StandsIn-extends p tree e2 heap (IsHeap-extends e1 heap v) going (StandsIn-part p tree e1 heap v (left_in s0 group used) group going (λ c t. both_first (s0.test (path_of group) c) (not (s0.test used c)) t) s q)
 
 -- both parts
-pub IsPut-parted : {S I : Type 0} (p : Program) {s0 s1 s2 : Sets I} (s3 : Sets I) → Extends s0 s1 → Extends s1 s2 → (heap : HeapView S I) → IsHeap s0 heap → (limit : ℕ) (group done going : GroupView S I) (used : I) (before middle after : Round S I) → StandsIn p s0 heap [] group → IsUsedUp s0 group.attempts limit (Some used) → IsUnderway p s0 heap limit before → IsVacant s0 before (s0.test (path_of group)) → IsPartOf s0 s1 (used_in s0 group used) group done → IsPartOf s0 s1 (left_in s0 group used) group going → IsEnded s1 s2 done.attempts (path_of done) Unfinished before middle → IsPut p s2 s3 heap limit (attempts_at s2 going) (leads_in s2 (path_of going) (λ c. Goes (state_at s2 heap [] going c))) middle after → IsPut p s0 s3 heap limit (attempts_at s0 group) (leads_in s0 (path_of group) (λ c. Goes (state_at s0 heap [] group c))) before after
+pub IsPut-parted : {S I : Type 0} (p : Program) {s0 s1 s2 : Sets I} (s3 : Sets I) → Extends s0 s1 → Extends s1 s2 → (heap : HeapView S I) → IsHeap s0 heap → (limit : ℕ) (group done going : GroupView S I) (used : I) (before middle after : Round S I) → StandsIn p s0 heap before.callers group → IsUsedUp s0 group.attempts limit (Some used) → IsUnderway p s0 heap limit before → IsVacant s0 before (s0.test (path_of group)) → IsPartOf s0 s1 (used_in s0 group used) group done → IsPartOf s0 s1 (left_in s0 group used) group going → IsEnded s1 s2 done.attempts (path_of done) Unfinished before middle → IsPut p s2 s3 heap limit (attempts_at s2 going) (leads_in s2 (path_of going) (λ c. Goes (state_at s2 heap middle.callers going c))) middle after → IsPut p s0 s3 heap limit (attempts_at s0 group) (leads_in s0 (path_of group) (λ c. Goes (state_at s0 heap before.callers group c))) before after
 IsPut-parted {S = S} {I = I} p {s0 = s0} {s1 = s1} {s2 = s2} s3 e1 e2 heap v limit group done going used before middle after s uu u n qd qg k q =
     let going_is = IsPartOf-group s0 s1 (left_in s0 group used) group going qg in
     let known = IsGroup-path_known s1 going going_is in
     let ends = leads_in s1 (path_of done) (λ _. Ends Unfinished) in
-    let goes = leads_in s2 (path_of going) (λ c. Goes (state_at s2 heap [] going c)) in
+    let goes = leads_in s2 (path_of going) (λ c. Goes (state_at s2 heap middle.callers going c)) in
     let first = IsPut-same p s0 s2 heap limit (made_at s1 done.attempts) (attempts_at s0 group) ends ends before middle (λ c. refl)
     (λ c l h. part_attempts p e1 heap v (used_in s0 group used) group done (λ d t. both_first (s0.test (path_of group) d) (s0.test used d) t) s qd c (holds (s1.test (path_of done) c) l (Ends Unfinished) h))
     (IsPut-before p s2 e1 heap v limit (made_at s1 done.attempts) ends before middle u (used_put p e1 e2 heap v limit group done used before middle u n qd k)) in
     let second = IsPut-same p s2 s3 heap limit (attempts_at s2 going) (attempts_at s0 group) goes goes middle after (λ c. refl)
-    (λ c l h. attempts_at-extends e2 going going_is c ∙ part_attempts p e1 heap v (left_in s0 group used) group going (λ d t. both_first (s0.test (path_of group) d) (not (s0.test used d)) t) s qg c (sym (e2.test (path_of going) c known) ∙ holds (s2.test (path_of going) c) l (Goes (state_at s2 heap [] going c)) h)) q in
-    used_same p s0 s3 heap limit (attempts_at s0 group) (λ c. option_or (goes c) (ends c)) (leads_in s0 (path_of group) (λ c. Goes (state_at s0 heap [] group c))) before after
+    (λ c l h. attempts_at-extends e2 going going_is c ∙ part_attempts p e1 heap v (left_in s0 group used) group going (λ d t. both_first (s0.test (path_of group) d) (not (s0.test used d)) t) s qg c (sym (e2.test (path_of going) c known) ∙ holds (s2.test (path_of going) c) l (Goes (state_at s2 heap middle.callers going c)) h)) q in
+    used_same p s0 s3 heap limit (attempts_at s0 group) (λ c. option_or (goes c) (ends c)) (leads_in s0 (path_of group) (λ c. Goes (state_at s0 heap before.callers group c))) before after
     (λ c. cases c (s0.test (path_of group) c) (s0.test used c) (s1.test (path_of done) c) (s2.test (path_of going) c)
     (λ h. ap (λ o. unwrap_or o 0) ((uu.1 c).0 h))
-    (λ h. state_at-extends [] e2 heap (IsHeap-extends e1 heap v) going (StandsIn-part p [] e1 heap v (left_in s0 group used) group going (λ d t. both_first (s0.test (path_of group) d) (not (s0.test used d)) t) s qg).is_group c ∙ state_at-part p [] e1 heap v (left_in s0 group used) group going s qg c h)
+    (λ h. ap (λ tree. state_at s2 heap tree going c) k.callers ∙ state_at-extends before.callers e2 heap (IsHeap-extends e1 heap v) going (StandsIn-part p before.callers e1 heap v (left_in s0 group used) group going (λ d t. both_first (s0.test (path_of group) d) (not (s0.test used d)) t) s qg).is_group c ∙ state_at-part p before.callers e1 heap v (left_in s0 group used) group going s qg c h)
     (part_path s0 s1 (used_in s0 group used) group done qd c)
     (e2.test (path_of going) c known ∙ part_path s0 s1 (left_in s0 group used) group going qg c))
     (IsPut-then p s0 s2 s3 heap limit (attempts_at s0 group) ends goes before middle after first second)
@@ -178,8 +176,8 @@ IsPut-parted {S = S} {I = I} p {s0 = s0} {s1 = s1} {s2 = s2} s3 e1 e2 heap v lim
     holds true l m h = refl
     holds false l m h = cc h
 
-    cases : (c : List Bool) (a b d g : Bool) → (b ≡ true → attempts_at s0 group c ≡ limit) → ((a && not b) ≡ true → state_at s2 heap [] going c ≡ state_at s0 heap [] group c) → d ≡ (a && b) → g ≡ (a && not b) → (option_or (if g then Some (Goes (state_at s2 heap [] going c)) else None) (if d then Some (Ends Unfinished) else None) ≡ (if a then Some (Goes (state_at s0 heap [] group c)) else None)) ⊎ ((t : State) × (attempts_at s0 group c ≡ limit) × (option_or (if g then Some (Goes (state_at s2 heap [] going c)) else None) (if d then Some (Ends Unfinished) else None) ≡ Some (Ends Unfinished)) × ((if a then Some (Goes (state_at s0 heap [] group c)) else None) ≡ Some (Goes t)))
-    cases c true true true false m st ed eg = inr (state_at s0 heap [] group c, m refl, refl, refl)
+    cases : (c : List Bool) (a b d g : Bool) → (b ≡ true → attempts_at s0 group c ≡ limit) → ((a && not b) ≡ true → state_at s2 heap middle.callers going c ≡ state_at s0 heap before.callers group c) → d ≡ (a && b) → g ≡ (a && not b) → (option_or (if g then Some (Goes (state_at s2 heap middle.callers going c)) else None) (if d then Some (Ends Unfinished) else None) ≡ (if a then Some (Goes (state_at s0 heap before.callers group c)) else None)) ⊎ ((t : State) × (attempts_at s0 group c ≡ limit) × (option_or (if g then Some (Goes (state_at s2 heap middle.callers going c)) else None) (if d then Some (Ends Unfinished) else None) ≡ Some (Ends Unfinished)) × ((if a then Some (Goes (state_at s0 heap before.callers group c)) else None) ≡ Some (Goes t)))
+    cases c true true true false m st ed eg = inr (state_at s0 heap before.callers group c, m refl, refl, refl)
     cases c true true true true m st ed eg = cc eg
     cases c true true false g m st ed eg = cc ed
     cases c true false false true m st ed eg = inl (ap (λ t. Some (Goes t)) (st refl))
@@ -231,18 +229,19 @@ IsVacant-text p {s0 = s0} {s1 = s1} e heap v limit before middle path known u n 
       spent = λ c t. ap (λ x. value_at s1 (leaves_of x.items) c) spent ∙ later.spent c t;
     }
 
-pub IsPut-text : {S I : Type 0} (p : Program) {s0 s1 : Sets I} (s2 : Sets I) → Extends s0 s1 → (heap : HeapView S I) → IsHeap s0 heap → (limit : ℕ) (group : GroupView S I) → StandsIn p s0 heap [] group → (before middle after : Round S I) → IsUnderway p s0 heap limit before → middle.callers ≡ before.callers → middle.groups ≡ before.groups → middle.ends ≡ before.ends → middle.spent ≡ before.spent → IsPut p s1 s2 heap limit (attempts_at s1 group) (leads_in s1 (path_of group) (λ c. Goes (state_at s1 heap [] group c))) middle after → IsPut p s0 s2 heap limit (attempts_at s0 group) (leads_in s0 (path_of group) (λ c. Goes (state_at s0 heap [] group c))) before after
-IsPut-text p {s0 = s0} {s1 = s1} s2 e heap v limit group s before middle after u callers groups ends spent q =
-    let is_group = IsGroupIn-group s0 [] group s.is_group in
-    let goes = leads_in s1 (path_of group) (λ c. Goes (state_at s1 heap [] group c)) in
+pub IsPut-text : {S I : Type 0} (p : Program) {s0 s1 : Sets I} (s2 : Sets I) → Extends s0 s1 → (heap : HeapView S I) → IsHeap s0 heap → (limit : ℕ) (group : GroupView S I) (before middle after : Round S I) → StandsIn p s0 heap before.callers group → IsUnderway p s0 heap limit before → middle.callers ≡ before.callers → middle.groups ≡ before.groups → middle.ends ≡ before.ends → middle.spent ≡ before.spent → IsPut p s1 s2 heap limit (attempts_at s1 group) (leads_in s1 (path_of group) (λ c. Goes (state_at s1 heap middle.callers group c))) middle after → IsPut p s0 s2 heap limit (attempts_at s0 group) (leads_in s0 (path_of group) (λ c. Goes (state_at s0 heap before.callers group c))) before after
+IsPut-text {S = S} {I = I} p {s0 = s0} {s1 = s1} s2 e heap v limit group before middle after s u callers groups ends spent q =
+    let is_group = IsGroupIn-group s0 before.callers group s.is_group in
+    let goes = leads_in s1 (path_of group) (λ c. Goes (state_at s1 heap middle.callers group c)) in
     let told : IsPut p s1 s2 heap limit (attempts_at s1 group) goes before after = record {
       underway = q.underway;
+      keeps = (let P : List (Option (Caller S I)) → Type 0 = λ tree. Keeps tree after.callers in subst P callers q.keeps);
       waits = λ c. q.waits c ∙ ap (λ t. put_if (waits_after limit (attempts_at s1 group c)) (goes c) (waiting_at s1 heap t middle.groups.items c)) callers ∙ ap (λ g. put_if (waits_after limit (attempts_at s1 group c)) (goes c) (waiting_at s1 heap before.callers g.items c)) groups;
       ends = λ c. q.ends c ∙ ap (λ x. put_if (end_after limit (attempts_at s1 group c)) (goes c) (value_at s1 (leaves_of x.items) c)) ends;
       spent = λ c. q.spent c ∙ ap (λ x. put_if (spent_after limit (attempts_at s1 group c)) (goes c) (value_at s1 (leaves_of x.items) c)) spent;
     } in
-    IsPut-same p s0 s2 heap limit (attempts_at s1 group) (attempts_at s0 group) goes (leads_in s0 (path_of group) (λ c. Goes (state_at s0 heap [] group c))) before after
-    (λ c. ap (λ b. if b then Some (Goes (state_at s1 heap [] group c)) else None) (e.test (path_of group) c (IsGroup-path_known s0 group is_group)) ∙ ap (λ t. if s0.test (path_of group) c then Some (Goes t) else None) (state_at-extends [] e heap v group s.is_group c))
+    IsPut-same p s0 s2 heap limit (attempts_at s1 group) (attempts_at s0 group) goes (leads_in s0 (path_of group) (λ c. Goes (state_at s0 heap before.callers group c))) before after
+    (λ c. ap (λ b. if b then Some (Goes (state_at s1 heap middle.callers group c)) else None) (e.test (path_of group) c (IsGroup-path_known s0 group is_group)) ∙ ap (λ t. if s0.test (path_of group) c then Some (Goes t) else None) (ap (λ tree. state_at s1 heap tree group c) callers ∙ state_at-extends before.callers e heap v group s.is_group c))
     (λ c l h. attempts_at-extends e group is_group c)
     (IsPut-before p s2 e heap v limit (attempts_at s1 group) goes before after u told)
 
@@ -258,17 +257,17 @@ AreWritten-text {S = S} {I = I} {s0 = s0} {s1 = s1} {s2 = s2} e path stream unit
 
 -- ---- what was found of the attempts that are used up
 
-pub none_used : {S I : Type 0} (p : Program) (sets : Sets I) (heap : HeapView S I) (limit : ℕ) (group : GroupView S I) (attempts : Conditional ℕ S I) → attempts ≡ group.attempts → StandsIn p sets heap [] group → (IsCond nat_cmp sets attempts → IsUsedUp sets attempts limit None) → ((c : List Bool) → sets.test (path_of group) c ≡ true → attempts_at sets group c ≤ limit) → (c : List Bool) → sets.test (path_of group) c ≡ true → attempts_at sets group c < limit
-none_used {S = S} {I = I} p sets heap limit group attempts e s u b c t =
-    let v = IsGroup-attempts sets group (IsGroupIn-group sets [] group s.is_group) in
+pub none_used : {S I : Type 0} {tree : List (Option (Caller S I))} (p : Program) (sets : Sets I) (heap : HeapView S I) (limit : ℕ) (group : GroupView S I) (attempts : Conditional ℕ S I) → attempts ≡ group.attempts → StandsIn p sets heap tree group → (IsCond nat_cmp sets attempts → IsUsedUp sets attempts limit None) → ((c : List Bool) → sets.test (path_of group) c ≡ true → attempts_at sets group c ≤ limit) → (c : List Bool) → sets.test (path_of group) c ≡ true → attempts_at sets group c < limit
+none_used {S = S} {I = I} {tree = tree} p sets heap limit group attempts e s u b c t =
+    let v = IsGroup-attempts sets group (IsGroupIn-group sets tree group s.is_group) in
     at_most (attempts_at sets group c) limit (b c t) (other (some_inside sets group.attempts c v t) (subst (λ a. cond_at sets a c ≢ Some limit) e (u (rw e v) c)))
   where
     other : cond_at sets group.attempts c ≡ Some (attempts_at sets group c) → cond_at sets group.attempts c ≢ Some limit → attempts_at sets group c ≢ limit
     other k f h = f (k ∙ ap Some h)
 
-pub used_found : {S I : Type 0} (p : Program) (sets : Sets I) (heap : HeapView S I) (limit : ℕ) (group : GroupView S I) (attempts : Conditional ℕ S I) (used : I) → attempts ≡ group.attempts → StandsIn p sets heap [] group → (IsCond nat_cmp sets attempts → IsUsedUp sets attempts limit (Some used)) → IsUsedUp sets group.attempts limit (Some used)
-used_found p sets heap limit group attempts used e s u =
-    let v = IsGroup-attempts sets group (IsGroupIn-group sets [] group s.is_group) in
+pub used_found : {S I : Type 0} {tree : List (Option (Caller S I))} (p : Program) (sets : Sets I) (heap : HeapView S I) (limit : ℕ) (group : GroupView S I) (attempts : Conditional ℕ S I) (used : I) → attempts ≡ group.attempts → StandsIn p sets heap tree group → (IsCond nat_cmp sets attempts → IsUsedUp sets attempts limit (Some used)) → IsUsedUp sets group.attempts limit (Some used)
+used_found {tree = tree} p sets heap limit group attempts used e s u =
+    let v = IsGroup-attempts sets group (IsGroupIn-group sets tree group s.is_group) in
     subst (λ a. IsUsedUp sets a limit (Some used)) e (u (rw e v))
 
 -- ---- empty texts
@@ -289,7 +288,7 @@ empty_text text n e h = no_items text (sym e ∙ is_zero n h)
 pub some_text : (text : List ℕ) (n : ℕ) → n ≡ length text → false ≡ (n == 0) → text ≡ [] → ⊥
 some_text text n e h q = not_zero n h (e ∙ ap length q)
 
-pub bound_later : {S I : Type 0} (p : Program) {s0 s1 : Sets I} → Extends s0 s1 → (heap : HeapView S I) (limit : ℕ) (group : GroupView S I) → StandsIn p s0 heap [] group → ((c : List Bool) → s0.test (path_of group) c ≡ true → attempts_at s0 group c ≤ limit) → (c : List Bool) → s1.test (path_of group) c ≡ true → attempts_at s1 group c ≤ limit
-bound_later p {s0 = s0} {s1 = s1} e heap limit group s b c t =
-    let is_group = IsGroupIn-group s0 [] group s.is_group in
+pub bound_later : {S I : Type 0} {tree : List (Option (Caller S I))} (p : Program) {s0 s1 : Sets I} → Extends s0 s1 → (heap : HeapView S I) (limit : ℕ) (group : GroupView S I) → StandsIn p s0 heap tree group → ((c : List Bool) → s0.test (path_of group) c ≡ true → attempts_at s0 group c ≤ limit) → (c : List Bool) → s1.test (path_of group) c ≡ true → attempts_at s1 group c ≤ limit
+bound_later {tree = tree} p {s0 = s0} {s1 = s1} e heap limit group s b c t =
+    let is_group = IsGroupIn-group s0 tree group s.is_group in
     subst (λ n. n ≤ limit) (sym (attempts_at-extends e group is_group c)) (b c (sym (e.test (path_of group) c (IsGroup-path_known s0 group is_group)) ∙ t))

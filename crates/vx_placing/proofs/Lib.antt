@@ -1,9 +1,7 @@
+pub mod AddingAll
 pub mod Placed
 pub mod Putting
 pub mod Ending
 pub mod Going
-pub mod Raising
 pub mod Outcomes
-pub mod Places
 pub mod Sequence
-pub mod Refusals

@@ -1,31 +1,29 @@
 -- Outcomes that took their places.
-use Rattle.std.proofs.Common.{◌≡◌, ◌≤◌, ℕ, Bool, true, false, List, [], refl, sym, ◌∙◌, ap, subst, Result, Ok, Err, OnOk}
+use Rattle.std.proofs.Common.{◌≡◌, ◌≤◌, ℕ, Bool, true, false, List, refl, sym, ◌∙◌, ap, subst, Result, Ok, Err, OnOk}
 use Rattle.std.specs.Prelude.{Option, Some, None, if◌then◌else◌, option_map}
 use Rattle.std.specs.Ordering.{nat_cmp}
 use Rattle.vx_space.specs.Sets.{Sets, Extends}
 use Rattle.vx_cond.specs.Cond.{Conditional, IsCond, IsInside}
 use Rattle.vx_cond.specs.Leaves.{AreLeaves, value_at}
+use Rattle.vx_group.specs.declared.callers.Caller.{Caller}
 use Rattle.vx_group.specs.Group.{GroupView, attempts_at, path_of}
 use Rattle.vx_heap.specs.Heap.{HeapView, IsHeap}
-use Rattle.vx_families.specs.Built.{is_call}
 use Rattle.vx_findings.specs.Orders.{piece_cmp}
 use Rattle.vx_findings.specs.Shared.{leaves_of}
 use Rattle.vx_java.specs.Machine.{Ends, Goes}
 use Rattle.vx_java.specs.Machine as plain
 use Rattle.vx_java.specs.Step.{next}
-use Rattle.vx_java.specs.Throwing.{next_after_raise}
 use Rattle.vx_link.specs.declared.program.Program.{Program}
 use Rattle.vx_outcome.specs.Outcome.{condition_of}
 use Rattle.vx_outcome.specs.declared.outcome.Outcome.{Outcome}
 use Rattle.vx_outcome.specs.declared.outcome.Outcome.TheVariants as shared
-use Rattle.vx_group_states.specs.Stands.{message_of, outcome_at, state_at}
+use Rattle.vx_group_states.specs.Stands.{outcome_at, state_at}
 use Rattle.vx_value.specs.Texts.{text_at}
 use Rattle.vx_value.specs.declared.end.End.{End}
 use Rattle.vx_value.specs.declared.end.Stream.{Stream}
-use Rattle.vx_value.specs.declared.ids.ClassId.{ClassId}
 use Rattle.vx_placing.specs.declared.round.Round.{Round}
 use Rattle.vx_placing.specs.Placing.{AreWritten, IsEnded, IsGoing, IsOutcomePlaced, IsPlaceable, IsPut, IsUnderway, IsUnwritten, IsVacant, MayGoOn, MayPlace, leads_in, led_by, made_at, put_if, said_by}
-use Rattle.vx_standing.specs.Waiting.{end_after, piece_after, spent_after, waiting_at, waits_after}
+use Rattle.vx_standing.specs.Waiting.{piece_after}
 use Rattle.vx_placing.proofs.Placed.{findings_stay}
 use Rattle.vx_placing.proofs.Putting.{IsPut-ended, IsPut-same}
 
@@ -36,12 +34,11 @@ on_ok_both (Err e) f p q = tt
 
 -- ---- what has to be so before
 
-pub MayGoOn-placed : {S I : Type 0} (p : Program) (sets : Sets I) (heap : HeapView S I) (limit : ℕ) (attempts : Conditional ℕ S I) (round : Round S I) (group : GroupView S I) → MayPlace p sets heap limit attempts round (sets.test (path_of group)) → IsInside sets (path_of group) attempts.scope → IsGoing p sets heap attempts group → is_call group.top.kind ≡ true → MayGoOn p sets heap limit round group
-MayGoOn-placed p sets heap limit attempts round group m i g k = record {
+pub MayGoOn-placed : {S I : Type 0} (p : Program) (sets : Sets I) (heap : HeapView S I) (limit : ℕ) (attempts : Conditional ℕ S I) (round : Round S I) (group : GroupView S I) → MayPlace p sets heap limit attempts round (sets.test (path_of group)) → IsInside sets (path_of group) attempts.scope → IsGoing p sets heap round.callers attempts group → MayGoOn p sets heap limit round group
+MayGoOn-placed p sets heap limit attempts round group m i g = record {
   is_heap = m.is_heap;
   underway = m.underway;
   stands = g.stands;
-  kind = k;
   bound = λ c t. subst (λ n. n ≤ limit) (sym (g.made c t)) (m.bound c (i.inside c t));
   vacant = m.vacant;
 }
@@ -57,63 +54,40 @@ holds f true x l h = refl
 holds f false x l h = cc h
 
 -- an outcome that writes nothing
-pub AreWritten-nothing : {S I : Type 0} {old new : Sets I} → Extends old new → (heap : HeapView S I) (outcome : Outcome S I) (before after : Round S I) → AreLeaves piece_cmp old (leaves_of before.texts.items) → IsUnwritten old before (old.test (condition_of outcome)) → after.texts ≡ before.texts → ((c : List Bool) → piece_after (outcome_at old heap [] c outcome) ≡ None) → AreWritten old new (said_by old heap outcome) before after
-AreWritten-nothing {S = S} {I = I} {old = old} {new = new} e heap outcome before after h n q p = record {
+pub AreWritten-nothing : {S I : Type 0} {old new : Sets I} → Extends old new → (heap : HeapView S I) (tree : List (Option (Caller S I))) (outcome : Outcome S I) (before after : Round S I) → AreLeaves piece_cmp old (leaves_of before.texts.items) → IsUnwritten old before (old.test (condition_of outcome)) → after.texts ≡ before.texts → ((c : List Bool) → piece_after (outcome_at old heap tree c outcome) ≡ None) → AreWritten old new (said_by old heap tree outcome) before after
+AreWritten-nothing {S = S} {I = I} {old = old} {new = new} e heap tree outcome before after h n q p = record {
   texts = λ c. (findings_stay piece_cmp e before.texts.items after.texts.items (ap (λ t. t.items) q) h).1 c ∙ cases c (old.test (condition_of outcome) c) (n.texts c);
 }
   where
-    cases : (c : List Bool) (b : Bool) → (b ≡ true → value_at old (leaves_of before.texts.items) c ≡ None) → value_at old (leaves_of before.texts.items) c ≡ put_if piece_after (if b then Some (outcome_at old heap [] c outcome) else None) (value_at old (leaves_of before.texts.items) c)
+    cases : (c : List Bool) (b : Bool) → (b ≡ true → value_at old (leaves_of before.texts.items) c ≡ None) → value_at old (leaves_of before.texts.items) c ≡ put_if piece_after (if b then Some (outcome_at old heap tree c outcome) else None) (value_at old (leaves_of before.texts.items) c)
     cases c true k = k refl ∙ sym (p c)
     cases c false k = refl
 
 -- ---- each outcome
 
-going_put : {S I : Type 0} (p : Program) (old new : Sets I) (heap : HeapView S I) (limit : ℕ) (attempts : Conditional ℕ S I) (group : GroupView S I) (outcome : Outcome S I) (before after : Round S I) → IsGoing p old heap attempts group → condition_of outcome ≡ path_of group → ((c : List Bool) → next p (outcome_at old heap [] c outcome) ≡ Goes (state_at old heap [] group c)) → IsPut p old new heap limit (attempts_at old group) (leads_in old (path_of group) (λ c. Goes (state_at old heap [] group c))) before after → IsPut p old new heap limit (made_at old attempts) (led_by p (said_by old heap outcome)) before after
+going_put : {S I : Type 0} (p : Program) (old new : Sets I) (heap : HeapView S I) (limit : ℕ) (attempts : Conditional ℕ S I) (group : GroupView S I) (outcome : Outcome S I) (before after : Round S I) → IsGoing p old heap before.callers attempts group → condition_of outcome ≡ path_of group → ((c : List Bool) → next p (outcome_at old heap before.callers c outcome) ≡ Goes (state_at old heap before.callers group c)) → IsPut p old new heap limit (attempts_at old group) (leads_in old (path_of group) (λ c. Goes (state_at old heap before.callers group c))) before after → IsPut p old new heap limit (made_at old attempts) (led_by p (said_by old heap before.callers outcome)) before after
 going_put {S = S} {I = I} p old new heap limit attempts group outcome before after s e l q =
-    IsPut-same p old new heap limit (attempts_at old group) (made_at old attempts) (leads_in old (path_of group) (λ c. Goes (state_at old heap [] group c))) (led_by p (said_by old heap outcome)) before after
-    (λ c. ap (λ n. if old.test (path_of group) c then Some n else None) (sym (l c)) ∙ ap (λ k. if old.test k c then Some (next p (outcome_at old heap [] c outcome)) else None) (sym e) ∙ led_there (next p) (old.test (condition_of outcome) c) (outcome_at old heap [] c outcome))
-    (λ c n h. s.made c (ap (λ k. old.test k c) (sym e) ∙ holds (next p) (old.test (condition_of outcome) c) (outcome_at old heap [] c outcome) n h))
+    IsPut-same p old new heap limit (attempts_at old group) (made_at old attempts) (leads_in old (path_of group) (λ c. Goes (state_at old heap before.callers group c))) (led_by p (said_by old heap before.callers outcome)) before after
+    (λ c. ap (λ n. if old.test (path_of group) c then Some n else None) (sym (l c)) ∙ ap (λ k. if old.test k c then Some (next p (outcome_at old heap before.callers c outcome)) else None) (sym e) ∙ led_there (next p) (old.test (condition_of outcome) c) (outcome_at old heap before.callers c outcome))
+    (λ c n h. s.made c (ap (λ k. old.test k c) (sym e) ∙ holds (next p) (old.test (condition_of outcome) c) (outcome_at old heap before.callers c outcome) n h))
     q
 
-pub placed_go : {S I : Type 0} (p : Program) {old new : Sets I} → Extends old new → (heap : HeapView S I) (limit : ℕ) (attempts : Conditional ℕ S I) (group : GroupView S I) (before after : Round S I) → IsUnderway p old heap limit before → IsPlaceable p old heap attempts (shared.Go group) → IsUnwritten old before (old.test (path_of group)) → IsPut p old new heap limit (attempts_at old group) (leads_in old (path_of group) (λ c. Goes (state_at old heap [] group c))) before after → after.texts ≡ before.texts → IsOutcomePlaced p old new heap limit attempts (said_by old heap (shared.Go group)) before after
+pub placed_go : {S I : Type 0} (p : Program) {old new : Sets I} → Extends old new → (heap : HeapView S I) (limit : ℕ) (attempts : Conditional ℕ S I) (group : GroupView S I) (before after : Round S I) → IsUnderway p old heap limit before → IsPlaceable p old heap before.callers attempts (shared.Go group) → IsUnwritten old before (old.test (path_of group)) → IsPut p old new heap limit (attempts_at old group) (leads_in old (path_of group) (λ c. Goes (state_at old heap before.callers group c))) before after → after.texts ≡ before.texts → IsOutcomePlaced p old new heap limit attempts (said_by old heap before.callers (shared.Go group)) before after
 placed_go p {old = old} {new = new} e heap limit attempts group before after u k n q t = record {
   put = going_put p old new heap limit attempts group (shared.Go group) before after k.going refl (λ c. refl) q;
-  written = AreWritten-nothing e heap (shared.Go group) before after u.texts n t (λ c. refl);
+  written = AreWritten-nothing e heap before.callers (shared.Go group) before after u.texts n t (λ c. refl);
 }
 
-pub placed_write : {S I : Type 0} (p : Program) (old new : Sets I) (heap : HeapView S I) (limit : ℕ) (attempts : Conditional ℕ S I) (group : GroupView S I) (stream : Stream) (text : ℕ) (before after : Round S I) → IsPlaceable p old heap attempts (shared.Write group stream text) → IsPut p old new heap limit (attempts_at old group) (leads_in old (path_of group) (λ c. Goes (state_at old heap [] group c))) before after → AreWritten old new (leads_in old (path_of group) (λ c. plain.Write stream (text_at heap.texts text) (state_at old heap [] group c))) before after → IsOutcomePlaced p old new heap limit attempts (said_by old heap (shared.Write group stream text)) before after
+pub placed_write : {S I : Type 0} (p : Program) (old new : Sets I) (heap : HeapView S I) (limit : ℕ) (attempts : Conditional ℕ S I) (group : GroupView S I) (stream : Stream) (text : ℕ) (before after : Round S I) → IsPlaceable p old heap before.callers attempts (shared.Write group stream text) → IsPut p old new heap limit (attempts_at old group) (leads_in old (path_of group) (λ c. Goes (state_at old heap before.callers group c))) before after → AreWritten old new (leads_in old (path_of group) (λ c. plain.Write stream (text_at heap.texts text) (state_at old heap before.callers group c))) before after → IsOutcomePlaced p old new heap limit attempts (said_by old heap before.callers (shared.Write group stream text)) before after
 placed_write p old new heap limit attempts group stream text before after k q w = record {
   put = going_put p old new heap limit attempts group (shared.Write group stream text) before after k.going.0 refl (λ c. refl) q;
   written = w;
 }
 
-pub placed_raise : {S I : Type 0} (p : Program) {old new : Sets I} → Extends old new → (heap : HeapView S I) (limit : ℕ) (attempts : Conditional ℕ S I) (group : GroupView S I) (class : ClassId) (message : Option ℕ) (before after : Round S I) → IsUnderway p old heap limit before → IsUnwritten old before (old.test (path_of group)) → ((m : Option (List ℕ)) → IsPut p old new heap limit (made_at old attempts) (leads_in old (path_of group) (λ c. next_after_raise p (state_at old heap [] group c) class.0 m)) before after) → after.texts ≡ before.texts → IsOutcomePlaced p old new heap limit attempts (said_by old heap (shared.Raise group class message)) before after
-placed_raise p {old = old} {new = new} e heap limit attempts group class message before after u n q t = record {
-  put = IsPut-same p old new heap limit (made_at old attempts) (made_at old attempts) (leads_in old (path_of group) (λ c. next_after_raise p (state_at old heap [] group c) class.0 (message_of heap message))) (led_by p (said_by old heap (shared.Raise group class message))) before after
-      (λ c. led_there (next p) (old.test (path_of group) c) (outcome_at old heap [] c (shared.Raise group class message))) (λ c l h. refl) (q (message_of heap message));
-  written = AreWritten-nothing e heap (shared.Raise group class message) before after u.texts n t (λ c. refl);
-}
-
-pub placed_ended : {S I : Type 0} (p : Program) {old new : Sets I} → Extends old new → (heap : HeapView S I) → IsHeap old heap → (limit : ℕ) (attempts : Conditional ℕ S I) (condition : I) (end : End) (before after : Round S I) → IsUnderway p old heap limit before → IsCond nat_cmp old attempts → IsPlaceable p old heap attempts (shared.Ended condition end) → IsVacant old before (old.test condition) → IsUnwritten old before (old.test condition) → IsEnded old new attempts condition end before after → IsOutcomePlaced p old new heap limit attempts (said_by old heap (shared.Ended condition end)) before after
+pub placed_ended : {S I : Type 0} (p : Program) {old new : Sets I} → Extends old new → (heap : HeapView S I) → IsHeap old heap → (limit : ℕ) (attempts : Conditional ℕ S I) (condition : I) (end : End) (before after : Round S I) → IsUnderway p old heap limit before → IsCond nat_cmp old attempts → IsPlaceable p old heap before.callers attempts (shared.Ended condition end) → IsVacant old before (old.test condition) → IsUnwritten old before (old.test condition) → IsEnded old new attempts condition end before after → IsOutcomePlaced p old new heap limit attempts (said_by old heap before.callers (shared.Ended condition end)) before after
 placed_ended p {old = old} {new = new} e heap v limit attempts condition end before after u w k a n q = record {
-  put = IsPut-same p old new heap limit (made_at old attempts) (made_at old attempts) (leads_in old condition (λ _. Ends end)) (led_by p (said_by old heap (shared.Ended condition end))) before after
-      (λ c. led_there (next p) (old.test condition c) (outcome_at old heap [] c (shared.Ended condition end))) (λ c l h. refl)
+  put = IsPut-same p old new heap limit (made_at old attempts) (made_at old attempts) (leads_in old condition (λ _. Ends end)) (led_by p (said_by old heap before.callers (shared.Ended condition end))) before after
+      (λ c. led_there (next p) (old.test condition c) (outcome_at old heap before.callers c (shared.Ended condition end))) (λ c l h. refl)
       (IsPut-ended p e heap v limit attempts condition end before after u a w k.inside q);
-  written = AreWritten-nothing e heap (shared.Ended condition end) before after u.texts n q.texts (λ c. refl);
+  written = AreWritten-nothing e heap before.callers (shared.Ended condition end) before after u.texts n q.texts (λ c. refl);
 }
-
--- where no configuration comes to an outcome nothing changes
-pub placed_never : {S I : Type 0} (p : Program) (sets : Sets I) (heap : HeapView S I) (limit : ℕ) (attempts : Conditional ℕ S I) (outcome : Outcome S I) (round : Round S I) → IsUnderway p sets heap limit round → ((c : List Bool) → sets.test (condition_of outcome) c ≡ false) → IsOutcomePlaced p sets sets heap limit attempts (said_by sets heap outcome) round round
-placed_never {S = S} {I = I} p sets heap limit attempts outcome round u n = record {
-  put = record {
-    underway = u;
-    waits = λ c. sym (ap (λ o. put_if (waits_after limit (made_at sets attempts c)) (option_map (next p) o) (waiting_at sets heap round.callers round.groups.items c)) (none c (sets.test (condition_of outcome) c) (n c)));
-    ends = λ c. sym (ap (λ o. put_if (end_after limit (made_at sets attempts c)) (option_map (next p) o) (value_at sets (leaves_of round.ends.items) c)) (none c (sets.test (condition_of outcome) c) (n c)));
-    spent = λ c. sym (ap (λ o. put_if (spent_after limit (made_at sets attempts c)) (option_map (next p) o) (value_at sets (leaves_of round.spent.items) c)) (none c (sets.test (condition_of outcome) c) (n c)));
-  };
-  written = record { texts = λ c. sym (ap (λ o. put_if piece_after o (value_at sets (leaves_of round.texts.items) c)) (none c (sets.test (condition_of outcome) c) (n c))) };
-}
-  where
-    none : (c : List Bool) (b : Bool) → b ≡ false → (if b then Some (outcome_at sets heap [] c outcome) else None) ≡ None
-    none c true h = cc h
-    none c false h = refl

@@ -8,6 +8,7 @@ use Rattle.vx_cond.specs.Cond.{Conditional, IsCond, IsInside, cond_at}
 use Rattle.vx_cond.specs.Leaves.{value_at}
 use Rattle.vx_cond.proofs.LeafLaws.{AreLeaves-extends, value_at-extends}
 use Rattle.vx_cond.proofs.SideLaws.{cond_at-covers}
+use Rattle.vx_group.proofs.CallerLaws.{Keeps-refl, Keeps-trans}
 use Rattle.vx_heap.specs.Heap.{HeapView, IsHeap}
 use Rattle.vx_findings.specs.Orders.{piece_cmp}
 use Rattle.vx_findings.specs.Shared.{leaves_of}
@@ -34,6 +35,7 @@ IsUnderway-extends p e heap v limit round u = record {
 pub IsPut-before : {S I : Type 0} (p : Program) {s0 s1 : Sets I} (s2 : Sets I) → Extends s0 s1 → (heap : HeapView S I) → IsHeap s0 heap → (limit : ℕ) (made : List Bool → ℕ) (leads : List Bool → Option Next) (before after : Round S I) → IsUnderway p s0 heap limit before → IsPut p s1 s2 heap limit made leads before after → IsPut p s0 s2 heap limit made leads before after
 IsPut-before p s2 e heap v limit made leads before after u q = record {
   underway = q.underway;
+  keeps = q.keeps;
   waits = λ c. q.waits c ∙ ap (λ o. put_if (waits_after limit (made c)) (leads c) o) (waiting_at-extends e heap v before.callers before.groups.items u.waiting.are_groups c);
   ends = λ c. q.ends c ∙ ap (λ o. put_if (end_after limit (made c)) (leads c) o) (value_at-extends compare_ends e (leaves_of before.ends.items) u.ends c);
   spent = λ c. q.spent c ∙ ap (λ o. put_if (spent_after limit (made c)) (leads c) o) (value_at-extends nat_cmp e (leaves_of before.spent.items) u.spent c);
@@ -48,6 +50,7 @@ then_put f a (Some n) o = refl
 pub IsPut-then : {S I : Type 0} (p : Program) (s0 s1 s2 : Sets I) (heap : HeapView S I) (limit : ℕ) (made : List Bool → ℕ) (a b : List Bool → Option Next) (before middle after : Round S I) → IsPut p s0 s1 heap limit made a before middle → IsPut p s1 s2 heap limit made b middle after → IsPut p s0 s2 heap limit made (λ c. option_or (b c) (a c)) before after
 IsPut-then p s0 s1 s2 heap limit made a b before middle after x y = record {
   underway = y.underway;
+  keeps = Keeps-trans x.keeps y.keeps;
   waits = λ c. y.waits c ∙ ap (λ o. put_if (waits_after limit (made c)) (b c) o) (x.waits c) ∙ then_put (waits_after limit (made c)) (a c) (b c) (waiting_at s0 heap before.callers before.groups.items c);
   ends = λ c. y.ends c ∙ ap (λ o. put_if (end_after limit (made c)) (b c) o) (x.ends c) ∙ then_put (end_after limit (made c)) (a c) (b c) (value_at s0 (leaves_of before.ends.items) c);
   spent = λ c. y.spent c ∙ ap (λ o. put_if (spent_after limit (made c)) (b c) o) (x.spent c) ∙ then_put (spent_after limit (made c)) (a c) (b c) (value_at s0 (leaves_of before.spent.items) c);
@@ -57,6 +60,7 @@ IsPut-then p s0 s1 s2 heap limit made a b before middle after x y = record {
 pub IsPut-same : {S I : Type 0} (p : Program) (old new : Sets I) (heap : HeapView S I) (limit : ℕ) (m n : List Bool → ℕ) (a b : List Bool → Option Next) (before after : Round S I) → ((c : List Bool) → a c ≡ b c) → ((c : List Bool) (l : Next) → b c ≡ Some l → m c ≡ n c) → IsPut p old new heap limit m a before after → IsPut p old new heap limit n b before after
 IsPut-same p old new heap limit m n a b before after e k q = record {
   underway = q.underway;
+  keeps = q.keeps;
   waits = λ c. q.waits c ∙ ap (λ o. put_if (waits_after limit (m c)) o (waiting_at old heap before.callers before.groups.items c)) (e c) ∙ numbers (waits_after limit) (m c) (n c) (b c) (waiting_at old heap before.callers before.groups.items c) (k c);
   ends = λ c. q.ends c ∙ ap (λ o. put_if (end_after limit (m c)) o (value_at old (leaves_of before.ends.items) c)) (e c) ∙ numbers (end_after limit) (m c) (n c) (b c) (value_at old (leaves_of before.ends.items) c) (k c);
   spent = λ c. q.spent c ∙ ap (λ o. put_if (spent_after limit (m c)) o (value_at old (leaves_of before.spent.items) c)) (e c) ∙ numbers (spent_after limit) (m c) (n c) (b c) (value_at old (leaves_of before.spent.items) c) (k c);
@@ -93,6 +97,7 @@ IsPut-ended {S = S} {I = I} p {old = old} {new = new} e heap v limit attempts co
         spent = q.spent.are_leaves;
         texts = rw q.texts (AreLeaves-extends piece_cmp e (leaves_of before.texts.items) u.texts);
       };
+      keeps = rw q.callers (Keeps-refl before.callers);
       waits = λ c. ap (λ t. waiting_at new heap t after.groups.items c) q.callers ∙ ap (λ g. waiting_at new heap before.callers g.items c) q.groups ∙ waiting_at-extends e heap v before.callers before.groups.items u.waiting.are_groups c ∙ waits c (old.test condition c) (λ t. no_group old heap before.callers before.groups.items c (n.groups c t));
       ends = λ c. q.ends.values c ∙ ends_at c (old.test condition c);
       spent = λ c. q.spent.values c ∙ spent_at c (old.test condition c) (n.spent c) (λ t. some_inside old attempts c k (i.inside c t));

@@ -1,19 +1,18 @@
 -- What is under way in a round once its attempt was made, and how what the attempt came to takes its place there.
-use Rattle.std.specs.Prelude.{◌≡◌, ◌≢◌, ◌≤◌, ◌<◌, ℕ, Bool, true, false, List, [], ◌∷◌, ◌&&◌, ◌⊎◌, Contains, length, not, option_map, Option, Some, None, if◌then◌else◌, unwrap_or}
+use Rattle.std.specs.Prelude.{◌≡◌, ◌≢◌, ◌≤◌, ◌<◌, ℕ, Bool, true, false, List, [], ◌∷◌, length, option_map, Option, Some, None, if◌then◌else◌, unwrap_or}
 use Rattle.std.specs.Ordering.{nat_cmp}
 use Rattle.vx_space.specs.Sets.{Sets, IsKnown}
 use Rattle.vx_cond.specs.Cond.{Conditional, IsCond, IsInside, cond_at}
 use Rattle.vx_cond.specs.Leaves.{AreLeaves, AreLeavesOf, IsApart, first_of, value_at, value_under, value_within}
+use Rattle.vx_group.specs.declared.callers.Caller.{Caller}
+use Rattle.vx_group.specs.Callers.{Keeps}
 use Rattle.vx_group.specs.Group.{GroupView, attempts_at, path_of}
 use Rattle.vx_heap.specs.Heap.{HeapView, IsHeap}
-use Rattle.vx_families.specs.Bounds.{IsBounded}
-use Rattle.vx_families.specs.Built.{has_none, is_built_outcome, is_call}
 use Rattle.vx_findings.specs.Orders.{piece_cmp}
 use Rattle.vx_findings.specs.Shared.{leaves_of}
-use Rattle.vx_java.specs.Machine.{Goes, Native, Next, Write}
+use Rattle.vx_java.specs.Machine.{Goes, Next, Write}
 use Rattle.vx_java.specs.Machine.{Outcome as PlainOutcome}
 use Rattle.vx_java.specs.Step.{next}
-use Rattle.vx_link.specs.Parts.{method_at}
 use Rattle.vx_link.specs.declared.program.Program.{Program}
 use Rattle.vx_outcome.specs.Outcome.{condition_of}
 use Rattle.vx_outcome.specs.declared.outcome.Outcome.{Outcome}
@@ -24,7 +23,6 @@ use Rattle.vx_value.specs.declared.end.End.{End}
 use Rattle.vx_placing.specs.declared.round.Round.{Round}
 use Rattle.vx_standing.specs.State.{group_of}
 use Rattle.vx_standing.specs.Waiting.{AreWaiting, end_after, piece_after, spent_after, waiting_at, waits_after}
-use Rattle.vx_java.specs.Selection.{catches_of}
 
 -- ---- what is under way
 
@@ -51,9 +49,10 @@ abbrev pub put_if : {A B : Type 0} → (A → Option B) → Option A → Option 
 put_if put None before = before
 put_if put (Some next) before = put next
 
--- what runs lead to took its place: each is among those that wait, or among the ends with its number of attempts
+-- what runs lead to took its place: each is among those that wait, or among the ends with its number of attempts; the callers stay under their numbers
 pub record IsPut {S I : Type 0} (p : Program) (old new : Sets I) (heap : HeapView S I) (limit : ℕ) (made : List Bool → ℕ) (leads : List Bool → Option Next) (before after : Round S I) : Type 0 where
   pub underway : IsUnderway p new heap limit after
+  pub keeps : Keeps before.callers after.callers
   pub waits : (c : List Bool) → waiting_at new heap after.callers after.groups.items c ≡ put_if (waits_after limit (made c)) (leads c) (waiting_at old heap before.callers before.groups.items c)
   pub ends : (c : List Bool) → value_at new (leaves_of after.ends.items) c ≡ put_if (end_after limit (made c)) (leads c) (value_at old (leaves_of before.ends.items) c)
   pub spent : (c : List Bool) → value_at new (leaves_of after.spent.items) c ≡ put_if (spent_after limit (made c)) (leads c) (value_at old (leaves_of before.spent.items) c)
@@ -92,14 +91,13 @@ leads_in sets condition leads c = if sets.test condition c then Some (leads c) e
 pub record MayGoOn {S I : Type 0} (p : Program) (sets : Sets I) (heap : HeapView S I) (limit : ℕ) (round : Round S I) (group : GroupView S I) : Type 0 where
   pub is_heap : IsHeap sets heap
   pub underway : IsUnderway p sets heap limit round
-  pub stands : StandsIn p sets heap [] group
-  pub kind : is_call group.top.kind ≡ true
+  pub stands : StandsIn p sets heap round.callers group
   pub bound : (c : List Bool) → sets.test (path_of group) c ≡ true → attempts_at sets group c ≤ limit
   pub vacant : IsVacant sets round (sets.test (path_of group))
 
 -- they went on, and wrote nothing
 pub record HaveGoneOn {S I : Type 0} (p : Program) (old new : Sets I) (heap : HeapView S I) (limit : ℕ) (group : GroupView S I) (before after : Round S I) : Type 0 where
-  pub put : IsPut p old new heap limit (attempts_at old group) (leads_in old (path_of group) (λ c. Goes (state_at old heap [] group c))) before after
+  pub put : IsPut p old new heap limit (attempts_at old group) (leads_in old (path_of group) (λ c. Goes (state_at old heap before.callers group c))) before after
   pub texts : after.texts ≡ before.texts
 
 -- ---- outcomes that wait for their place
@@ -109,36 +107,37 @@ abbrev pub made_at : {S I : Type 0} → Sets I → Conditional ℕ S I → List 
 made_at sets attempts c = unwrap_or (cond_at sets attempts c) 0
 
 -- a group of an outcome, with its attempts
-pub record IsGoing {S I : Type 0} (p : Program) (sets : Sets I) (heap : HeapView S I) (attempts : Conditional ℕ S I) (group : GroupView S I) : Type 0 where
-  pub stands : StandsIn p sets heap [] group
+pub record IsGoing {S I : Type 0} (p : Program) (sets : Sets I) (heap : HeapView S I) (tree : List (Option (Caller S I))) (attempts : Conditional ℕ S I) (group : GroupView S I) : Type 0 where
+  pub stands : StandsIn p sets heap tree group
   pub made : (c : List Bool) → sets.test (path_of group) c ≡ true → attempts_at sets group c ≡ made_at sets attempts c
 
-abbrev pub HasGoing : {S I : Type 0} → Program → Sets I → HeapView S I → Conditional ℕ S I → Outcome S I → Type 0
-HasGoing p sets heap attempts (shared.Go group) = IsGoing p sets heap attempts group
-HasGoing p sets heap attempts (shared.Raise group class message) = IsGoing p sets heap attempts group
-HasGoing p sets heap attempts (shared.Throw group thrown) = Unit {0}
-HasGoing p sets heap attempts (shared.Begin group class) = Unit {0}
-HasGoing p sets heap attempts (shared.Native group method) = Unit {0}
-HasGoing p sets heap attempts (shared.Write group stream text) = IsGoing p sets heap attempts group × (text < length heap.texts)
-HasGoing p sets heap attempts (shared.Ended condition end) = Unit {0}
+-- what has to be so of an outcome that takes its place, and of no other
+abbrev pub HasGoing : {S I : Type 0} → Program → Sets I → HeapView S I → List (Option (Caller S I)) → Conditional ℕ S I → Outcome S I → Type 0
+HasGoing p sets heap tree attempts (shared.Go group) = IsGoing p sets heap tree attempts group
+HasGoing p sets heap tree attempts (shared.Raise group class message) = Unit {0}
+HasGoing p sets heap tree attempts (shared.Throw group thrown) = Unit {0}
+HasGoing p sets heap tree attempts (shared.Begin group class) = Unit {0}
+HasGoing p sets heap tree attempts (shared.Native group method) = Unit {0}
+HasGoing p sets heap tree attempts (shared.Write group stream text) = IsGoing p sets heap tree attempts group × (text < length heap.texts)
+HasGoing p sets heap tree attempts (shared.Ended condition end) = Unit {0}
 
 -- an outcome of the configurations that have these attempts
-pub record IsPlaceable {S I : Type 0} (p : Program) (sets : Sets I) (heap : HeapView S I) (attempts : Conditional ℕ S I) (outcome : Outcome S I) : Type 0 where
+pub record IsPlaceable {S I : Type 0} (p : Program) (sets : Sets I) (heap : HeapView S I) (tree : List (Option (Caller S I))) (attempts : Conditional ℕ S I) (outcome : Outcome S I) : Type 0 where
   pub known : IsKnown sets (condition_of outcome)
   pub inside : IsInside sets (condition_of outcome) attempts.scope
-  pub going : HasGoing p sets heap attempts outcome
+  pub going : HasGoing p sets heap tree attempts outcome
 
-abbrev pub ArePlaceable : {S I : Type 0} → Program → Sets I → HeapView S I → Conditional ℕ S I → List (Outcome S I) → Type 0
-ArePlaceable p sets heap attempts [] = Unit {0}
-ArePlaceable p sets heap attempts (outcome ∷ outcomes) = IsPlaceable p sets heap attempts outcome × ArePlaceable p sets heap attempts outcomes
+abbrev pub ArePlaceable : {S I : Type 0} → Program → Sets I → HeapView S I → List (Option (Caller S I)) → Conditional ℕ S I → List (Outcome S I) → Type 0
+ArePlaceable p sets heap tree attempts [] = Unit {0}
+ArePlaceable p sets heap tree attempts (outcome ∷ outcomes) = IsPlaceable p sets heap tree attempts outcome × ArePlaceable p sets heap tree attempts outcomes
 
 -- what an outcome says of the configurations in its condition
-abbrev pub said_by : {S I : Type 0} → Sets I → HeapView S I → Outcome S I → List Bool → Option PlainOutcome
-said_by sets heap outcome c = if sets.test (condition_of outcome) c then Some (outcome_at sets heap [] c outcome) else None
+abbrev pub said_by : {S I : Type 0} → Sets I → HeapView S I → List (Option (Caller S I)) → Outcome S I → List Bool → Option PlainOutcome
+said_by sets heap tree outcome c = if sets.test (condition_of outcome) c then Some (outcome_at sets heap tree c outcome) else None
 
 -- what outcomes say
-abbrev pub said_in : {S I : Type 0} → Sets I → HeapView S I → List (Outcome S I) → List Bool → Option PlainOutcome
-said_in sets heap outcomes c = comes_to sets heap [] c outcomes
+abbrev pub said_in : {S I : Type 0} → Sets I → HeapView S I → List (Option (Caller S I)) → List (Outcome S I) → List Bool → Option PlainOutcome
+said_in sets heap tree outcomes c = comes_to sets heap tree c outcomes
 
 abbrev pub led_by : Program → (List Bool → Option PlainOutcome) → List Bool → Option Next
 led_by p came c = option_map (next p) (came c)
@@ -150,52 +149,9 @@ pub record IsOutcomePlaced {S I : Type 0} (p : Program) (old new : Sets I) (heap
 
 -- what has to be so before outcomes of these attempts take their places at some configurations
 pub record MayPlace {S I : Type 0} (p : Program) (sets : Sets I) (heap : HeapView S I) (limit : ℕ) (attempts : Conditional ℕ S I) (round : Round S I) (set : List Bool → Bool) : Type 0 where
-  pub bounded : IsBounded p
   pub is_heap : IsHeap sets heap
   pub underway : IsUnderway p sets heap limit round
   pub is_cond : IsCond nat_cmp sets attempts
   pub bound : (c : List Bool) → sets.test attempts.scope c ≡ true → made_at sets attempts c ≤ limit
   pub vacant : IsVacant sets round set
   pub unwritten : IsUnwritten sets round set
-
--- ---- what has a place
-
--- an outcome of a frame of a call, that is built
-abbrev pub has_place : {S I : Type 0} → Program → Outcome S I → Bool
-has_place p (shared.Go group) = is_call group.top.kind
-has_place p (shared.Raise group class message) = is_call group.top.kind && has_none (catches_of (method_at p group.top.method.0).code)
-has_place p (shared.Throw group thrown) = false
-has_place p (shared.Begin group class) = false
-has_place p (shared.Native group method) = false
-has_place p (shared.Write group stream text) = is_call group.top.kind
-has_place p (shared.Ended condition end) = true
-
--- or no configuration comes to it
-abbrev pub HasPlace : {S I : Type 0} → Program → Sets I → Outcome S I → Type 0
-HasPlace p sets outcome = (condition_of outcome ≡ sets.never) ⊎ (has_place p outcome ≡ true)
-
-abbrev pub HavePlaces : {S I : Type 0} → Program → Sets I → List (Outcome S I) → Type 0
-HavePlaces p sets [] = Unit {0}
-HavePlaces p sets (outcome ∷ outcomes) = HasPlace p sets outcome × HavePlaces p sets outcomes
-
--- some configuration comes to an outcome that has no place
-pub record IsUnplaced {S I : Type 0} (p : Program) (sets : Sets I) (outcome : Outcome S I) : Type 0 where
-  pub nonempty : condition_of outcome ≢ sets.never
-  pub unplaced : has_place p outcome ≡ false
-
-pub record HasUnplaced {S I : Type 0} (p : Program) (sets : Sets I) (outcomes : List (Outcome S I)) : Type 0 where
-  pub outcome : Outcome S I
-  pub among : Contains outcomes outcome
-  pub is_unplaced : IsUnplaced p sets outcome
-
--- an outcome that has no place: it isn't built, or is a native method's, which is carried out before
-abbrev pub is_refused : Program → PlainOutcome → Bool
-is_refused p (Native m s) = true
-is_refused p o = not (is_built_outcome p o)
-
--- some configuration comes to such an outcome
-pub record MeetsRefused (p : Program) (came : List Bool → Option PlainOutcome) : Type 0 where
-  pub config : List Bool
-  pub outcome : PlainOutcome
-  pub comes : came config ≡ Some outcome
-  pub refused : is_refused p outcome ≡ true

@@ -4,5 +4,5 @@
 pub mod placing;
 pub mod round;
 
-pub use placing::{have_places, place_all};
+pub use placing::place_all;
 pub use round::{Round, Setting};

@@ -1,27 +1,23 @@
 //! What an attempt came to takes its place: among the groups that wait, among the ends with their numbers of attempts, and
 //! among the texts of the round.
 
-ghost use Rattle.std.specs.Prelude.{◌≡◌, ◌<◌, ◌==◌, ℕ, Bool, List, [], Option, Some, true, false, if◌then◌else◌, length, position, IsTrue, OnOk};
+ghost use Rattle.std.specs.Prelude.{◌≡◌, ◌<◌, ◌==◌, Bool, List, Some, true, if◌then◌else◌, length, position, OnOk};
+ghost use Rattle.std.specs.List.{list_all};
 ghost use Rattle.std.specs.Ordering.{nat_cmp};
 ghost use Rattle.vx_space.specs.Sets.{Extends, IsKnown, Sets};
-ghost use Rattle.vx_cond.specs.Cond.{IsCond, IsInside};
+ghost use Rattle.vx_cond.specs.Cond.{IsCond};
 ghost use Rattle.vx_cond.specs.Leaves.{AreLeaves, AreLeavesApart, AreLeavesOf, IsApart, first_of, value_at};
 ghost use Rattle.vx_group.specs.Group.{attempts_at, path_of};
-ghost use Rattle.vx_families.specs.Built.{has_none, is_call};
-ghost use Rattle.vx_java.specs.Selection.{catches_of};
 ghost use Rattle.vx_findings.specs.Orders.{piece_cmp};
 ghost use Rattle.vx_findings.specs.Shared.{leaves_of};
 ghost use Rattle.vx_java.specs.Machine.{Goes};
 ghost use Rattle.vx_java.specs.Machine.{Write as WriteOf};
-ghost use Rattle.vx_java.specs.Throwing.{next_after_raise};
-ghost use Rattle.vx_link.specs.Parts.{method_at};
 ghost use Rattle.vx_outcome.specs.Outcome.{Divide, condition_of};
 ghost use Rattle.vx_group_states.specs.Stands.{state_at};
 ghost use Rattle.vx_value.specs.declared.end.End.TheVariants.{Unfinished};
-ghost use Rattle.vx_families.specs.Bounds.{IsBounded};
 ghost use Rattle.vx_value.specs.Texts.{text_at};
-ghost use Rattle.vx_standing.specs.Attempted.{AreConditionsKnown};
-ghost use Rattle.vx_placing.specs.Placing.{HaveGoneOn, MayEnd, MayGoOn, MayPlace, ArePlaceable, AreWritten, HasPlace, HasUnplaced, HavePlaces, IsEnded, IsOutcomePlaced, IsPlaceable, IsPut, IsUnplaced, IsUnwritten, IsUsedUp, has_place, leads_in, made_at, said_by, said_in};
+ghost use Rattle.vx_standing.specs.Attempted.{is_placed};
+ghost use Rattle.vx_placing.specs.Placing.{HaveGoneOn, MayEnd, MayGoOn, MayPlace, ArePlaceable, AreWritten, IsEnded, IsOutcomePlaced, IsPlaceable, IsPut, IsUnwritten, IsUsedUp, leads_in, said_by, said_in};
 ghost use Rattle.vx_standing.specs.Waiting.{piece_if};
 
 use crate::round::{Round, Setting};
@@ -29,25 +25,11 @@ use std::alloc::Global;
 use vx_cond::{Cond, Leaf};
 use vx_findings::{Piece, Shared, add};
 use vx_group::Group;
-use vx_link::Program;
 use vx_outcome::Outcome;
 use vx_sched::place_group;
 use vx_space::{Space, SpaceFault};
-use vx_spelling::{class_text, utf8};
-use vx_value::{ClassId, End, Kind, MethodId, Name, Stream};
-
-/// Whether the method has no catch row.
-fn catches_nothing(program: &Program, method: MethodId) -> bool
-    ensures { result ≡ has_none (catches_of (method_at program.now method.0).code) }
-{
-    let Some(method) = program.method(method) else {
-        return true;
-    };
-    match &method.code {
-        Some(code) => code.catches.as_slice().is_empty(),
-        None => true,
-    }
-}
+use vx_spelling::utf8;
+use vx_value::{End, Name, Stream};
 
 fn has_value<S: Space>(leaf: &Leaf<u64, S>, value: u64) -> bool
     ensures { result ≡ (leaf.now.value == value) }
@@ -210,85 +192,16 @@ fn write<S: Space>(
     requires text { text < length setting.now.heap.now.texts }
     requires unwritten { IsUnwritten (S.sets space.old) round.old ((S.sets space.old).test (path_of group)) }
     ensures extends { Extends (S.sets space.old) (S.sets space.new) }
-    ensures put { OnOk result (IsPut setting.now.program.now (S.sets space.old) (S.sets space.new) setting.now.heap.now setting.now.limit (attempts_at (S.sets space.old) group) (leads_in (S.sets space.old) (path_of group) (λ c. Goes (state_at (S.sets space.old) setting.now.heap.now [] group c))) round.old round.new) }
-    ensures written { OnOk result (AreWritten (S.sets space.old) (S.sets space.new) (leads_in (S.sets space.old) (path_of group) (λ c. WriteOf stream (text_at setting.now.heap.now.texts text) (state_at (S.sets space.old) setting.now.heap.now [] group c))) round.old round.new) }
+    ensures put { OnOk result (IsPut setting.now.program.now (S.sets space.old) (S.sets space.new) setting.now.heap.now setting.now.limit (attempts_at (S.sets space.old) group) (leads_in (S.sets space.old) (path_of group) (λ c. Goes (state_at (S.sets space.old) setting.now.heap.now round.old.callers group c))) round.old round.new) }
+    ensures written { OnOk result (AreWritten (S.sets space.old) (S.sets space.new) (leads_in (S.sets space.old) (path_of group) (λ c. WriteOf stream (text_at setting.now.heap.now.texts text) (state_at (S.sets space.old) setting.now.heap.now round.old.callers group c))) round.old round.new) }
 {
     let bytes = utf8(alloc, setting.heap.texts().text(text))?;
     put_text(space, &mut round.texts, stream, bytes, group.path())?;
     go_on(setting, space, round, group)
 }
 
-/// Runs raise an exception in a method without catch rows, so they have come to its end `Uncaught` (JVMS 2.10).
-fn raise<S: Space>(
-    alloc: Global,
-    setting: &Setting<S>,
-    space: &mut S,
-    round: &mut Round<S>,
-    attempts: &Cond<u64, S>,
-    group: &Group<S>,
-    class: ClassId,
-) -> Result<(), SpaceFault>
-    requires bounded { IsBounded setting.now.program.now }
-    requires going { MayGoOn setting.now.program.now (S.sets space.old) setting.now.heap.now setting.now.limit round.old group.now }
-    requires catches { has_none (catches_of (method_at setting.now.program.now group.now.top.method.0).code) ≡ true }
-    requires attempts { IsCond nat_cmp (S.sets space.old) attempts.now }
-    requires inside { IsInside (S.sets space.old) (path_of group.now) attempts.now.scope }
-    ensures extends { Extends (S.sets space.old) (S.sets space.new) }
-    ensures put { OnOk result ((message : Option (List ℕ)) → IsPut setting.now.program.now (S.sets space.old) (S.sets space.new) setting.now.heap.now setting.now.limit (made_at (S.sets space.old) attempts.now) (leads_in (S.sets space.old) (path_of group.now) (λ c. next_after_raise setting.now.program.now (state_at (S.sets space.old) setting.now.heap.now [] group.now c) class.0 message)) round.old round.new) }
-    ensures texts { OnOk result (round.new.texts ≡ round.old.texts) }
-{
-    let text = class_text(alloc, setting.program, class)?;
-    finish(space, round, attempts, group.path(), End::Uncaught(text))
-}
-
-/// Whether an outcome is built: the kind of its frame, and what it comes to.
-fn has_place<S: Space>(program: &Program, outcome: &Outcome<S>) -> bool
-    ensures { result ≡ has_place program.now outcome.now }
-{
-    match outcome {
-        Outcome::Go { group } | Outcome::Write { group, .. } => is_call(group),
-        Outcome::Raise { group, .. } => {
-            is_call(group) && catches_nothing(program, group.top_frame().method)
-        }
-        Outcome::Ended { .. } => true,
-        Outcome::Throw { .. } | Outcome::Begin { .. } | Outcome::Native { .. } => false,
-    }
-}
-
-fn is_call<S: Space>(group: &Group<S>) -> bool
-    ensures { result ≡ is_call group.now.top.kind }
-{
-    matches!(group.top_frame().kind, Kind::Call)
-}
-
-/// Whether no configuration comes to an outcome, or it is built.
-fn is_placeable<S: Space>(program: &Program, space: &S, outcome: &Outcome<S>) -> bool
-    requires { IsKnown (S.sets space.now) (condition_of outcome.now) }
-    ensures yes { IsTrue result → HasPlace program.now (S.sets space.now) outcome.now }
-    ensures no { result ≡ false → IsUnplaced program.now (S.sets space.now) outcome.now }
-{
-    if space.is_never(outcome.condition()) {
-        return true;
-    }
-    has_place(program, outcome)
-}
-
-/// Whether each outcome to which some configuration comes is built.
-pub fn have_places<S: Space>(program: &Program, space: &S, outcomes: &[Outcome<S>]) -> bool
-    requires { AreConditionsKnown (S.sets space.now) outcomes.now }
-    ensures yes { IsTrue result → HavePlaces program.now (S.sets space.now) outcomes.now }
-    ensures no { result ≡ false → HasUnplaced program.now (S.sets space.now) outcomes.now }
-{
-    for outcome in outcomes {
-        if !is_placeable(program, space, outcome) {
-            return false;
-        }
-    }
-    true
-}
-
-/// Gives an outcome that is built its place.
-fn place_built<S: Space>(
+/// Gives an outcome its place.
+fn place_outcome<S: Space>(
     alloc: Global,
     setting: &Setting<S>,
     space: &mut S,
@@ -297,10 +210,10 @@ fn place_built<S: Space>(
     outcome: Outcome<S>,
 ) -> Result<(), SpaceFault>
     requires may { MayPlace setting.now.program.now (S.sets space.old) setting.now.heap.now setting.now.limit attempts.now round.old ((S.sets space.old).test (condition_of outcome)) }
-    requires placeable { IsPlaceable setting.now.program.now (S.sets space.old) setting.now.heap.now attempts.now outcome }
-    requires place { has_place setting.now.program.now outcome ≡ true }
+    requires placeable { IsPlaceable setting.now.program.now (S.sets space.old) setting.now.heap.now round.old.callers attempts.now outcome }
+    requires placed { is_placed outcome ≡ true }
     ensures extends { Extends (S.sets space.old) (S.sets space.new) }
-    ensures placed { OnOk result (IsOutcomePlaced setting.now.program.now (S.sets space.old) (S.sets space.new) setting.now.heap.now setting.now.limit attempts.now (said_by (S.sets space.old) setting.now.heap.now outcome) round.old round.new) }
+    ensures placed { OnOk result (IsOutcomePlaced setting.now.program.now (S.sets space.old) (S.sets space.new) setting.now.heap.now setting.now.limit attempts.now (said_by (S.sets space.old) setting.now.heap.now round.old.callers outcome) round.old round.new) }
 {
     match outcome {
         Outcome::Go { group } => go_on(setting, space, round, group),
@@ -309,12 +222,12 @@ fn place_built<S: Space>(
             stream,
             text,
         } => write(alloc, setting, space, round, group, stream, text),
-        Outcome::Raise {
-            group,
-            class,
-            message: _message,
-        } => raise(alloc, setting, space, round, attempts, &group, class),
         Outcome::Ended { condition, end } => finish(space, round, attempts, condition, end),
+        Outcome::Raise {
+            group: _group,
+            class: _class,
+            message: _message,
+        } => unreachable!(),
         Outcome::Throw {
             group: _group,
             thrown: _thrown,
@@ -330,28 +243,8 @@ fn place_built<S: Space>(
     }
 }
 
-/// Gives an outcome its place. One to which no configuration comes is passed over.
-fn place_outcome<S: Space>(
-    alloc: Global,
-    setting: &Setting<S>,
-    space: &mut S,
-    round: &mut Round<S>,
-    attempts: &Cond<u64, S>,
-    outcome: Outcome<S>,
-) -> Result<(), SpaceFault>
-    requires may { MayPlace setting.now.program.now (S.sets space.old) setting.now.heap.now setting.now.limit attempts.now round.old ((S.sets space.old).test (condition_of outcome)) }
-    requires placeable { IsPlaceable setting.now.program.now (S.sets space.old) setting.now.heap.now attempts.now outcome }
-    requires place { HasPlace setting.now.program.now (S.sets space.old) outcome }
-    ensures extends { Extends (S.sets space.old) (S.sets space.new) }
-    ensures placed { OnOk result (IsOutcomePlaced setting.now.program.now (S.sets space.old) (S.sets space.new) setting.now.heap.now setting.now.limit attempts.now (said_by (S.sets space.old) setting.now.heap.now outcome) round.old round.new) }
-{
-    if space.is_never(outcome.condition()) {
-        return Ok(());
-    }
-    place_built(alloc, setting, space, round, attempts, outcome)
-}
-
-/// Gives each outcome its place, one after the other.
+/// Gives each outcome of an attempt its place, one after the other. Each goes on, writes, or has ended; the heap stays. After
+/// want of memory the round is given up.
 pub fn place_all<S: Space>(
     alloc: Global,
     setting: &Setting<S>,
@@ -362,10 +255,10 @@ pub fn place_all<S: Space>(
 ) -> Result<(), SpaceFault>
     requires may { MayPlace setting.now.program.now (S.sets space.old) setting.now.heap.now setting.now.limit attempts.now round.old ((S.sets space.old).test attempts.now.scope) }
     requires divide { Divide (S.sets space.old) ((S.sets space.old).test attempts.now.scope) outcomes.items }
-    requires placeable { ArePlaceable setting.now.program.now (S.sets space.old) setting.now.heap.now attempts.now outcomes.items }
-    requires places { HavePlaces setting.now.program.now (S.sets space.old) outcomes.items }
+    requires placeable { ArePlaceable setting.now.program.now (S.sets space.old) setting.now.heap.now round.old.callers attempts.now outcomes.items }
+    requires placed { list_all is_placed outcomes.items ≡ true }
     ensures extends { Extends (S.sets space.old) (S.sets space.new) }
-    ensures placed { OnOk result (IsOutcomePlaced setting.now.program.now (S.sets space.old) (S.sets space.new) setting.now.heap.now setting.now.limit attempts.now (said_in (S.sets space.old) setting.now.heap.now outcomes.items) round.old round.new) }
+    ensures placed { OnOk result (IsOutcomePlaced setting.now.program.now (S.sets space.old) (S.sets space.new) setting.now.heap.now setting.now.limit attempts.now (said_in (S.sets space.old) setting.now.heap.now round.old.callers outcomes.items) round.old round.new) }
 {
     for outcome in outcomes {
         place_outcome(alloc, setting, space, round, attempts, outcome)?;

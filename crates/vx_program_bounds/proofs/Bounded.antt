@@ -4,7 +4,7 @@ use Rattle.std.proofs.lemmas.List.Folds.{list_all-append}
 use Rattle.std.specs.List.{list_all, list_any}
 use Rattle.vx_class.specs.File.{Holds}
 use Rattle.vx_class.specs.declared.class_file.ClassFile.{ClassFile}
-use Rattle.vx_families.specs.Bounds.{IsBounded, has_short_code, is_short}
+use Rattle.vx_families.specs.Bounds.{IsBounded, has_argument_room, has_short_code, is_short}
 use Rattle.vx_heap.specs.Heap.{has_options}
 use Rattle.vx_java.specs.Initialisation.{max_locals}
 use Rattle.vx_link.specs.CoreFiles.{core_count}
@@ -26,7 +26,7 @@ use Rattle.vx_model.specs.declared.model.OptionField.{OptionField}
 
 -- ---- no fault
 
-no_fault : (fault : Option LinkFault) (made p : Program) → unless_fault fault made ≡ Ok p → (fault ≡ None) × (made ≡ p)
+pub no_fault : (fault : Option LinkFault) (made p : Program) → unless_fault fault made ≡ Ok p → (fault ≡ None) × (made ≡ p)
 no_fault None made p is = (refl, ap (program_in made) is)
   where
     program_in : Program → Result Program LinkFault → Program
@@ -38,7 +38,7 @@ has_main : (b : Bool) → ◌≡◌ {A = Option LinkFault} (elim b [ true ↦ No
 has_main true is = refl
 has_main false is = cc
 
-main_declared : (classes core : List ClassFile) (options : List OptionField) (main : List ℕ) → link_fault classes core options main ≡ None
+pub main_declared : (classes core : List ClassFile) (options : List OptionField) (main : List ℕ) → link_fault classes core options main ≡ None
     → passes (λ c. list_any (is_main c) c.methods) (file_named classes main) ≡ true
 main_declared classes core options main is =
     has_main
@@ -88,7 +88,8 @@ good classes core numbers options main few holds count short_core declared =
         classes = class_numbers (length (linked_classes names all 0 0)) small;
         core = enough;
         texts = short_classes names all 0 0 short_all;
-        codes = all_follow is_short_method (λ m. has_short_code m.code) (λ m h. first_holds _ _ h) methods methods_short;
+        codes = all_follow is_short_method (λ m. has_short_code m.code) (λ m h. first_holds _ _ (first_holds _ _ h)) methods methods_short;
+        arguments = all_follow is_short_method has_argument_room (λ m h. second_holds _ _ (first_holds _ _ h)) methods methods_short;
         signatures = all_follow is_short_method (λ m. is_short (length m.descriptor)) (λ m h. second_holds _ _ h) methods methods_short;
         main = found_room methods (methods_named (linked_classes names all 0 0) main)
             (main_among names core main methods classes 0 0 0 [] (methods_from (length classes) core numbers) refl refl holds declared);

@@ -170,18 +170,20 @@ own_main methods class c front (m ∷ declared) before after from is count holds
 
 -- ---- the classes
 
-count_methods : (class : ℕ) (pool : Pool) (methods : List Method) → length (linked_methods class pool methods []) ≡ length methods
-count_methods class pool [] = refl
-count_methods class pool (m ∷ methods) = ap suc (count_methods class pool methods)
+-- how many methods each has
+pub count_methods : (class : ℕ) (pool : Pool) (methods : List Method) (numbers : List ℕ) → length (linked_methods class pool methods numbers) ≡ length methods
+count_methods class pool [] numbers = refl
+count_methods class pool (m ∷ methods) [] = ap suc (count_methods class pool methods [])
+count_methods class pool (m ∷ methods) (n ∷ numbers) = ap suc (count_methods class pool methods numbers)
 
 count_with_clinit : (class n : ℕ) (own : Bool) (methods : List LinkedMethod) → length methods ≡ n
     → length (methods ++ (if own then [] else empty_clinit class ∷ [])) ≡ (if own then n else n + 1)
-count_with_clinit class n true methods e = length-append methods [] ∙ omega (arith, e)
-count_with_clinit class n false methods e = length-append methods (empty_clinit class ∷ []) ∙ ap (λ k. k + 1) e
+count_with_clinit class n true methods same = length-append methods [] ∙ omega (arith, same)
+count_with_clinit class n false methods same = length-append methods (empty_clinit class ∷ []) ∙ ap (λ k. k + 1) same
 
-count_of_class : (class : ℕ) (c : ClassFile) → length (methods_of_class class c []) ≡ method_count c
-count_of_class class c =
-    count_with_clinit class (length c.methods) (is_some (own_clinit c)) (linked_methods class c.pool c.methods []) (count_methods class c.pool c.methods)
+pub count_of_class : (class : ℕ) (c : ClassFile) (numbers : List ℕ) → length (methods_of_class class c numbers) ≡ method_count c
+count_of_class class c numbers =
+    count_with_clinit class (length c.methods) (is_some (own_clinit c)) (linked_methods class c.pool c.methods numbers) (count_methods class c.pool c.methods numbers)
 
 -- the classes of a folder, the first of the name of which declares main, stand before others
 pub main_among : (names : List (List ℕ)) (core : List ClassFile) (main : List ℕ) (methods : List LinkedMethod) (files : List ClassFile)
@@ -218,6 +220,6 @@ main_among names core main methods (c ∷ files) class from fields before after 
     (before ++ methods_of_class class c []) after
     (is ∙ ap (λ ms. before ++ ms) (append_assoc (methods_of_class class c []) (methods_from (suc class) files []) after)
     ∙ sym (append_assoc before (methods_of_class class c []) (methods_from (suc class) files [] ++ after)))
-    (length-append before (methods_of_class class c []) ∙ (λ i. count i + count_of_class class c i))
+    (length-append before (methods_of_class class c []) ∙ (λ i. count i + count_of_class class c [] i))
     (All-tail Holds c files holds)
     (sym (ap (λ b. passes (λ c. list_any (is_main c) c.methods) (found b)) other) ∙ has)))

@@ -2,6 +2,8 @@
 use Rattle.std.proofs.Common.{Bool, List, ap, drop, refl, sym, take, take-add, true, ℕ, ◌+◌, ◌∙◌, ◌≡◌}
 use Rattle.std.proofs.lemmas.List.Folds.{list_all-append, list_all-map}
 use Rattle.std.specs.List.{list_all}
+use Rattle.vx_desc.specs.Descriptors.{element_at, field_of, method_of, result_at, type_at, types_at}
+use Rattle.vx_desc.specs.Names.{is_class_name}
 use Rattle.vx_link.specs.CoreFiles.{core_files}
 use Rattle.vx_link.specs.CoreTable.{core_table}
 use Rattle.vx_link.specs.Written.{WrittenClass, class_file}
@@ -18,24 +20,30 @@ more_rows n m rows first next =
     ap (list_all is_short_row) (take-add n m rows) ∙ list_all-append is_short_row (take n rows) (take m (drop n rows)) ∙ both first next
 
 first_rows : list_all is_short_row (take 9 core_table) ≡ true
+unfolding element_at field_of is_class_name method_of result_at type_at types_at
 first_rows = refl
 
 text_rows : list_all is_short_row (take 3 (drop 9 core_table)) ≡ true
+unfolding element_at field_of is_class_name method_of result_at type_at types_at
 text_rows = refl
 
 value_rows : list_all is_short_row (take 6 (drop 12 core_table)) ≡ true
+unfolding element_at field_of is_class_name method_of result_at type_at types_at
 value_rows = refl
 
 general_rows : list_all is_short_row (take 7 (drop 18 core_table)) ≡ true
+unfolding element_at field_of is_class_name method_of result_at type_at types_at
 general_rows = refl
 
 exception_rows : list_all is_short_row (take 10 (drop 25 core_table)) ≡ true
+unfolding element_at field_of is_class_name method_of result_at type_at types_at
 exception_rows = refl
 
 error_rows : list_all is_short_row (take 11 (drop 35 core_table)) ≡ true
+unfolding element_at field_of is_class_name method_of result_at type_at types_at
 error_rows = refl
 
-all_rows : take 46 core_table ≡ core_table
+pub all_rows : take 46 core_table ≡ core_table
 all_rows = refl
 
 -- all of them

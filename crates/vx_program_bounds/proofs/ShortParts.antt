@@ -5,7 +5,9 @@ use Rattle.std.specs.List.{list_all}
 use Rattle.vx_class.specs.declared.class_file.ClassFile.{ClassFile}
 use Rattle.vx_class.specs.declared.class_file.Field.{Field}
 use Rattle.vx_class.specs.declared.class_file.Method.{Method}
-use Rattle.vx_families.specs.Bounds.{has_short_code, has_short_texts, is_short, is_short_entry}
+use Rattle.vx_desc.specs.Descriptors.{element_at, field_of, method_of, result_at, type_at, types_at}
+use Rattle.vx_desc.specs.Names.{is_class_name}
+use Rattle.vx_families.specs.Bounds.{has_argument_room, has_short_code, has_short_texts, is_short, is_short_entry}
 use Rattle.vx_heap.specs.Heap.{has_option, has_options}
 use Rattle.vx_link.specs.Faults.{name_of}
 use Rattle.vx_link.specs.Linked.{empty_clinit, fields_from, fields_with_layout, is_place, linked_classes, linked_field, linked_methods, method_count, methods_from, methods_of_class, option_of, own_clinit}
@@ -14,7 +16,7 @@ use Rattle.vx_link.specs.declared.program.LinkedField.{LinkedField}
 use Rattle.vx_link.specs.declared.program.LinkedMethod.{LinkedMethod}
 use Rattle.vx_link.specs.declared.program.Program.{Program}
 use Rattle.vx_program_bounds.proofs.ListLaws.{both, first_holds, place_below, place_if, second_holds}
-use Rattle.vx_program_bounds.proofs.ShortFiles.{is_short_file, short_text}
+use Rattle.vx_program_bounds.proofs.ShortFiles.{is_short_file, is_short_in, short_text}
 use Rattle.vx_model.specs.declared.model.OptionField.{OptionField}
 use Rattle.vx_pool.specs.declared.pool.Pool.{Pool}
 
@@ -32,12 +34,12 @@ count_classes names (c ∷ files) methods fields = ap suc (count_classes names f
 
 -- ---- methods
 
--- its code and its descriptor
+-- its code, the local variables that this has for the arguments, and its descriptor
 abbrev pub is_short_method : LinkedMethod → Bool
-is_short_method m = has_short_code m.code && is_short (length m.descriptor)
+is_short_method m = (has_short_code m.code && has_argument_room m) && is_short (length m.descriptor)
 
 short_methods_of : (class : ℕ) (pool : Pool) (methods : List Method) (numbers : List ℕ) → list_all is_short_entry pool.entries ≡ true
-    → list_all (λ m. has_short_code m.code) methods ≡ true → list_all is_short_method (linked_methods class pool methods numbers) ≡ true
+    → list_all (is_short_in pool) methods ≡ true → list_all is_short_method (linked_methods class pool methods numbers) ≡ true
 short_methods_of class pool [] numbers texts h = refl
 short_methods_of class pool (m ∷ methods) [] texts h =
     both (both (first_holds _ _ h) (short_text pool m.descriptor texts)) (short_methods_of class pool methods [] texts (second_holds _ _ h))
@@ -45,6 +47,7 @@ short_methods_of class pool (m ∷ methods) (n ∷ numbers) texts h =
     both (both (first_holds _ _ h) (short_text pool m.descriptor texts)) (short_methods_of class pool methods numbers texts (second_holds _ _ h))
 
 short_clinit : (class : ℕ) (own : Bool) → list_all is_short_method (if own then [] else empty_clinit class ∷ []) ≡ true
+unfolding element_at field_of is_class_name method_of result_at type_at types_at
 short_clinit class true = refl
 short_clinit class false = refl
 

@@ -60,6 +60,7 @@ IsHeapFor-changed {S = S} {I = I} p s0 s1 before after f h a =
       static_count = a.statics ∙ h.static_count;
       init_count = a.inits ∙ h.init_count;
       literals = h.literals;
+      resolved = h.resolved;
       words = h.words;
       enough = h.enough;
       first = h.first;

@@ -1,2 +1,4 @@
+pub mod Named
+pub mod ClassPlaces
 pub mod Fields
 pub mod Calls

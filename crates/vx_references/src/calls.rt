@@ -1,10 +1,11 @@
 //! What the instruction names, and what it comes to in a program alone (JVMS 5.4.3.3, 6.5).
 
-ghost use Rattle.std.specs.Prelude.{◌≡◌, IfOk};
+ghost use Rattle.std.specs.Prelude.{◌≡◌, IfOk, option_map};
 ghost use Rattle.vx_java.specs.Calls.{member_text};
-ghost use Rattle.vx_java.specs.Ids.{HasClassNumbers};
+ghost use Rattle.vx_java.specs.Ids.{HasClassNumbers, as_class};
 ghost use Rattle.vx_java.specs.Machine.{method_text};
 ghost use Rattle.vx_class.specs.Members.{STATIC};
+ghost use Rattle.vx_link.specs.ClassNames.{class_named};
 ghost use Rattle.vx_link.specs.Parts.{has, method_at};
 ghost use Rattle.vx_references.specs.Calls.{IsMethodReference, println};
 
@@ -14,7 +15,7 @@ use vx_java::parts::{
     class_of_method, descriptor_of_method, flags_of_method, is_interface, name_of_class,
     name_of_method,
 };
-use vx_java::{class_named, resolve_method};
+use vx_java::resolve_method;
 use vx_link::{AccessFlags, Program};
 use vx_value::{ClassId, MethodId, Name};
 
@@ -31,18 +32,20 @@ pub enum MethodReference {
     WrongKind,
 }
 
-fn is_static(program: &Program, method: MethodId) -> bool
+/// Whether a method is static.
+pub fn is_static(program: &Program, method: MethodId) -> bool
     ensures { result ≡ has STATIC (method_at program.now method.0).flags }
 {
     flags_of_method(program, method).contains(AccessFlags::STATIC)
 }
 
-/// Resolves the name of println of an int.
-pub fn println_reference(program: &Program) -> MethodReference
-    requires { HasClassNumbers program.now }
+/// Resolves the name of println of an int, where `owner` is the class that it names.
+pub fn println_reference(program: &Program, owner: Option<ClassId>) -> MethodReference
+    requires classes { HasClassNumbers program.now }
+    requires owner { owner ≡ option_map as_class (class_named program.now println.class) }
     ensures { IsMethodReference program.now result }
 {
-    let Some(named) = class_named(program, b"java/io/PrintStream") else {
+    let Some(named) = owner else {
         return MethodReference::NoClass;
     };
     if is_interface(program, named) {

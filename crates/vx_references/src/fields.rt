@@ -1,15 +1,16 @@
 //! What an instruction of a field and its program decide alone, the same at each configuration.
 
-ghost use Rattle.std.specs.Prelude.{◌≡◌, ◌<◌, ◌^◌, length};
+ghost use Rattle.std.specs.Prelude.{◌≡◌, ◌<◌, ◌^◌, length, option_map};
 ghost use Rattle.vx_java.specs.Checks.{same_bool, sort_of};
-ghost use Rattle.vx_java.specs.Ids.{HasClassNumbers};
+ghost use Rattle.vx_java.specs.Ids.{as_class};
+ghost use Rattle.vx_link.specs.ClassNames.{class_named};
 ghost use Rattle.vx_link.specs.Names.{member};
 ghost use Rattle.vx_link.specs.Parts.{is_static_field};
 ghost use Rattle.vx_references.specs.Fields.{IsFieldReference};
 
 use bitflags::Flags;
 use vx_desc::{Base, JavaType, field_type};
-use vx_java::{Sort, class_named, member, resolve_field};
+use vx_java::{Sort, member, resolve_field};
 use vx_link::{AccessFlags, Program};
 use vx_pool::Pool;
 use vx_value::{ClassId, FieldId};
@@ -50,7 +51,8 @@ pub fn sort_of(field_type: JavaType) -> Option<Sort>
     }
 }
 
-fn is_static_field(program: &Program, field: FieldId) -> bool
+/// Whether a field is static; one that isn't there is not.
+pub fn is_static_field(program: &Program, field: FieldId) -> bool
     ensures { result ≡ is_static_field program.now field.0 }
 {
     match program.field(field) {
@@ -59,7 +61,8 @@ fn is_static_field(program: &Program, field: FieldId) -> bool
     }
 }
 
-fn agrees(program: &Program, field: FieldId, is_static: bool) -> bool
+/// Whether a field is static where a static one is wanted, and isn't where one of an object is.
+pub fn agrees(program: &Program, field: FieldId, is_static: bool) -> bool
     ensures { result ≡ same_bool is_static (is_static_field program.now field.0) }
 {
     if is_static {
@@ -69,15 +72,16 @@ fn agrees(program: &Program, field: FieldId, is_static: bool) -> bool
     }
 }
 
-/// The field that an instruction names by an entry of a pool, where it wants a static one or one of an object.
+/// The field that an instruction names by an entry of a pool, where `owner` is the class that the entry names, and the instruction
+/// wants a static field or one of an object.
 pub fn field_reference(
     program: &Program,
     pool: &Pool,
     index: u16,
+    owner: Option<ClassId>,
     is_static: bool,
 ) -> FieldReference
-    requires classes { HasClassNumbers program.now }
-    requires class { length (member pool.now index).class < 2 ^ 32 }
+    requires owner { owner ≡ option_map as_class (class_named program.now (member pool.now index).class) }
     requires descriptor { length (member pool.now index).descriptor < 2 ^ 32 }
     ensures { IsFieldReference program.now pool.now index is_static result }
 {
@@ -88,7 +92,7 @@ pub fn field_reference(
     let Some(_sort) = sort_of(field_type) else {
         return FieldReference::Floating;
     };
-    let Some(named) = class_named(program, reference.class) else {
+    let Some(named) = owner else {
         return FieldReference::NoClass;
     };
     let Some(field) = resolve_field(program, named, reference.name, reference.descriptor) else {

@@ -10,5 +10,6 @@ mod spelling;
 mod writing;
 
 pub use projection::project_text;
-pub use report::{AttemptLine, EndLine, Piece, Report};
-pub use writing::write_report;
+pub use report::{AttemptLine, EndLine, Piece, Report, name_of};
+pub use spelling::put_spelled;
+pub use writing::{put_end, put_nodes, put_options, word_of_stream, write_report};

@@ -1,5 +1,8 @@
 //! What a report says.
 
+ghost use Rattle.std.specs.Prelude.{◌≡◌, []};
+ghost use Rattle.vx_list.specs.Places.{item_or};
+
 use vx_bdd_tools::Node;
 use vx_list::Items;
 use vx_value::{End, Name, Stream};
@@ -44,4 +47,14 @@ pub struct Report {
     pub ends: Items<EndLine>,
     /// In ascending order, and at least one in version 2; none in version 1.
     pub attempts: Items<AttemptLine>,
+}
+
+/// The name of an option; one that isn't there has none.
+pub fn name_of(names: &[Name], option: u32) -> &[u8]
+    ensures { result.now ≡ item_or names.now option [] }
+{
+    match names.get(option as usize) {
+        Some(name) => name.bytes(),
+        None => &[],
+    }
 }

@@ -153,7 +153,7 @@ fn put_head(out: &mut Vec<u8>, version: u8) -> Result<(), AllocError>
 
 /// Puts how many options there are, and their names.
 #[tactic(auto, unfolding(crate::specs::Lines::line_text, crate::specs::Lines::whole_line))]
-fn put_options(out: &mut Vec<u8>, options: &[Name]) -> Result<(), AllocError>
+pub fn put_options(out: &mut Vec<u8>, options: &[Name]) -> Result<(), AllocError>
     ensures { OnOk result (out.new.items ≡ out.old.items ++ (whole_line (Count (length options.now)) ++ flat_map whole_line (map Named options.now))) }
 {
     out.extend_from_slice(b"options ")?;
@@ -177,7 +177,8 @@ fn put_bounds(out: &mut Vec<u8>, limit: u64, rounds: u128) -> Result<(), AllocEr
     out.extend_from_slice(b"\n")
 }
 
-fn put_nodes(out: &mut Vec<u8>, nodes: &[Node]) -> Result<(), AllocError>
+/// Puts a line for each of some nodes, with their numbers from 2 on.
+pub fn put_nodes(out: &mut Vec<u8>, nodes: &[Node]) -> Result<(), AllocError>
     ensures { OnOk result (out.new.items ≡ out.old.items ++ flat_map whole_line (numbered 2 nodes.now)) }
 {
     for (place, node) in nodes.iter().enumerate() {

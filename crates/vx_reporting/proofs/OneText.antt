@@ -1,6 +1,5 @@
 -- A program has one text as its report.
 use Rattle.std.proofs.Common.{◌≡◌, ℕ, Bool, false, List, ◌++◌, length, map, filter, sym, ap, ◌∙◌, Result, Ok, Err, Vec, Global, IfOk}
-use Rattle.std.specs.Prelude.{Contains}
 use Rattle.std.specs.declared.alloc.AllocError.{AllocError}
 use Rattle.vx_bdd_tools.specs.declared.node.Node.{Node}
 use Rattle.vx_lockstep.specs.Findings.{AreAllowed}

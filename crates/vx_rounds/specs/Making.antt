@@ -13,7 +13,7 @@ use Rattle.vx_turns.specs.Turns.{IsCount}
 -- a group may make its attempt in a round that is underway: it may attempt, these are its numbers of attempts, and where its runs are nothing waits and
 -- nothing was written in the round
 pub record MayMake {S I : Type 0} (p : Program) (sets : Sets I) (heap : HeapView S I) (limit : ℕ) (round : Round S I) (group : GroupView S I) (attempts : Conditional ℕ S I) : Type 0 where
-  pub given : MayAttempt p sets heap group
+  pub given : MayAttempt p sets heap round.callers group
   pub underway : IsUnderway p sets heap limit round
   pub counted : IsCount sets group limit attempts
   pub vacant : IsVacant sets round (sets.test (path_of group))

@@ -17,7 +17,7 @@ use vx_families::AttemptFault;
 use vx_group::Group;
 use vx_heap::Heap;
 use vx_link::Program;
-use vx_placing::{Round, Setting, have_places, place_all};
+use vx_placing::{Round, Setting, place_all};
 use vx_space::Space;
 use vx_standing::State;
 use vx_turns::{begin_round, compact, end_round, spend};
@@ -36,12 +36,9 @@ fn make<S: Space>(
     requires { MayMake program.now (S.sets space.old) heap.old limit round.old group attempts.now }
     ensures extends { Extends (S.sets space.old) (S.sets space.new) }
     ensures made { OnOk result (IsMade program.now (S.sets space.old) (S.sets space.new) heap.old heap.new limit group round.old round.new) }
-    ensures not_yet { result ≡ Err AttemptFault.NotYet → IsUnbuiltThere program.now (S.sets space.old) heap.old group }
+    ensures not_yet { result ≡ Err AttemptFault.NotYet → IsUnbuiltThere program.now (S.sets space.old) heap.old round.old.callers group }
 {
-    let outcomes = attempt(alloc, program, space, heap, group)?;
-    if !have_places(program, space, &outcomes.items) {
-        return Err(AttemptFault::NotYet);
-    }
+    let outcomes = attempt(alloc, program, space, heap, &mut round.callers, group)?;
     let setting = Setting {
         program,
         heap,

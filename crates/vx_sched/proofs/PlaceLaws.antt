@@ -1,5 +1,5 @@
 -- Where a key stands among groups, and which of several keys is the first.
-use Rattle.std.proofs.Common.{◌≡◌, ℕ, ◌+◌, ◌<◌, Bool, true, false, List, [], ◌∷◌, refl, sym, ◌∙◌, ap, subst, zero, suc, length, take, inl, inr, arith}
+use Rattle.std.proofs.Common.{◌≡◌, ℕ, ◌+◌, ◌<◌, Bool, true, false, List, [], ◌∷◌, refl, sym, ◌∙◌, ap, subst, zero, suc, length, take, inl, inr, arith, true≢false}
 use Rattle.std.specs.Prelude.{◌≢◌, ◌⊎◌, nat_lt}
 use Rattle.std.proofs.lemmas.List.{get_or_default}
 use Rattle.std.proofs.lemmas.Bool.{ltb-false, ltb-true}
@@ -8,8 +8,8 @@ use Rattle.std.proofs.Math.ListN.{get_or}
 use Rattle.vx_value.specs.declared.key.KeyPart.{KeyPart}
 use Rattle.vx_value.specs.Key.{key_cmp}
 use Rattle.std.specs.declared.cmp.Ordering.{Ordering}
-use Rattle.std.specs.Ordering.{eq_by_cmp, is_eq, is_lt}
-use Rattle.vx_value.specs.KeyLaws.{key_cmp_total, key_exact}
+use Rattle.std.specs.Ordering.{is_lt}
+use Rattle.vx_value.specs.KeyLaws.{key_cmp_total}
 use Rattle.vx_group.specs.Group.{GroupView, key_of}
 use Rattle.vx_sched.specs.Groups.{IsFresh, HasKeyAt}
 
@@ -29,30 +29,13 @@ fresh_step groups place group key l e h n =
     let P : ℕ → Type 0 = λ k. IsFresh key (take k groups) in
     subst P (sym next) (fresh_next groups place group key l e h n)
 
+pub not_same : (b : Bool) → b ≡ true → b ≡ false → ⊥
+not_same b y n = true≢false (sym y ∙ n)
+
 -- ---- the first of keys
 
 irreflexive : (x : List KeyPart) → key_cmp x x ≢ Less
 irreflexive x h = cc (key_cmp_total.antisymm x x, h)
-
-is_equal : (o : Ordering) → is_eq o ≡ true → o ≡ Equal
-is_equal Equal h = refl
-is_equal Less h = cc h
-is_equal Greater h = cc h
-
--- keys that compare equal are one key, and one key compares equal to itself
-pub same_key : (a b : List KeyPart) → eq_by_cmp key_cmp a b ≡ true → a ≡ b
-same_key a b h = key_exact a b (is_equal (key_cmp a b) h)
-
-equal_self : (o : Ordering) → o ≢ Less → o ≢ Greater → is_eq o ≡ true
-equal_self Equal l g = refl
-equal_self Less l g = absurd (l refl)
-equal_self Greater l g = absurd (g refl)
-
-not_greater : (x : List KeyPart) → key_cmp x x ≢ Greater
-not_greater x h = cc (key_cmp_total.antisymm x x, h)
-
-pub other_key : (a b : List KeyPart) → eq_by_cmp key_cmp a b ≡ false → a ≢ b
-other_key a b h e = cc (equal_self (key_cmp a a) (irreflexive a) (not_greater a), ap (λ k. eq_by_cmp key_cmp a k) e, h)
 
 pub only_first : (keys : List (List KeyPart)) → (other : ℕ) → other < 1 → key_cmp (get_or keys other []) (get_or keys 0 []) ≢ Less
 only_first keys zero l = irreflexive (get_or keys 0 [])

@@ -1,6 +1,6 @@
 //! Placing a group among those that wait.
 
-ghost use Rattle.std.specs.Prelude.{◌≡◌, ◌<◌, map, IfOk, IfSome, IsNone, OnOk};
+ghost use Rattle.std.specs.Prelude.{◌≡◌, map, IfOk, IfSome, IsNone, OnOk};
 ghost use Rattle.vx_space.specs.Sets.{Extends};
 ghost use Rattle.vx_group.specs.Callers.{Keeps};
 ghost use Rattle.vx_group.specs.Group.{path_of, key_of, IsGroupIn};
@@ -22,17 +22,17 @@ pub fn keys_of<S: Space>(alloc: Global, groups: &[Group<S>]) -> Result<Vec<Key>,
     Ok(keys)
 }
 
-/// The place of the group that has a key, if there is one.
-fn place_of<S: Space>(groups: &[Group<S>], key: &Key) -> Result<Option<usize>, AllocError>
-    ensures found { IfOk result (λ place. IfSome place (λ i. HasKeyAt groups.now i key.now)) }
-    ensures fresh { IfOk result (λ place. IsNone place → IsFresh key.now groups.now) }
+/// The place of the group that has the key of another, if there is one.
+fn place_of<S: Space>(groups: &[Group<S>], group: &Group<S>) -> Option<usize>
+    ensures found { IfSome result (λ place. HasKeyAt groups.now place (key_of group.now)) }
+    ensures fresh { IsNone result → IsFresh (key_of group.now) groups.now }
 {
     for place in 0..groups.len() {
-        if groups[place].key()? == *key {
-            return Ok(Some(place));
+        if groups[place].has_key_of(group) {
+            return Some(place);
         }
     }
-    Ok(None)
+    None
 }
 
 /// Joins a group with the one at a place, which has its key.
@@ -77,8 +77,7 @@ pub fn place_group<S: Space>(
     if space.is_never(group.path()) {
         return Ok(());
     }
-    let key = group.key()?;
-    match place_of(groups.as_slice(), &key)? {
+    match place_of(groups.as_slice(), &group) {
         Some(place) => join_at(callers, space, groups, place, group),
         None => {
             groups.push(group)?;

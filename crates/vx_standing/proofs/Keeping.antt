@@ -10,7 +10,8 @@ use Rattle.vx_cond.specs.Row.{row_ids}
 use Rattle.vx_cond.specs.Keeping.{AreKept-append_left, AreKept-append_right}
 use Rattle.vx_cond.specs.Leaves.{AreLeaves, value_at}
 use Rattle.vx_cond.proofs.RowLaws.{AreLeaves-kept}
-use Rattle.vx_frame.specs.Frame.{PlainFrame, frame_ids}
+use Rattle.vx_frame.specs.declared.frame.Frame.{Frame}
+use Rattle.vx_frame.specs.Frame.{IsFrame, PlainFrame, frame_ids}
 use Rattle.vx_frame.proofs.FrameLaws.{IsFrame-locals, IsFrame-stack}
 use Rattle.vx_group.specs.declared.callers.Caller.{Caller}
 use Rattle.vx_group.specs.Callers.{tree_ids}
@@ -72,12 +73,13 @@ ids_of_leaves (x ∷ xs) = ap (λ ids. x.condition ∷ ids) (ids_of_leaves xs)
 
 -- ---- the ids of a state are known
 
+pub frame_known : {S I : Type 0} (sets : Sets I) (frame : Frame S I) → IsFrame sets frame → AreKnown sets (frame_ids frame)
+frame_known sets frame v = AreKnown-append sets (row_ids frame.locals) (row_ids frame.stack) (row_known slot_cmp sets frame.locals (IsFrame-locals sets frame v)) (row_known slot_cmp sets frame.stack (IsFrame-stack sets frame v))
+
 group_known : {S I : Type 0} (sets : Sets I) (tree : List (Option (Caller S I))) (group : GroupView S I) → IsGroupIn sets tree group → AreKnown sets (group_ids group)
 group_known sets tree group v =
     let is_group = IsGroupIn-group sets tree group v in
-    let frame = IsGroup-top sets group is_group in
-    AreKnown-append sets (cond_ids group.attempts) (frame_ids group.top) (cond_known nat_cmp sets group.attempts (IsGroup-attempts sets group is_group))
-    (AreKnown-append sets (row_ids group.top.locals) (row_ids group.top.stack) (row_known slot_cmp sets group.top.locals (IsFrame-locals sets group.top frame)) (row_known slot_cmp sets group.top.stack (IsFrame-stack sets group.top frame)))
+    AreKnown-append sets (cond_ids group.attempts) (frame_ids group.top) (cond_known nat_cmp sets group.attempts (IsGroup-attempts sets group is_group)) (frame_known sets group.top (IsGroup-top sets group is_group))
 
 groups_known : {S I : Type 0} (sets : Sets I) (tree : List (Option (Caller S I))) (groups : List (GroupView S I)) → sched.AreGroups sets tree groups → AreKnown sets (flat_map group_ids groups)
 groups_known sets tree [] a = tt
@@ -171,7 +173,7 @@ IsGood-kept old new heap k limit c (Some g) h = record {
 AreWaiting-kept : {S I : Type 0} (p : Program) (old new : Sets I) → new.never ≡ old.never → (st : StateView S I) → AreStateKept old new st → AreWaiting p old st.heap st.tree st.limit st.groups → AreWaiting p new st.heap st.tree st.limit st.groups
 AreWaiting-kept p old new e st k w = record {
   are_groups = AreGroups-kept old new e st.tree k.tree st.groups k.groups w.are_groups;
-  single = w.single;
+  shaped = w.shaped;
   good = λ c. let P : Option PlainGroup → Type 0 = λ o. IsGood new st.heap st.limit c o in
       subst P (sym (standing_kept old new e st.tree k.tree st.groups k.groups w.are_groups c)) (IsGood-kept old new st.heap k.heap st.limit c (sched.standing_at old st.tree st.groups c) (w.good c));
 }

@@ -1,9 +1,9 @@
-pub mod Alone
 pub mod Conditions
 pub mod Waiting
 pub mod Running
 pub mod Keeping
 pub mod Configurations
 pub mod Counting
+pub mod Thrown
 pub mod Trees
 pub mod Standing

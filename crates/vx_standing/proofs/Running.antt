@@ -1,48 +1,30 @@
 -- Groups of a state as groups that wait, and what stands in a state by what waits and what was found.
-use Rattle.std.proofs.Common.{◌≡◌, ℕ, Bool, true, false, List, [], ◌∷◌, refl, sym, ◌∙◌, ap, subst, length, map}
+use Rattle.std.proofs.Common.{◌≡◌, ℕ, Bool, true, false, List, [], ◌∷◌, refl, sym, subst}
 use Rattle.std.specs.Prelude.{◌-◌, Option, Some, None, if◌then◌else◌}
 use Rattle.std.specs.List.{list_all}
 use Rattle.vx_space.specs.Sets.{Sets}
 use Rattle.vx_cond.specs.Leaves.{value_at}
-use Rattle.vx_frame.specs.declared.frame.Frame.{Frame}
-use Rattle.vx_frame.specs.Frame.{Shape, part_of, shape_of}
 use Rattle.vx_group.specs.declared.callers.Caller.{Caller}
-use Rattle.vx_group.specs.Callers.{callers_of}
 use Rattle.vx_group.specs.Group.{GroupView, IsGroupIn, PlainGroup, group_at, path_of, shapes_of}
-use Rattle.vx_group.proofs.GroupLaws.{IsGroupIn-parts}
 use Rattle.vx_heap.specs.Heap.{HeapView}
-use Rattle.vx_families.specs.Built.{is_call}
 use Rattle.vx_findings.specs.Shared.{leaves_of}
 use Rattle.vx_link.specs.declared.program.Program.{Program}
 use Rattle.vx_sched.specs.Groups as sched
 use Rattle.vx_group_states.specs.Stands.{is_shaped}
 use Rattle.vx_group_states.proofs.StateLaws.{both, both_first, both_second}
-use Rattle.vx_value.specs.declared.key.Kind.{Kind}
-use Rattle.vx_value.specs.declared.key.Kind.TheVariants.{Call, Init, Wait}
 use Rattle.vx_value.specs.declared.end.End.{End}
 use Rattle.vx_value.specs.declared.end.Stream.{Stream}
-use Rattle.vx_standing.specs.Waiting.{AreWaiting, IsGood, IsGoodGroup, Waiting, is_one, waiting_at, waiting_in}
+use Rattle.vx_standing.specs.Waiting.{AreWaiting, IsGood, IsGoodGroup, Waiting, waiting_at, waiting_in}
 use Rattle.vx_standing.specs.State.{AreRunning, IsRunning, Runs, Standing, StateView, came_to, come_to, group_of, left_of, output_at, standing_at, standing_in}
-use Rattle.vx_standing.proofs.Alone.{no_below}
-
-pub is_kind : (k : Kind) → is_call k ≡ true → k ≡ Call
-is_kind Call h = refl
-is_kind Wait h = cc h
-is_kind Init h = cc h
 
 -- ---- running groups wait
-
-one_of : {S I : Type 0} (p : Program) (sets : Sets I) (st : StateView S I) (group : GroupView S I) → IsRunning p sets st group → is_one p (shapes_of st.tree group) ≡ true
-one_of p sets st group r =
-    let none = no_below st.tree group.below group.caller r.single in
-    rw none (both (is_call group.top.kind) (is_shaped p (shape_of group.top)) (ap is_call r.kind) (both_first (is_shaped p (shape_of group.top)) (list_all (is_shaped p) (map shape_of (callers_of st.tree (length group.below) group.caller))) r.stands.shaped))
 
 good_of : {S I : Type 0} (p : Program) (sets : Sets I) (st : StateView S I) (group : GroupView S I) → IsRunning p sets st group → (c : List Bool) → sets.test (path_of group) c ≡ true → IsGoodGroup sets st.heap st.limit c (group_at sets st.tree group c)
 good_of p sets st group r c t = record { runs = r.stands.runs.inside c t; held = r.stands.held c t; left = r.left c t }
 
-singles_of : {S I : Type 0} (p : Program) (sets : Sets I) (st : StateView S I) (groups : List (GroupView S I)) → AreRunning p sets st groups → sched.are_shaped (is_one p) st.tree groups ≡ true
-singles_of p sets st [] r = refl
-singles_of p sets st (group ∷ groups) r = both (is_one p (shapes_of st.tree group)) (sched.are_shaped (is_one p) st.tree groups) (one_of p sets st group r.0) (singles_of p sets st groups r.1)
+shapes_of_all : {S I : Type 0} (p : Program) (sets : Sets I) (st : StateView S I) (groups : List (GroupView S I)) → AreRunning p sets st groups → sched.are_shaped (list_all (is_shaped p)) st.tree groups ≡ true
+shapes_of_all p sets st [] r = refl
+shapes_of_all p sets st (group ∷ groups) r = both (list_all (is_shaped p) (shapes_of st.tree group)) (sched.are_shaped (list_all (is_shaped p)) st.tree groups) r.0.stands.shaped (shapes_of_all p sets st groups r.1)
 
 goods_of : {S I : Type 0} (p : Program) (sets : Sets I) (st : StateView S I) (groups : List (GroupView S I)) → AreRunning p sets st groups → (c : List Bool) → IsGood sets st.heap st.limit c (sched.standing_at sets st.tree groups c)
 goods_of p sets st [] r c = tt
@@ -53,35 +35,20 @@ goods_of {S = S} {I = I} p sets st (group ∷ groups) r c = cases (sets.test (pa
     cases false h o k = k
 
 pub AreWaiting-running : {S I : Type 0} (p : Program) (sets : Sets I) (st : StateView S I) (groups : List (GroupView S I)) → sched.AreGroups sets st.tree groups → AreRunning p sets st groups → AreWaiting p sets st.heap st.tree st.limit groups
-AreWaiting-running p sets st groups a r = record { are_groups = a; single = singles_of p sets st groups r; good = goods_of p sets st groups r }
+AreWaiting-running p sets st groups a r = record { are_groups = a; shaped = shapes_of_all p sets st groups r; good = goods_of p sets st groups r }
 
 -- ---- and the other way round
 
-one_shape : (p : Program) (s : Shape) (ss : List Shape) → is_one p (s ∷ ss) ≡ true → (is_call s.part.kind ≡ true) × (is_shaped p s ≡ true) × (ss ≡ [])
-one_shape p s [] h = (both_first (is_call s.part.kind) (is_shaped p s) h, both_second (is_call s.part.kind) (is_shaped p s) h, refl)
-one_shape p s (t ∷ ss) h = cc h
-
-no_parts : {S I : Type 0} (sets : Sets I) (tree : List (Option (Caller S I))) (group : GroupView S I) → IsGroupIn sets tree group → map shape_of (callers_of tree (length group.below) group.caller) ≡ [] → group.below ≡ []
-no_parts {S = S} {I = I} sets tree group v h = sym (IsGroupIn-parts sets tree group v) ∙ none (callers_of tree (length group.below) group.caller) h
-  where
-    none : (xs : List (Frame S I)) → map shape_of xs ≡ [] → map part_of xs ≡ []
-    none [] h = refl
-    none (x ∷ xs) h = cc h
-
-running_of : {S I : Type 0} (p : Program) (sets : Sets I) (st : StateView S I) (group : GroupView S I) → IsGroupIn sets st.tree group → is_one p (shapes_of st.tree group) ≡ true → ((c : List Bool) → sets.test (path_of group) c ≡ true → IsGoodGroup sets st.heap st.limit c (group_at sets st.tree group c)) → IsRunning p sets st group
-running_of p sets st group v h g =
-    let one = one_shape p (shape_of group.top) (map shape_of (callers_of st.tree (length group.below) group.caller)) h in
-    record {
-      stands = record {
-        is_group = v;
-        runs = record { inside = λ c t. (g c t).runs };
-        held = λ c t. (g c t).held;
-        shaped = both (is_shaped p (shape_of group.top)) (list_all (is_shaped p) (map shape_of (callers_of st.tree (length group.below) group.caller))) one.1 (ap (λ xs. list_all (is_shaped p) xs) one.2);
-      };
-      kind = is_kind group.top.kind one.0;
-      single = no_parts sets st.tree group v one.2;
-      left = λ c t. (g c t).left;
-    }
+running_of : {S I : Type 0} (p : Program) (sets : Sets I) (st : StateView S I) (group : GroupView S I) → IsGroupIn sets st.tree group → list_all (is_shaped p) (shapes_of st.tree group) ≡ true → ((c : List Bool) → sets.test (path_of group) c ≡ true → IsGoodGroup sets st.heap st.limit c (group_at sets st.tree group c)) → IsRunning p sets st group
+running_of p sets st group v h g = record {
+  stands = record {
+    is_group = v;
+    runs = record { inside = λ c t. (g c t).runs };
+    held = λ c t. (g c t).held;
+    shaped = h;
+  };
+  left = λ c t. (g c t).left;
+}
 
 -- where a group stands no later one does
 pub later_none : {S I : Type 0} (sets : Sets I) (tree : List (Option (Caller S I))) (set : I) (groups : List (GroupView S I)) → sched.AreApart sets set groups → (c : List Bool) → sets.test set c ≡ true → sched.standing_at sets tree groups c ≡ None
@@ -102,10 +69,10 @@ rest_good {S = S} {I = I} sets heap tree limit group groups a c h = cases (sets.
 pub AreRunning-waiting : {S I : Type 0} (p : Program) (sets : Sets I) (st : StateView S I) (groups : List (GroupView S I)) → AreWaiting p sets st.heap st.tree st.limit groups → AreRunning p sets st groups
 AreRunning-waiting p sets st [] w = tt
 AreRunning-waiting {S = S} {I = I} p sets st (group ∷ groups) w = (
-  running_of p sets st group w.are_groups.0.is_group (both_first (is_one p (shapes_of st.tree group)) (sched.are_shaped (is_one p) st.tree groups) w.single) (λ c t. here c (sets.test (path_of group) c) t (w.good c)),
+  running_of p sets st group w.are_groups.0.is_group (both_first (list_all (is_shaped p) (shapes_of st.tree group)) (sched.are_shaped (list_all (is_shaped p)) st.tree groups) w.shaped) (λ c t. here c (sets.test (path_of group) c) t (w.good c)),
   AreRunning-waiting p sets st groups (record {
     are_groups = w.are_groups.1;
-    single = both_second (is_one p (shapes_of st.tree group)) (sched.are_shaped (is_one p) st.tree groups) w.single;
+    shaped = both_second (list_all (is_shaped p) (shapes_of st.tree group)) (sched.are_shaped (list_all (is_shaped p)) st.tree groups) w.shaped;
     good = λ c. rest_good sets st.heap st.tree st.limit group groups w.are_groups.0.apart c (w.good c);
   }),
 )

@@ -1,11 +1,13 @@
 -- What waits at a configuration, and what it keeps where the space is extended.
-use Rattle.std.proofs.Common.{◌≡◌, ℕ, Bool, true, false, List, [], ◌∷◌, refl, sym, ◌∙◌, ap, subst, map}
-use Rattle.std.specs.Prelude.{Option, Some, None, if◌then◌else◌, option_map}
+use Rattle.std.proofs.Common.{◌≡◌, ℕ, Bool, true, false, List, [], ◌∷◌, refl, sym, ◌∙◌, ap, subst, length, map}
+use Rattle.std.specs.Prelude.{◌&&◌, Option, Some, None, if◌then◌else◌, option_map}
 use Rattle.vx_space.specs.Sets.{Sets, Extends}
-use Rattle.vx_frame.specs.Frame.{PlainFrame}
+use Rattle.vx_frame.specs.Frame.{PlainFrame, Shape, shape_of}
 use Rattle.vx_group.specs.declared.callers.Caller.{Caller}
+use Rattle.vx_group.specs.Callers.{Keeps}
 use Rattle.vx_group.specs.Group.{GroupView, PlainGroup, group_at, path_of}
-use Rattle.vx_group.proofs.CallerLaws.{Keeps-refl}
+use Rattle.vx_group.proofs.CallerLaws.{AreCallers-nodes, Keeps-refl, callers_of-kept}
+use Rattle.vx_group.proofs.GroupLaws.{IsGroupIn-callers}
 use Rattle.vx_heap.specs.Heap.{HeapView, IsHeap, globals_at}
 use Rattle.vx_heap.proofs.HeapLaws.{globals_at-extends}
 use Rattle.vx_java.specs.Machine.{State}
@@ -18,8 +20,6 @@ use Rattle.vx_value.specs.declared.key.Kind.TheVariants.{Call}
 use Rattle.vx_standing.specs.Waiting.{AreWaiting, IsGood, Waiting, waiting_at, waiting_in}
 use Rattle.vx_standing.specs.State.{group_of}
 use Rattle.vx_heap.proofs.Written.{allowed_known}
-
--- ---- tests
 
 -- ---- the plain state of plain frames
 
@@ -61,7 +61,7 @@ IsGood-extends {old = old} {new = new} e heap v limit c (Some g) h = record {
 pub AreWaiting-extends : {S I : Type 0} (p : Program) {old new : Sets I} → Extends old new → (heap : HeapView S I) → IsHeap old heap → (tree : List (Option (Caller S I))) (limit : ℕ) (groups : List (GroupView S I)) → AreWaiting p old heap tree limit groups → AreWaiting p new heap tree limit groups
 AreWaiting-extends p {old = old} {new = new} e heap v tree limit groups w = record {
   are_groups = AreGroups-later e (Keeps-refl tree) groups w.are_groups;
-  single = w.single;
+  shaped = w.shaped;
   good = λ c. let P : Option PlainGroup → Type 0 = λ o. IsGood new heap limit c o in
       subst P (sym (standing_at-later e (Keeps-refl tree) groups w.are_groups c)) (IsGood-extends e heap v limit c (sched.standing_at old tree groups c) (w.good c));
 }
@@ -72,6 +72,14 @@ waiting_at-extends {old = old} {new = new} e heap v tree groups a c =
     ∙ ap (λ o. option_map (run_by new heap c) o) (standing_at-later e (Keeps-refl tree) groups a c)
     ∙ run_by-extends e heap v c (sched.standing_at old tree groups c)
     ∙ sym (waiting_at-standing old heap tree groups c)
+
+-- the shapes of frames in a later tree
+pub shaped_later : {S I : Type 0} (test : List Shape → Bool) (sets : Sets I) {t0 t1 : List (Option (Caller S I))} → Keeps t0 t1 → (groups : List (GroupView S I)) → sched.AreGroups sets t0 groups → sched.are_shaped test t1 groups ≡ sched.are_shaped test t0 groups
+shaped_later test sets k [] a = refl
+shaped_later test sets {t0 = t0} k (group ∷ groups) a =
+    let callers = callers_of-kept k (length group.below) group.caller (AreCallers-nodes sets t0 (path_of group) (length group.below) group.caller (IsGroupIn-callers sets t0 group a.0.is_group)) in
+    let rest = shaped_later test sets k groups a.1 in
+    λ i. test (map shape_of (group.top ∷ callers i)) && rest i
 
 -- ---- where nothing waits
 

@@ -21,7 +21,6 @@ use Rattle.vx_group_states.specs.Stands.{StandsIn, state_at}
 use Rattle.vx_value.specs.Ends.{compare_ends}
 use Rattle.vx_value.specs.declared.end.End.{End}
 use Rattle.vx_value.specs.declared.end.Stream.{Stream}
-use Rattle.vx_value.specs.declared.key.Kind.TheVariants.{Call}
 
 -- a `State` as contracts see it: the shared heap, the tree of callers, the groups that go on, the limit of attempts, the rounds made, and what was found: the texts in the order in which they were written, the ends, the numbers of attempts
 pub record StateView (S I : Type 0) : Type 0 where
@@ -87,11 +86,9 @@ standing_at sets st c = standing_in sets st c (group_of sets st.groups c)
 
 -- ---- validity
 
--- a group of the state: a run of one frame, a call, with attempts left
+-- a group of the state: it stands there and has attempts left
 pub record IsRunning {S I : Type 0} (p : Program) (sets : Sets I) (st : StateView S I) (group : GroupView S I) : Type 0 where
   pub stands : StandsIn p sets st.heap st.tree group
-  pub kind : group.top.kind ≡ Call
-  pub single : group.below ≡ []
   pub left : (c : List Bool) → sets.test (path_of group) c ≡ true → attempts_at sets group c < st.limit
 
 abbrev pub AreRunning : {S I : Type 0} → Program → Sets I → StateView S I → List (GroupView S I) → Type 0

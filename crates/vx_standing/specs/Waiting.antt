@@ -1,12 +1,10 @@
 -- Runs that wait for their next attempt, and what comes of one that was made (own).
-use Rattle.std.specs.Prelude.{◌≡◌, ◌<◌, ℕ, Bool, true, false, List, [], ◌∷◌, ◌&&◌, cond, nat_lt, Option, Some, None}
+use Rattle.std.specs.Prelude.{◌≡◌, ◌<◌, ℕ, Bool, true, List, [], ◌∷◌, cond, nat_lt, Option, Some, None}
 use Rattle.std.specs.List.{list_all}
 use Rattle.vx_space.specs.Sets.{Sets}
-use Rattle.vx_frame.specs.Frame.{Shape}
 use Rattle.vx_group.specs.declared.callers.Caller.{Caller}
 use Rattle.vx_group.specs.Group.{GroupView, PlainGroup, attempts_at}
 use Rattle.vx_heap.specs.Heap.{HeapView}
-use Rattle.vx_families.specs.Built.{is_call}
 use Rattle.vx_findings.specs.declared.piece.Piece.{Piece}
 use Rattle.vx_java.specs.Machine.{Ends, Goes, Next, State, Write}
 use Rattle.vx_java.specs.Machine.{Outcome as PlainOutcome}
@@ -34,12 +32,6 @@ waiting_in sets heap tree c (Some group) = Some (record { state = state_at sets 
 abbrev pub waiting_at : {S I : Type 0} → Sets I → HeapView S I → List (Option (Caller S I)) → List (GroupView S I) → List Bool → Option Waiting
 waiting_at sets heap tree groups c = waiting_in sets heap tree c (group_of sets groups c)
 
--- one frame, of a call, with as many locals as its method asks for
-abbrev pub is_one : Program → List Shape → Bool
-is_one p [] = false
-is_one p (shape ∷ []) = is_call shape.part.kind && is_shaped p shape
-is_one p (shape ∷ other ∷ shapes) = false
-
 -- what waits at a configuration is one of those that run, names what is there, and has attempts left
 pub record IsGoodGroup {S I : Type 0} (sets : Sets I) (heap : HeapView S I) (limit : ℕ) (c : List Bool) (group : PlainGroup) : Type 0 where
   pub runs : sets.test heap.allowed c ≡ true
@@ -50,10 +42,10 @@ abbrev pub IsGood : {S I : Type 0} → Sets I → HeapView S I → ℕ → List 
 IsGood sets heap limit c None = Unit {0}
 IsGood sets heap limit c (Some group) = IsGoodGroup sets heap limit c group
 
--- groups of one frame that wait
+-- groups that wait, each frame with as many locals as its method asks for
 pub record AreWaiting {S I : Type 0} (p : Program) (sets : Sets I) (heap : HeapView S I) (tree : List (Option (Caller S I))) (limit : ℕ) (groups : List (GroupView S I)) : Type 0 where
   pub are_groups : sched.AreGroups sets tree groups
-  pub single : sched.are_shaped (is_one p) tree groups ≡ true
+  pub shaped : sched.are_shaped (list_all (is_shaped p)) tree groups ≡ true
   pub good : (c : List Bool) → IsGood sets heap limit c (sched.standing_at sets tree groups c)
 
 -- ---- what comes of an attempt

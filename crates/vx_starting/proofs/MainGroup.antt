@@ -125,7 +125,6 @@ main_group-made {S = S} {I = I} p sets allowed heap words frame attempts f e w s
     record {
       stands = main_stands p sets allowed heap frame attempts f e s h there r (IsCond-of nat_cmp sets (value_within sets allowed (λ _. Some 0)) attempts a);
       path = r;
-      kind = ap (λ shape. shape.part.kind) h;
       single = refl;
       fresh = λ c t. ap (λ o. unwrap_or o 0) (cond_at-of nat_cmp sets (value_within sets allowed (λ _. Some 0)) attempts c a ∙ within_there (sets.test allowed c) (Some 0) t);
       frame = λ c t. ap (plain_frame sets heap c) (frame_at-of sets (λ _. main_frame p heap.words) frame c there (ap (λ id. sets.test id c) s ∙ t)) ∙ main_plain p sets allowed heap f e c t;

@@ -101,6 +101,7 @@ written_for p before after same count f =
       static_count = f.static_count;
       init_count = count ∙ f.init_count;
       literals = f.literals;
+      resolved = f.resolved;
       words = f.words;
       enough = f.enough;
       first = f.first;

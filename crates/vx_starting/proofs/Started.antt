@@ -121,7 +121,7 @@ quiet_is_state p sets allowed limit heap group m h g = record {
   is_for = h.is_for;
   runs = h.runs;
   groups = (record { is_group = g.stands.is_group; nonempty = λ e. m.some (sym g.path ∙ e); apart = tt; fresh = tt }, tt);
-  running = (record { stands = g.stands; kind = g.kind; single = g.single; left = λ c t. rw (g.fresh c (ap (λ id. sets.test id c) (sym g.path) ∙ t)) m.least }, tt);
+  running = (record { stands = g.stands; left = λ c t. rw (g.fresh c (ap (λ id. sets.test id c) (sym g.path) ∙ t)) m.least }, tt);
   tree = tt;
   found = tt;
   ends = tt;

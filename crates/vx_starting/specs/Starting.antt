@@ -99,7 +99,6 @@ main_frame p words =
 pub record IsMainGroup {S I : Type 0} (p : Program) (sets : Sets I) (allowed : I) (heap : HeapView S I) (group : GroupView S I) : Type 0 where
   pub stands : StandsIn p sets heap [] group
   pub path : path_of group ≡ allowed
-  pub kind : group.top.kind ≡ Call
   pub single : group.below ≡ []
   pub fresh : (c : List Bool) → sets.test allowed c ≡ true → attempts_at sets group c ≡ 0
   pub frame : (c : List Bool) → sets.test allowed c ≡ true → plain_frame sets heap c (frame_at sets group.top c) ≡ new_frame p Call p.main.0 (Ref (first_words p) ∷ [])

@@ -19,6 +19,7 @@ use Rattle.vx_java.specs.Lockstep.{piece_of}
 use Rattle.vx_java.specs.Machine.{Outcome as PlainOutcome}
 use Rattle.vx_java.specs.Step.{Progress, next, text_of}
 use Rattle.vx_link.specs.declared.program.Program.{Program}
+use Rattle.vx_sched.specs.Groups as sched
 use Rattle.vx_group_states.specs.Stands.{state_at}
 use Rattle.vx_placing.specs.declared.round.Round.{Round}
 use Rattle.vx_standing.specs.Attempted.{carried_out_row}
@@ -30,7 +31,7 @@ use Rattle.vx_standing.proofs.Counting.{attempts_in-most, attempts_in-same}
 use Rattle.vx_standing.proofs.Keeping.{AreKnown-kept, findings_known, output_kept}
 use Rattle.vx_standing.proofs.Running.{AreRunning-waiting, standing_at-by, standing_by}
 use Rattle.vx_standing.proofs.Standing.{bytes_after, bytes_in, output_append, output_of_round, some_after, stands_after, waits_goes, wrote_there}
-use Rattle.vx_standing.proofs.Trees.{AllSingle, AreGroups-tree, AreRunning-tree, nodes_of, running_single, swept_known, waiting_at-tree}
+use Rattle.vx_standing.proofs.Trees.{AreWaiting-swept, all_reached, nodes_of, swept_known, waiting_at-swept}
 use Rattle.vx_turns.proofs.Turning.{IsTurn, left_falls, turned_ends, turned_spent, turned_texts, turned_waits, waited}
 use Rattle.vx_standing.proofs.Waiting.{no_group, none_waits}
 use Rattle.vx_heap.proofs.Written.{allowed_known}
@@ -77,11 +78,12 @@ module _ {S I : Type 0} (p : Program) {s1 s2 s3 : Sets I} (allowed : I) (st begu
   whole : Extends s1 s3
   whole = Extends-trans t.extends t.later
 
-  singles : AllSingle round.groups.items
-  singles = running_single p s3 (closed_state st heap round.callers round) round.groups.items (AreRunning-waiting p s3 (closed_state st heap round.callers round) round.groups.items t.made.underway.waiting)
+  -- the groups that wait stand in the tree of the round
+  stand : sched.AreGroups s3 round.callers round.groups.items
+  stand = t.made.underway.waiting.are_groups
 
   pub closed_nodes : StandIn round.callers round.groups.items
-  closed_nodes = nodes_of s3 round.callers round.groups.items t.made.underway.waiting.are_groups
+  closed_nodes = nodes_of s3 round.callers round.groups.items stand
 
   inside : (c : List Bool) → s1.test (path_of group) c ≡ true → s1.test allowed c ≡ true
   inside c h = ap (λ i. s1.test i c) (sym t.state.runs) ∙ (chosen_running p s1 allowed st begun_st which was group t.state t.begun).stands.runs.inside c h
@@ -115,9 +117,9 @@ module _ {S I : Type 0} (p : Program) {s1 s2 s3 : Sets I} (allowed : I) (st begu
       ap (λ o. standing_by (waiting_at s1 st.heap st.tree st.groups c) o (value_at s1 (leaves_of st.ends) c) (value_at s1 (leaves_of st.spent) c)) (append-nil (output_at s1 st.found c))
       ∙ sym (standing_at-by s1 st c)
 
-  pub closed_standing : (tree : List (Option (Caller S I))) (c : List Bool) → standing_at s3 (closed_state st heap tree round) c ≡ after_round p st.limit (s1.test (path_of group) c) (standing_at s1 st c)
-  closed_standing tree c =
-      let waits = waiting_at-tree s3 heap round.callers tree round.groups.items c singles ∙ turned_waits p allowed st begun_st which was group spent_group attempts heap round t c in
+  pub closed_standing : (tree : List (Option (Caller S I))) → IsSwept round.callers tree round.groups.items → (c : List Bool) → standing_at s3 (closed_state st heap tree round) c ≡ after_round p st.limit (s1.test (path_of group) c) (standing_at s1 st c)
+  closed_standing tree w c =
+      let waits = waiting_at-swept s3 heap round.callers tree round.groups.items (all_reached round.callers tree round.groups.items w) stand c ∙ turned_waits p allowed st begun_st which was group spent_group attempts heap round t c in
       let out = output c in
       let ends = turned_ends p allowed st begun_st which was group spent_group attempts heap round t c in
       let spent = turned_spent p allowed st begun_st which was group spent_group attempts heap round t c in
@@ -151,31 +153,33 @@ module _ {S I : Type 0} (p : Program) {s1 s2 s3 : Sets I} (allowed : I) (st begu
       cases true k e s = let none = waits_goes st.limit (suc (attempts_at s1 group c)) (next p (row_at c)) k in record { end = e ∙ none.0; spent = s ∙ none.1 }
       cases false k e s = let g = t.state.goes_on c (sym (some_waits s1 st.heap st.tree st.groups c) ∙ k) in record { end = e ∙ g.end; spent = s ∙ g.spent }
 
-  closed_counted : IsLawful s1 → (tree : List (Option (Caller S I))) → st.rounds + 1 + attempts_left s3 (closed_state st heap tree round) ≤ attempts_in s3 allowed st.limit
-  closed_counted l tree =
-      let falls = left_falls p allowed st begun_st which was group spent_group attempts heap round t l tree (λ c. waiting_at-tree s3 heap round.callers tree round.groups.items c singles) in
+  closed_counted : IsLawful s1 → (tree : List (Option (Caller S I))) → IsSwept round.callers tree round.groups.items → st.rounds + 1 + attempts_left s3 (closed_state st heap tree round) ≤ attempts_in s3 allowed st.limit
+  closed_counted l tree w =
+      let falls = left_falls p allowed st begun_st which was group spent_group attempts heap round t l tree (waiting_at-swept s3 heap round.callers tree round.groups.items (all_reached round.callers tree round.groups.items w) stand) in
       let counted = t.state.counted in
       rw (attempts_in-same s1 s3 allowed st.limit whole.options same_allowed, whole.options) (omega (arith, falls, counted))
 
   pub IsState-closed : IsLawful s1 → (tree : List (Option (Caller S I))) → IsSwept round.callers tree round.groups.items → IsState p s3 allowed (closed_state st heap tree round)
-  IsState-closed l tree w = record {
-    bounded = t.state.bounded;
-    some = t.state.some;
-    most = t.state.most;
-    is_heap = t.made.is_heap;
-    is_for = t.made.is_for;
-    runs = t.made.allowed ∙ t.state.runs;
-    groups = AreGroups-tree s3 round.callers tree round.groups.items singles t.made.underway.waiting.are_groups;
-    running = AreRunning-tree p s3 (closed_state st heap round.callers round) (closed_state st heap tree round) round.groups.items refl refl singles (AreRunning-waiting p s3 (closed_state st heap round.callers round) round.groups.items t.made.underway.waiting);
-    tree = swept_known s3 round.callers tree round.groups.items singles w;
-    found = rw (ids_append st.found round.texts.items) (AreKnown-append s3 (shared_ids st.found) (shared_ids round.texts.items) (AreKnown-kept s1 s3 (shared_ids st.found) (AreKept-extends whole (shared_ids st.found) t.state.found)) (findings_known piece_cmp s3 round.texts.items t.made.underway.texts));
-    ends = t.made.underway.ends;
-    spent = t.made.underway.spent;
-    everywhere = λ c h. ap is_some (closed_standing tree c) ∙ some_after p st.limit (s1.test (path_of group) c) (standing_at s1 st c) ∙ t.state.everywhere c (sym (same_allowed c) ∙ h);
-    nowhere = closed_nowhere tree;
-    goes_on = closed_goes tree;
-    counted = closed_counted l tree;
-  }
+  IsState-closed l tree w =
+      let waiting = AreWaiting-swept p s3 heap round.callers tree st.limit round.groups.items (all_reached round.callers tree round.groups.items w) t.made.underway.waiting in
+      record {
+        bounded = t.state.bounded;
+        some = t.state.some;
+        most = t.state.most;
+        is_heap = t.made.is_heap;
+        is_for = t.made.is_for;
+        runs = t.made.allowed ∙ t.state.runs;
+        groups = waiting.are_groups;
+        running = AreRunning-waiting p s3 (closed_state st heap tree round) round.groups.items waiting;
+        tree = swept_known s3 round.callers tree round.groups.items stand w;
+        found = rw (ids_append st.found round.texts.items) (AreKnown-append s3 (shared_ids st.found) (shared_ids round.texts.items) (AreKnown-kept s1 s3 (shared_ids st.found) (AreKept-extends whole (shared_ids st.found) t.state.found)) (findings_known piece_cmp s3 round.texts.items t.made.underway.texts));
+        ends = t.made.underway.ends;
+        spent = t.made.underway.spent;
+        everywhere = λ c h. ap is_some (closed_standing tree w c) ∙ some_after p st.limit (s1.test (path_of group) c) (standing_at s1 st c) ∙ t.state.everywhere c (sym (same_allowed c) ∙ h);
+        nowhere = closed_nowhere tree;
+        goes_on = closed_goes tree;
+        counted = closed_counted l tree w;
+      }
 
   pub closed_wrote : (c : List Bool) → pieces_in (value_at s3 (leaves_of round.texts.items) c) ≡ piece_of (written p (s1.test (path_of group) c) (standing_at s1 st c))
   closed_wrote c = ap pieces_in (turned_texts p allowed st begun_st which was group spent_group attempts heap round t c) ∙ cases (s1.test (path_of group) c) (stood c)

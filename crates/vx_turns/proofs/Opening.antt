@@ -18,14 +18,14 @@ use Rattle.vx_link.specs.declared.program.Program.{Program}
 use Rattle.vx_sched.specs.Groups as sched
 use Rattle.vx_sched.proofs.GroupsLaws.{IsTaken, is_taken, shaped_taken}
 use Rattle.vx_group_states.specs.Stands.{StandsIn, frame_held, is_shaped, state_at}
+use Rattle.std.proofs.lemmas.Option.{slice_get_within}
 use Rattle.vx_group_states.proofs.StateLaws.{StandsIn-extends, state_at-extends}
 use Rattle.vx_placing.specs.declared.round.Round.{Round}
 use Rattle.vx_standing.specs.Attempted.{MayAttempt}
-use Rattle.vx_standing.specs.Waiting.{AreWaiting, IsGood, is_one}
+use Rattle.vx_standing.specs.Waiting.{AreWaiting, IsGood}
 use Rattle.vx_placing.specs.Placing.{IsUnderway, IsUnwritten, IsVacant}
 use Rattle.vx_standing.specs.State.{AreRunning, IsRunning, IsState, StateView, group_of}
 use Rattle.vx_turns.specs.Turns.{IsBegun, IsCount, IsSpent}
-use Rattle.vx_turns.proofs.Grown.{some_within}
 use Rattle.vx_standing.proofs.Running.{AreWaiting-running, later_none}
 use Rattle.vx_standing.proofs.Waiting.{groups_apart}
 
@@ -43,7 +43,7 @@ pub chosen_running : {S I : Type 0} (p : Program) (sets : Sets I) (allowed : I) 
 chosen_running p sets allowed st after which round group h b = running_at p sets st st.groups which group h.running b.chosen
 
 pub chosen_taken : {S I : Type 0} (p : Program) (sets : Sets I) (allowed : I) (st after : StateView S I) (which : ℕ) (round : Round S I) (group : GroupView S I) → IsState p sets allowed st → IsBegun st after which round group → IsTaken sets st.tree st.groups group (remove st.groups which)
-chosen_taken p sets allowed st after which round group h b = is_taken sets st.tree st.groups which group (some_within st.groups which group b.chosen) (place_of_some st.groups which group (sym b.chosen)) h.groups
+chosen_taken p sets allowed st after which round group h b = is_taken sets st.tree st.groups which group (slice_get_within st.groups which group b.chosen) (place_of_some st.groups which group (sym b.chosen)) h.groups
 
 -- it may make an attempt more
 pub may_spend : {S I : Type 0} (p : Program) (sets : Sets I) (allowed : I) (st after : StateView S I) (which : ℕ) (round : Round S I) (group : GroupView S I) → IsState p sets allowed st → IsBegun st after which round group → (c : List Bool) → sets.test (path_of group) c ≡ true → suc (attempts_at sets group c) < 2 ^ 64
@@ -60,7 +60,7 @@ chosen_is_group p sets allowed st after which round group h b = IsGroupIn-group 
 pub rest_waits : {S I : Type 0} (p : Program) (sets : Sets I) (st : StateView S I) (which : ℕ) (group : GroupView S I) → AreWaiting p sets st.heap st.tree st.limit st.groups → IsTaken sets st.tree st.groups group (remove st.groups which) → AreWaiting p sets st.heap st.tree st.limit (remove st.groups which)
 rest_waits {S = S} {I = I} p sets st which group w k = record {
   are_groups = k.others;
-  single = shaped_taken (is_one p) st.tree st.groups which w.single;
+  shaped = shaped_taken (list_all (is_shaped p)) st.tree st.groups which w.shaped;
   good = λ c. cases c (sets.test (path_of group) c) refl (w.good c);
 }
   where
@@ -99,7 +99,7 @@ spent_state {s1 = s1} e heap v tree group spent attempts g q c = ap (λ x. state
 pub spent_path : {S I : Type 0} {s0 s1 : Sets I} → Extends s0 s1 → (group spent : GroupView S I) (attempts : Conditional ℕ S I) → s0.is_known (path_of group) ≡ true → IsSpent s0 s1 group spent attempts → (c : List Bool) → s1.test (path_of spent) c ≡ s0.test (path_of group) c
 spent_path {s1 = s1} e group spent attempts k q c = ap (λ i. s1.test i c) q.path ∙ e.test (path_of group) c k
 
-pub spent_may : {S I : Type 0} (p : Program) {s0 s1 : Sets I} → Extends s0 s1 → (allowed : I) (st after : StateView S I) (which : ℕ) (round : Round S I) (group spent : GroupView S I) (attempts : Conditional ℕ S I) → IsState p s0 allowed st → IsBegun st after which round group → IsSpent s0 s1 group spent attempts → MayAttempt p s1 st.heap spent
+pub spent_may : {S I : Type 0} (p : Program) {s0 s1 : Sets I} → Extends s0 s1 → (allowed : I) (st after : StateView S I) (which : ℕ) (round : Round S I) (group spent : GroupView S I) (attempts : Conditional ℕ S I) → IsState p s0 allowed st → IsBegun st after which round group → IsSpent s0 s1 group spent attempts → MayAttempt p s1 st.heap st.tree spent
 spent_may p {s0 = s0} e allowed st after which round group spent attempts h b q =
     let running = chosen_running p s0 allowed st after which round group h b in
     record {
@@ -107,9 +107,6 @@ spent_may p {s0 = s0} e allowed st after which round group spent attempts h b q 
       is_heap = IsHeap-extends e st.heap h.is_heap;
       is_for = h.is_for;
       nonempty = λ n. (chosen_taken p s0 allowed st after which round group h b).beside.nonempty (sym q.path ∙ n ∙ e.never);
-      kind = ap (λ g. g.top.kind) q.same ∙ running.kind;
-      single = ap (λ g. g.below) q.same ∙ running.single;
-      tree = st.tree;
       stands = spent_stands p e st.heap h.is_heap st.tree group spent attempts running.stands q;
     }
 

@@ -1,5 +1,5 @@
 -- A round from its beginning to its end, and what waits and was found then.
-use Rattle.std.proofs.Common.{◌≡◌, ℕ, ◌<◌, ◌≤◌, ◌-◌, Bool, true, false, List, [], refl, sym, ◌∙◌, ap, suc, map, arith}
+use Rattle.std.proofs.Common.{◌≡◌, ℕ, ◌<◌, ◌≤◌, ◌-◌, Bool, true, false, List, refl, sym, ◌∙◌, ap, suc, map, arith}
 use Rattle.std.specs.Prelude.{cond, Option, Some, None, if◌then◌else◌, nat_lt, option_map, sum}
 use Rattle.std.specs.List.{remove}
 use Rattle.std.specs.Ordering.{nat_cmp}
@@ -20,15 +20,15 @@ use Rattle.vx_sched.proofs.GroupsLaws.{IsTaken}
 use Rattle.vx_group_states.specs.Stands.{state_at}
 use Rattle.vx_value.specs.Ends.{compare_ends}
 use Rattle.vx_placing.specs.declared.round.Round.{Round}
-use Rattle.vx_standing.specs.Attempted.{carried_out_row}
+use Rattle.vx_standing.specs.Attempted.{attempted_row, carried_out_row, thrown_out}
 use Rattle.vx_standing.specs.Waiting.{end_after, piece_after, spent_after, waiting_at, waits_after}
 use Rattle.vx_placing.specs.Placing.{led_by, put_if}
 use Rattle.vx_standing.specs.State.{IsRunning, IsState, StateView, attempts_left, configurations, group_of, left_of}
 use Rattle.vx_turns.specs.Turns.{IsBegun, IsMade, IsSpent, came_of}
 use Rattle.vx_turns.proofs.Opening.{begun_underway, chosen_is_group, chosen_running, chosen_taken, spent_path, spent_state}
 use Rattle.vx_standing.proofs.Configurations.{Contains-configurations, member_of, sum_falls}
-use Rattle.vx_standing.proofs.Alone.{stands_alone, state_alone}
 use Rattle.vx_standing.proofs.Running.{left_by, left_of-by}
+use Rattle.vx_standing.proofs.Thrown.{next-thrown, piece_after-thrown}
 use Rattle.vx_standing.proofs.Waiting.{run_by, waiting_at-extends, waiting_at-standing}
 
 -- a round, once its attempt took its place
@@ -50,26 +50,25 @@ module _ {S I : Type 0} (p : Program) {s1 s2 s3 : Sets I} (allowed : I) (st begu
   known : s1.is_known (path_of group) ≡ true
   known = IsGroup-path_known s1 group (chosen_is_group p s1 allowed st begun_st which was group t.state t.begun)
 
-  -- what the attempt comes to at a configuration of the path
+  -- what the row comes to at a configuration of the path, before an exception is thrown
   abbrev row_at : List Bool → PlainOutcome
   row_at c = carried_out_row p (state_at s1 st.heap st.tree group c)
 
-  came : (c : List Bool) → came_of p s2 st.heap spent_group c ≡ (if s1.test (path_of group) c then Some (row_at c) else None)
+  came : (c : List Bool) → came_of p s2 st.heap was.callers spent_group c ≡ (if s1.test (path_of group) c then Some (thrown_out p (row_at c)) else None)
   came c =
-      let alone = stands_alone p s1 st.heap st.tree group running.single running.stands in
-      let same = spent_state t.extends st.heap t.state.is_heap [] group spent_group attempts alone.is_group t.spent c ∙ sym (state_alone s1 st.heap st.tree group running.single c) in
-      ap (λ b. if b then Some (carried_out_row p (state_at s2 st.heap [] spent_group c)) else None) (spent_path t.extends group spent_group attempts known t.spent c)
-      ∙ ap (λ s. if s1.test (path_of group) c then Some (carried_out_row p s) else None) same
+      let same = ap (λ tree. state_at s2 st.heap tree spent_group c) t.begun.callers ∙ spent_state t.extends st.heap t.state.is_heap st.tree group spent_group attempts running.stands.is_group t.spent c in
+      ap (λ b. if b then Some (attempted_row p (state_at s2 st.heap was.callers spent_group c)) else None) (spent_path t.extends group spent_group attempts known t.spent c)
+      ∙ ap (λ s. if s1.test (path_of group) c then Some (attempted_row p s) else None) same
 
   more : (c : List Bool) → s1.test (path_of group) c ≡ true → attempts_at s2 spent_group c ≡ suc (attempts_at s1 group c)
   more c h = let one = t.spent.more c h in omega (arith, one)
 
   -- put where the path holds, and what was elsewhere
-  put_there : {B : Type 0} (f : ℕ → Next → Option B) (c : List Bool) (x y : Option B) → (s1.test (path_of group) c ≡ false → x ≡ y) → put_if (f (attempts_at s2 spent_group c)) (led_by p (came_of p s2 st.heap spent_group) c) x ≡ (if s1.test (path_of group) c then f (suc (attempts_at s1 group c)) (next p (row_at c)) else y)
+  put_there : {B : Type 0} (f : ℕ → Next → Option B) (c : List Bool) (x y : Option B) → (s1.test (path_of group) c ≡ false → x ≡ y) → put_if (f (attempts_at s2 spent_group c)) (led_by p (came_of p s2 st.heap was.callers spent_group) c) x ≡ (if s1.test (path_of group) c then f (suc (attempts_at s1 group c)) (next p (row_at c)) else y)
   put_there {B = B} f c x y h = ap (λ o. put_if (f (attempts_at s2 spent_group c)) (option_map (next p) o) x) (came c) ∙ cases (s1.test (path_of group) c) (more c) h
     where
-      cases : (b : Bool) → (b ≡ true → attempts_at s2 spent_group c ≡ suc (attempts_at s1 group c)) → (b ≡ false → x ≡ y) → put_if (f (attempts_at s2 spent_group c)) (option_map (next p) (if b then Some (row_at c) else None)) x ≡ (if b then f (suc (attempts_at s1 group c)) (next p (row_at c)) else y)
-      cases true k n = ap (λ a. f a (next p (row_at c))) (k refl)
+      cases : (b : Bool) → (b ≡ true → attempts_at s2 spent_group c ≡ suc (attempts_at s1 group c)) → (b ≡ false → x ≡ y) → put_if (f (attempts_at s2 spent_group c)) (option_map (next p) (if b then Some (thrown_out p (row_at c)) else None)) x ≡ (if b then f (suc (attempts_at s1 group c)) (next p (row_at c)) else y)
+      cases true k n = ap (λ a. f a (next p (thrown_out p (row_at c)))) (k refl) ∙ ap (λ l. f (suc (attempts_at s1 group c)) l) (next-thrown p (row_at c))
       cases false k n = n refl
 
   -- what waited beside the group
@@ -92,10 +91,10 @@ module _ {S I : Type 0} (p : Program) {s1 s2 s3 : Sets I} (allowed : I) (st begu
   turned_spent c = t.made.spent c ∙ put_there (spent_after st.limit) c (value_at s2 (leaves_of was.spent.items) c) (value_at s1 (leaves_of st.spent) c) (λ h. ap (λ xs. value_at s2 (leaves_of xs) c) t.begun.spent ∙ value_at-extends nat_cmp t.extends (leaves_of st.spent) t.state.spent c)
 
   pub turned_texts : (c : List Bool) → value_at s3 (leaves_of round.texts.items) c ≡ (if s1.test (path_of group) c then piece_after (row_at c) else None)
-  turned_texts c = t.made.texts c ∙ ap (λ xs. put_if piece_after (came_of p s2 st.heap spent_group c) (value_at s2 (leaves_of xs) c)) t.begun.texts ∙ ap (λ o. put_if piece_after o None) (came c) ∙ cases (s1.test (path_of group) c)
+  turned_texts c = t.made.texts c ∙ ap (λ xs. put_if piece_after (came_of p s2 st.heap was.callers spent_group c) (value_at s2 (leaves_of xs) c)) t.begun.texts ∙ ap (λ o. put_if piece_after o None) (came c) ∙ cases (s1.test (path_of group) c)
     where
-      cases : (b : Bool) → put_if piece_after (if b then Some (row_at c) else None) None ≡ (if b then piece_after (row_at c) else None)
-      cases true = refl
+      cases : (b : Bool) → put_if piece_after (if b then Some (thrown_out p (row_at c)) else None) None ≡ (if b then piece_after (row_at c) else None)
+      cases true = piece_after-thrown p (row_at c)
       cases false = refl
 
   -- what waited at a configuration of the path

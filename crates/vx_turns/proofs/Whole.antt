@@ -22,7 +22,7 @@ use Rattle.vx_standing.specs.State.{IsState, StateView, output_at, shared_ids, s
 use Rattle.vx_turns.specs.Turns.{IsBegun, IsClosed, IsMade, IsSpent}
 use Rattle.vx_turns.proofs.Closing.{IsState-closed, closed_standing, closed_state, closed_wrote}
 use Rattle.vx_standing.proofs.Keeping.{IsState-kept, standing_at-kept, state_kept}
-use Rattle.vx_turns.proofs.Opening.{chosen_is_group, chosen_running, chosen_taken, spent_path, spent_stands, spent_state}
+use Rattle.vx_turns.proofs.Opening.{chosen_is_group, chosen_running, chosen_taken, spent_path, spent_state}
 use Rattle.vx_standing.proofs.Running.{standing_at-by, standing_by}
 use Rattle.vx_turns.proofs.Turning.{IsTurn}
 use Rattle.vx_standing.proofs.Waiting.{run_by, waiting_at-standing}
@@ -63,7 +63,7 @@ IsRound-closed {S = S} {I = I} p s0 {s1 = s1} {s2 = s2} {s3 = s3} l allowed st b
       options = t.later.options ∙ t.extends.options ∙ k.options;
       limit = refl;
       rounds = one_more st.rounds;
-      standing = λ d. closed_standing p allowed st begun_st which was group spent_group attempts heap round t final.tree d
+      standing = λ d. closed_standing p allowed st begun_st which was group spent_group attempts heap round t final.tree c.swept d
           ∙ ap (λ b. after_round p st.limit b (standing_at s1 st d)) (same_path s0 s1 st begun_st which was group k t.begun d)
           ∙ ap (after_round p st.limit (s0.test (path_of group) d)) (same_standing p s0 s1 allowed st h k d);
       texts = round.texts.items;
@@ -89,7 +89,7 @@ IsRound-closed {S = S} {I = I} p s0 {s1 = s1} {s2 = s2} {s3 = s3} l allowed st b
 
 -- ---- what isn't built
 
-pub IsStuck-met : {S I : Type 0} (p : Program) (s0 s1 s2 : Sets I) → Extends s1 s2 → (allowed : I) (st begun_st : StateView S I) (which : ℕ) (was : Round S I) (group spent_group : GroupView S I) (attempts : Conditional ℕ S I) → IsState p s0 allowed st → IsCompacted s0 s1 (state_ids st) → IsBegun st begun_st which was group → IsSpent s1 s2 group spent_group attempts → IsUnbuiltThere p s2 st.heap spent_group → IsStuck p s0 st group
+pub IsStuck-met : {S I : Type 0} (p : Program) (s0 s1 s2 : Sets I) → Extends s1 s2 → (allowed : I) (st begun_st : StateView S I) (which : ℕ) (was : Round S I) (group spent_group : GroupView S I) (attempts : Conditional ℕ S I) → IsState p s0 allowed st → IsCompacted s0 s1 (state_ids st) → IsBegun st begun_st which was group → IsSpent s1 s2 group spent_group attempts → IsUnbuiltThere p s2 st.heap st.tree spent_group → IsStuck p s0 st group
 IsStuck-met p s0 s1 s2 e allowed st begun_st which was group spent_group attempts h k b q u =
     let h1 = compacted_state p s0 s1 allowed st h k in
     let c = u.config in
@@ -102,7 +102,7 @@ IsStuck-met p s0 s1 s2 e allowed st begun_st which was group spent_group attempt
       holds = sym (same_path s0 s1 st begun_st which was group k b c) ∙ path;
       progress = record { state = state_at s1 st.heap st.tree group c; output = output_at s1 st.found c; attempts = attempts_at s1 group c };
       stands = sym (same_standing p s0 s1 allowed st h k c) ∙ standing_at-by s1 st c ∙ ap (λ w. standing_by w (output_at s1 st.found c) (value_at s1 (leaves_of st.ends) c) (value_at s1 (leaves_of st.spent) c)) waits;
-      unbuilt = ap (λ s. is_built p s) (sym (spent_state e st.heap h1.is_heap st.tree group spent_group attempts running.stands.is_group q c)) ∙ u.unbuilt st.tree (spent_stands p e st.heap h1.is_heap st.tree group spent_group attempts running.stands q);
+      unbuilt = ap (λ s. is_built p s) (sym (spent_state e st.heap h1.is_heap st.tree group spent_group attempts running.stands.is_group q c)) ∙ u.unbuilt;
     }
 
 -- ---- the parts as the code has them

@@ -5,6 +5,7 @@ use Rattle.std.specs.Ordering.{nat_cmp}
 use Rattle.vx_space.specs.Sets.{Sets}
 use Rattle.vx_cond.specs.Cond.{Conditional, IsCond}
 use Rattle.vx_cond.specs.Leaves.{value_at}
+use Rattle.vx_group.specs.declared.callers.Caller.{Caller}
 use Rattle.vx_group.specs.Group.{GroupView, IsGroup, attempts_at, path_of}
 use Rattle.vx_group.specs.Sweep.{IsSwept}
 use Rattle.vx_heap.specs.Heap.{HeapView, IsHeap, IsHeapFor}
@@ -13,7 +14,7 @@ use Rattle.vx_java.specs.Machine.{Outcome}
 use Rattle.vx_link.specs.declared.program.Program.{Program}
 use Rattle.vx_group_states.specs.Stands.{state_at}
 use Rattle.vx_placing.specs.declared.round.Round.{Round}
-use Rattle.vx_standing.specs.Attempted.{carried_out_row}
+use Rattle.vx_standing.specs.Attempted.{attempted_row}
 use Rattle.vx_placing.specs.Placing.{IsUnderway, leads_in, led_by, made_at, put_if}
 use Rattle.vx_standing.specs.Waiting.{end_after, piece_after, spent_after, waiting_at, waits_after}
 use Rattle.vx_standing.specs.State.{StateView}
@@ -46,8 +47,8 @@ pub record IsSpent {S I : Type 0} (old new : Sets I) (before after : GroupView S
   pub at : (c : List Bool) → new.test (path_of after) c ≡ true → made_at new attempts c ≡ attempts_at new after c
 
 -- what the runs of a group come to in their attempt
-abbrev pub came_of : {S I : Type 0} → Program → Sets I → HeapView S I → GroupView S I → List Bool → Option Outcome
-came_of p sets heap group = leads_in sets (path_of group) (λ c. carried_out_row p (state_at sets heap [] group c))
+abbrev pub came_of : {S I : Type 0} → Program → Sets I → HeapView S I → List (Option (Caller S I)) → GroupView S I → List Bool → Option Outcome
+came_of p sets heap tree group = leads_in sets (path_of group) (λ c. attempted_row p (state_at sets heap tree group c))
 
 -- a group made its attempt, and what it came to took its place; all else stays
 pub record IsMade {S I : Type 0} (p : Program) (old new : Sets I) (before after : HeapView S I) (limit : ℕ) (group : GroupView S I) (was round : Round S I) : Type 0 where
@@ -55,10 +56,10 @@ pub record IsMade {S I : Type 0} (p : Program) (old new : Sets I) (before after 
   pub is_for : IsHeapFor p after
   pub allowed : after.allowed ≡ before.allowed
   pub underway : IsUnderway p new after limit round
-  pub waits : (c : List Bool) → waiting_at new after round.callers round.groups.items c ≡ put_if (waits_after limit (attempts_at old group c)) (led_by p (came_of p old before group) c) (waiting_at old before was.callers was.groups.items c)
-  pub ends : (c : List Bool) → value_at new (leaves_of round.ends.items) c ≡ put_if (end_after limit (attempts_at old group c)) (led_by p (came_of p old before group) c) (value_at old (leaves_of was.ends.items) c)
-  pub spent : (c : List Bool) → value_at new (leaves_of round.spent.items) c ≡ put_if (spent_after limit (attempts_at old group c)) (led_by p (came_of p old before group) c) (value_at old (leaves_of was.spent.items) c)
-  pub texts : (c : List Bool) → value_at new (leaves_of round.texts.items) c ≡ put_if piece_after (came_of p old before group c) (value_at old (leaves_of was.texts.items) c)
+  pub waits : (c : List Bool) → waiting_at new after round.callers round.groups.items c ≡ put_if (waits_after limit (attempts_at old group c)) (led_by p (came_of p old before was.callers group) c) (waiting_at old before was.callers was.groups.items c)
+  pub ends : (c : List Bool) → value_at new (leaves_of round.ends.items) c ≡ put_if (end_after limit (attempts_at old group c)) (led_by p (came_of p old before was.callers group) c) (value_at old (leaves_of was.ends.items) c)
+  pub spent : (c : List Bool) → value_at new (leaves_of round.spent.items) c ≡ put_if (spent_after limit (attempts_at old group c)) (led_by p (came_of p old before was.callers group) c) (value_at old (leaves_of was.spent.items) c)
+  pub texts : (c : List Bool) → value_at new (leaves_of round.texts.items) c ≡ put_if piece_after (came_of p old before was.callers group c) (value_at old (leaves_of was.texts.items) c)
 
 -- what changed was put back
 pub record IsClosed {S I : Type 0} (before after : StateView S I) (round : Round S I) : Type 0 where

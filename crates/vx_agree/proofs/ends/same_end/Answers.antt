@@ -4,7 +4,7 @@ use Rattle.vx_space.specs.Sets.{IsSet}
 use Rattle.vx_bdd_tools.specs.Nodes.{holds}
 use Rattle.vx_agree.proofs.Merging.{IsMerging-both, IsMerging-one, IsMerging-other, IsMerging-start}
 use Rattle.vx_agree.proofs.Places.{one_item}
-use Rattle.vx_agree.proofs.Sets.{AreSetsOf-extends}
+use Rattle.vx_bdd_tools.proofs.ListedSets.{AreSetsOf-extends}
 use Rattle.vx_agree.proofs.ends.same_end.Goals as goal
 
 pub loop-place-preserved-in-Less : goal.loop-place-preserved-in-Less

@@ -6,7 +6,7 @@ use Rattle.vx_bdd_tools.specs.Nodes.{holds}
 use Rattle.vx_agree.proofs.Equal.{common_from-within}
 use Rattle.vx_agree.proofs.Moved.{GoesAlong-of, IsGoingAlong-next, IsGoingAlong-start}
 use Rattle.vx_agree.proofs.Places.{one_item}
-use Rattle.vx_agree.proofs.Sets.{AreSetsOf-extends}
+use Rattle.vx_bdd_tools.proofs.ListedSets.{AreSetsOf-extends}
 use Rattle.vx_agree.proofs.moving.gone_along.Goals as goal
 
 pub loop-index-init : goal.loop-index-init

@@ -2,7 +2,7 @@ use Rattle.std.proofs.Common.{◌≡◌, sym, subst, true}
 use Rattle.vx_space.proofs.Spaces.{Extends-trans}
 use Rattle.vx_agree.proofs.Moved.{AreMoved-of, IsMoving-none, IsMoving-step}
 use Rattle.vx_agree.proofs.Places.{place_known}
-use Rattle.vx_agree.proofs.Sets.{AreSetsOf-extends}
+use Rattle.vx_bdd_tools.proofs.ListedSets.{AreSetsOf-extends}
 use Rattle.vx_agree.proofs.moving.move_all.Goals as goal
 
 pub move_entry-requires-clause-entry : goal.move_entry-requires-clause-entry

@@ -1,7 +1,7 @@
 use Rattle.std.proofs.lemmas.Result.{on_ok_weaker}
 use Rattle.vx_agree.proofs.Moved.{IsMoved-later, IsMoved-together}
 use Rattle.vx_agree.proofs.Places.{places-extends}
-use Rattle.vx_agree.proofs.Sets.{AreSetsOf-extends}
+use Rattle.vx_bdd_tools.proofs.ListedSets.{AreSetsOf-extends}
 use Rattle.vx_agree.proofs.moving.move_entry.Goals as goal
 
 pub put-requires-clause-places : goal.put-requires-clause-places

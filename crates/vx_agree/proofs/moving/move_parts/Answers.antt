@@ -2,7 +2,7 @@ use Rattle.std.proofs.lemmas.Result.{on_ok_weaker}
 use Rattle.vx_space.proofs.Spaces.{Extends-trans}
 use Rattle.vx_agree.proofs.Moved.{IsMoved-of}
 use Rattle.vx_agree.proofs.Places.{places-extends}
-use Rattle.vx_agree.proofs.Sets.{AreSetsOf-extends}
+use Rattle.vx_bdd_tools.proofs.ListedSets.{AreSetsOf-extends}
 use Rattle.vx_agree.proofs.moving.move_parts.Goals as goal
 
 pub take_text-requires-clause-sets : goal.take_text-requires-clause-sets

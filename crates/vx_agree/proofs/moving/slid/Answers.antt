@@ -3,7 +3,7 @@ use Rattle.vx_space.specs.Sets.{IsSet}
 use Rattle.vx_space.proofs.Spaces.{Extends-trans}
 use Rattle.vx_bdd_tools.specs.Nodes.{holds}
 use Rattle.vx_agree.proofs.Moved.{IsSliding-start, IsSliding-step, SaysTheSame-end}
-use Rattle.vx_agree.proofs.Sets.{AreSetsOf-extends}
+use Rattle.vx_bdd_tools.proofs.ListedSets.{AreSetsOf-extends}
 use Rattle.vx_agree.proofs.moving.slid.Goals as goal
 
 pub loop-index-init : goal.loop-index-init

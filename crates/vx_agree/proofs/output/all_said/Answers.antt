@@ -1,7 +1,7 @@
 use Rattle.std.proofs.Common.{◌≡◌, subst, sym, true}
 use Rattle.vx_agree.proofs.Outputs.{IsAllSaid-of, IsCollecting-start, IsCollecting-step}
 use Rattle.vx_agree.proofs.Places.{place_known}
-use Rattle.vx_agree.proofs.Sets.{AreSetsOf-extends}
+use Rattle.vx_bdd_tools.proofs.ListedSets.{AreSetsOf-extends}
 use Rattle.vx_space.proofs.Spaces.{Extends-trans}
 use Rattle.vx_agree.proofs.output.all_said.Goals as goal
 

@@ -1,6 +1,6 @@
 use Rattle.vx_space.proofs.Spaces.{Extends-trans}
 use Rattle.vx_agree.proofs.Outputs.{AreBehind-of, IsFollowing-start, IsFollowing-step}
-use Rattle.vx_agree.proofs.Sets.{AreSetsOf-extends}
+use Rattle.vx_bdd_tools.proofs.ListedSets.{AreSetsOf-extends}
 use Rattle.vx_agree.proofs.output.places_behind.Goals as goal
 
 pub loop-piece-init : goal.loop-piece-init

@@ -1,6 +1,6 @@
 use Rattle.vx_space.proofs.Spaces.{Extends-trans}
 use Rattle.vx_agree.proofs.Outputs.{IsLeaving-start, IsLeaving-step, IsUnsaid-of, ends_never, ends_past}
-use Rattle.vx_agree.proofs.Sets.{AreSetsOf-extends}
+use Rattle.vx_bdd_tools.proofs.ListedSets.{AreSetsOf-extends}
 use Rattle.vx_agree.proofs.output.unsaid.Goals as goal
 
 pub loop-index-init : goal.loop-index-init

@@ -1,7 +1,7 @@
 use Rattle.std.proofs.Common.{sym}
 use Rattle.vx_space.proofs.Spaces.{Extends-trans}
 use Rattle.vx_agree.proofs.Merging.{ends_ascend}
-use Rattle.vx_agree.proofs.Sets.{AreSetsOf-extends}
+use Rattle.vx_bdd_tools.proofs.ListedSets.{AreSetsOf-extends}
 use Rattle.vx_agree.proofs.reports.agreement.Goals as goal
 
 pub sets_of-requires : goal.sets_of-requires

@@ -1,6 +1,6 @@
 use Rattle.std.proofs.lemmas.Result.{IfOk-weaker}
 use Rattle.vx_agree.proofs.Agreeing.{IsAgreement-of}
-use Rattle.vx_agree.proofs.Sets.{AreSetsOf-extends}
+use Rattle.vx_bdd_tools.proofs.ListedSets.{AreSetsOf-extends}
 use Rattle.vx_agree.proofs.reports.agreement_of.Goals as goal
 
 pub same_output-requires-clause-one : goal.same_output-requires-clause-one

@@ -4,7 +4,7 @@ use Rattle.vx_space.specs.Sets.{IsSet}
 use Rattle.vx_space.proofs.Spaces.{Extends-trans}
 use Rattle.vx_bdd_tools.specs.Nodes.{holds}
 use Rattle.vx_agree.proofs.Places.{one_item}
-use Rattle.vx_agree.proofs.Sets.{AreSetsOf-extends}
+use Rattle.vx_bdd_tools.proofs.ListedSets.{AreSetsOf-extends}
 use Rattle.vx_agree.proofs.Taken.{IsGoing-start, IsGoing-step, IsTaken-early, IsTaken-end}
 use Rattle.vx_agree.proofs.taking.take_text.Goals as goal
 

@@ -1,5 +1,5 @@
 use Rattle.std.proofs.Common.{true, false}
-use Rattle.vx_cond.proofs.LeafLaws.{IsAdded-insert, IsAdded-set, AreLeaves-extends, IsApart-extends, place_known, place_at, or_after, added}
+use Rattle.vx_cond.proofs.LeafLaws.{IsAdded-insert, IsAdded-set, AreLeaves-extends, IsApart-extends, place_known, place_at, or_after, added, ascending_of}
 use Rattle.vx_space.proofs.Spaces.{Extends-refl}
 use Rattle.vx_cond.proofs.leaves.add.Goals as goal
 
@@ -35,3 +35,6 @@ returns-in_ok-insert-clause-added g c =
     let place = place_at cmp c.args.value c.as_slice.result.now xs c.place-i.result.0 c.place-i.result.1 false c.place-i.ensures.place c.as_slice.ensures.value c.if-found.false in
     rw c.in_ok-insert.ensures.items (added cmp (Extends-refl sets) xs _ c.args.value c.args.condition c.requires.leaves c.requires.known
     (IsAdded-insert g.met.T.Ord.total sets (record { value = c.args.value; condition = c.args.condition }) xs c.place-i.result.0 c.requires.leaves place c.requires.known (λ q. cc (c.if-is_never.ensures.1 q)) c.requires.apart))
+
+pub place-i-requires : goal.place-i-requires
+place-i-requires g c = rw c.as_slice.ensures.value (ascending_of g.T.Ord.cmp (g.S.Space.sets c.args.space.now) c.args.leaves.now.items c.requires.leaves)

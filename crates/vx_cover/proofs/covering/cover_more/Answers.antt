@@ -1,4 +1,4 @@
-use Rattle.std.proofs.Common.{◌∷◌, [], ◌++◌, ap, sym, ◌∙◌}
+use Rattle.std.proofs.Common.{◌∷◌, [], ◌++◌, ap, ◌∙◌}
 use Rattle.vx_space.proofs.Spaces.{Extends-trans}
 use Rattle.vx_cover.proofs.Meeting.{IsOneMore-of, IsPart-trans}
 use Rattle.vx_cover.proofs.Opening.{AreOpen-extends}

@@ -4,8 +4,11 @@ use Rattle.vx_space.proofs.Spaces.{Extends-refl}
 use Rattle.vx_fields.proofs.Families.{IsRunning-given, found_sort, found_static, got-by, missing-get, names_at, not_found, reference_at}
 use Rattle.vx_fields.proofs.statics.get_static.Goals as goal
 
-pub static_field-requires : goal.static_field-requires
-static_field-requires g c = c.requires.bounded
+pub static_field-requires-clause-bounded : goal.static_field-requires-clause-bounded
+static_field-requires-clause-bounded g c = c.requires.bounded
+
+pub static_field-requires-clause-for_program : goal.static_field-requires-clause-for_program
+static_field-requires-clause-for_program g c = c.requires.is_for
 
 pub get_fitting-requires-clause-running : goal.get_fitting-requires-clause-running
 get_fitting-requires-clause-running g c = IsRunning-given c.args.site.now (GetStatic c.args.index) _ c.args.heap.now c.args.group c.requires

@@ -1,7 +1,7 @@
 use Rattle.std.proofs.Common.{◌∙◌, ap}
 use Rattle.vx_link.specs.Names.{member}
 use Rattle.vx_link.specs.declared.program.LinkedClass.{LinkedClass}
-use Rattle.vx_fields.proofs.Pools.{class_missing, class_there}
+use Rattle.vx_references.proofs.Tables.{class_missing, class_there}
 use Rattle.vx_fields.proofs.statics.named_member.Goals as goal
 
 pub returns-in-Some : goal.returns-in-Some

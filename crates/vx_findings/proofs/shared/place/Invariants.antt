@@ -1,4 +1,4 @@
-use Rattle.vx_cond.proofs.LeafLaws.{PlacesFrom}
+use Rattle.vx_findings.proofs.Listed.{PlacesFrom}
 use Rattle.vx_findings.specs.Shared.{leaves_of}
 use Rattle.vx_findings.proofs.shared.place.Given as goal
 

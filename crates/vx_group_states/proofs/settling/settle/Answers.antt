@@ -1,11 +1,19 @@
-use Rattle.std.proofs.Common.{◌∙◌}
+use Rattle.std.proofs.Common.{◌+◌, ◌≤◌, ◌∙◌, length}
 use Rattle.std.specs.Ordering.{bool_cmp}
-use Rattle.vx_space.proofs.Spaces.{Extends-trans}
+use Rattle.vx_space.proofs.Spaces.{Extends-refl, Extends-trans}
 use Rattle.vx_frame.proofs.FrameLaws.{IsFrame-stack}
 use Rattle.vx_group.proofs.GroupLaws.{IsGroup-extends, IsGroup-top}
 use Rattle.vx_group_states.proofs.Gathering.{AreLeaves-of, Cover-answers}
-use Rattle.vx_group_states.proofs.SettleLaws.{lifting_cond, settle-gives, stack_scope}
+use Rattle.vx_group_states.proofs.SettleLaws.{lifting_cond, settle-gives, stack_scope, surely-settles}
 use Rattle.vx_group_states.proofs.settling.settle.Goals as goal
+
+pub returns-then-surely_fit-clause-extends : goal.returns-then-surely_fit-clause-extends
+returns-then-surely_fit-clause-extends g c = Extends-refl _
+
+pub returns-then-surely_fit-clause-gives : goal.returns-then-surely_fit-clause-gives
+returns-then-surely_fit-clause-gives g c =
+    let few : length c.args.group.top.stack.conds + length c.args.group.top.stack.conds ≤ c.args.site.now.code.now.max_stack = rw (← c.from.ensures, ← c.top_frame.ensures, ← c.len.ensures) (c.surely_fit.ensures c.if-surely_fit.true) in
+    surely-settles c.args.site.now _ c.args.group _ few c.in_ok-passed.ensures
 
 pub stack_size-requires-clause-row : goal.stack_size-requires-clause-row
 stack_size-requires-clause-row g c = rw c.top_frame.ensures (IsFrame-stack _ c.args.group.top (IsGroup-top _ c.args.group c.requires.group))

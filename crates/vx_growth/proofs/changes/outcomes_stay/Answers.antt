@@ -1,4 +1,4 @@
-use Rattle.vx_growth.proofs.GrownStates.{outcomes_stay}
+use Rattle.vx_growth.proofs.ChangeLaws.{outcomes_stay}
 use Rattle.vx_growth.proofs.changes.outcomes_stay.Goals as goal
 
 pub returns : goal.returns

@@ -1,11 +1,22 @@
-use Rattle.std.proofs.Common.{ap}
+use Rattle.std.proofs.Common.{◌∙◌, ap}
 use Rattle.std.specs.Prelude.{is_some}
 use Rattle.vx_invoke.proofs.Groups.{some_at}
-use Rattle.vx_invoke.proofs.Rows.{IsAttemptBy-referenced, IsRunning-given, MeetsUnbuilt-enters}
+use Rattle.vx_invoke.proofs.Rows.{IsAttemptBy-referenced, IsRunning-given, MeetsUnbuilt-enters, owner_println}
 use Rattle.vx_invoke.proofs.invoking.attempt.Goals as goal
 
-pub referenced_call-requires : goal.referenced_call-requires
-referenced_call-requires g c = record { running = IsRunning-given c.args.site.now c.args.operation _ c.args.heap.now c.args.group c.requires.given }
+pub owner-owner-requires-clause-classes : goal.owner-owner-requires-clause-classes
+owner-owner-requires-clause-classes g c = c.requires.given.bounded.classes
+
+pub owner-owner-requires-clause-for_program : goal.owner-owner-requires-clause-for_program
+owner-owner-requires-clause-for_program g c = c.requires.given.is_for
+
+pub referenced_call-requires-clause-running : goal.referenced_call-requires-clause-running
+referenced_call-requires-clause-running g c = IsRunning-given c.args.site.now c.args.operation _ c.args.heap.now c.args.group c.requires.given
+
+pub referenced_call-requires-clause-owner : goal.referenced_call-requires-clause-owner
+referenced_call-requires-clause-owner g c =
+    let stands = rw (c.class_of_method-class.ensures, c.top_frame.ensures) at c.owner-owner.ensures in
+    stands ∙ owner_println c.args.site.now c.args.group c.in-Invoke._mode c.in-Invoke.entry c.args.operation c.in-Invoke.is c.requires.family
 
 pub returns-in-Ok-Some-clause-ok : goal.returns-in-Ok-Some-clause-ok
 returns-in-Ok-Some-clause-ok g c = IsAttemptBy-referenced c.args.site.now c.args.operation c.args.heap.now c.args.group _ _ _ c.in-Invoke.is c.requires.family c.referenced_call.ensures.extends c.requires.given (some_at _ c.in-Ok-Some.field-0 c.in-Ok-Some.outcomes c.in-Ok-Some.field-0-is c.in-Ok-Some.ensures.gives)

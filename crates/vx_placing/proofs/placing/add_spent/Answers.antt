@@ -1,5 +1,6 @@
 use Rattle.std.specs.Ordering.{nat_cmp}
-use Rattle.vx_cond.proofs.LeafLoops.{IsAddingAll-apart, IsAddingAll-end, IsAddingAll-start, IsAddingAll-step, next_known}
+use Rattle.vx_cond.proofs.LeafLoops.{next_known}
+use Rattle.vx_placing.proofs.AddingAll.{IsAddingAll-apart, IsAddingAll-end, IsAddingAll-start, IsAddingAll-step}
 use Rattle.vx_findings.specs.Shared.{leaves_of}
 use Rattle.vx_placing.proofs.placing.add_spent.Goals as goal
 

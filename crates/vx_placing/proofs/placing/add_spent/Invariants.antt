@@ -1,5 +1,5 @@
 use Rattle.std.specs.Ordering.{nat_cmp}
-use Rattle.vx_cond.proofs.LeafLoops.{IsAddingAll}
+use Rattle.vx_placing.proofs.AddingAll.{IsAddingAll}
 use Rattle.vx_findings.specs.Shared.{leaves_of}
 use Rattle.vx_placing.proofs.placing.add_spent.Given as goal
 

@@ -1,15 +1,15 @@
-use Rattle.std.proofs.Common.{[], ◌∙◌, arith}
+use Rattle.std.proofs.Common.{◌∙◌, arith}
 use Rattle.std.proofs.lemmas.Result.{on_ok_weaker}
 use Rattle.vx_space.proofs.Spaces.{Extends-trans}
 use Rattle.vx_group.proofs.GroupLaws.{IsGroupIn-group, IsGroup-attempts, IsGroup-path_known}
 use Rattle.vx_heap.proofs.HeapLaws.{IsHeap-extends}
 use Rattle.vx_group_states.proofs.Gathering.{IsPartOf-group}
-use Rattle.vx_placing.proofs.Going.{IsPut-parted, ended_vacant, left_attempts, left_stands, left_vacant, part_kind, used_put}
+use Rattle.vx_placing.proofs.Going.{IsPut-parted, ended_vacant, left_attempts, left_stands, left_vacant, used_put}
 use Rattle.vx_placing.proofs.Putting.{IsUnderway-extends, MayEnd-vacant}
 use Rattle.vx_placing.proofs.placing.go_on_in_part.Goals as goal
 
 pub split-requires-clause-group : goal.split-requires-clause-group
-split-requires-clause-group g c = IsGroupIn-group _ [] c.args.group c.requires.going.stands.is_group
+split-requires-clause-group g c = IsGroupIn-group _ c.args.round.now.callers c.args.group c.requires.going.stands.is_group
 
 pub split-requires-clause-known : goal.split-requires-clause-known
 split-requires-clause-known g c = c.requires.used.0
@@ -30,8 +30,7 @@ pub wait-requires-clause-going : goal.wait-requires-clause-going
 wait-requires-clause-going g c = record {
   is_heap = IsHeap-extends (Extends-trans c.in_ok-done.ensures.extends c.in_ok-give_up.ensures.extends) c.args.setting.now.heap.now c.requires.going.is_heap;
   underway = (used_put c.args.setting.now.program.now c.in_ok-done.ensures.extends c.in_ok-give_up.ensures.extends c.args.setting.now.heap.now c.requires.going.is_heap c.args.setting.now.limit c.args.group c.in_ok-done.done c.args.used c.args.round.now c.give_up.new.round c.requires.going.underway c.requires.going.vacant c.in_ok-done.ensures.inside c.in_ok-give_up.ensures.ended).underway;
-  stands = left_stands c.args.setting.now.program.now c.in_ok-done.ensures.extends c.in_ok-give_up.ensures.extends c.args.setting.now.heap.now c.requires.going.is_heap c.args.group c.in_ok-done.going c.args.used c.requires.going.stands c.in_ok-done.ensures.outside;
-  kind = part_kind _ _ _ c.args.group c.in_ok-done.going c.in_ok-done.ensures.outside c.requires.going.kind;
+  stands = rw c.in_ok-give_up.ensures.ended.callers (left_stands c.args.setting.now.program.now c.in_ok-done.ensures.extends c.in_ok-give_up.ensures.extends c.args.setting.now.heap.now c.requires.going.is_heap c.args.group c.in_ok-done.going c.args.used c.requires.going.stands c.in_ok-done.ensures.outside);
   bound = λ d t.
       let left = left_attempts c.args.setting.now.program.now c.in_ok-done.ensures.extends c.in_ok-give_up.ensures.extends c.args.setting.now.heap.now c.requires.going.is_heap c.args.setting.now.limit c.args.group c.in_ok-done.going c.args.used c.requires.going.stands c.requires.used c.requires.going.bound c.in_ok-done.ensures.outside d t in
       omega (arith, left);

@@ -32,7 +32,7 @@ make-requires g c =
     let is_heap = ap (λ (x : StateView g.row.S.Denot g.row.S-Id.Denot). x.heap) (c.state.view_is ∙ b.state) in
     let is_limit = ap (λ (x : StateView g.row.S.Denot g.row.S-Id.Denot). x.limit) (c.state.view_is ∙ b.state) in
     record {
-      given = rw is_heap
+      given = rw (is_heap, b.callers)
           (spent_may c.args.program.now x c.args.state.now.heap.allowed c.args.state.now c.begin_round-begun.new.state c.args.which c.begin_round-begun.result.0 c.begin_round-begun.result.1 c.in_ok-spent.spent c.in_ok-spent.attempts h b c.in_ok-spent.ensures.spent);
       underway = rw (is_heap, is_limit)
           (IsUnderway-extends c.args.program.now x c.args.state.now.heap h.is_heap c.args.state.now.limit c.begin_round-begun.result.0 u);
@@ -46,7 +46,7 @@ pub returns-in_err-make-clause-not_yet : goal.returns-in_err-make-clause-not_yet
 returns-in_err-make-clause-not_yet g c e =
     let b = c.begin_round-begun.ensures in
     let same_heap = ap (λ (x : StateView g.row.S.Denot g.row.S-Id.Denot). x.heap) (c.state.view_is ∙ b.state) in
-    let u = rw same_heap at (c.in_err-make.ensures.not_yet (let k = err_from_is_err_and c.from_residual-in_err-make.result c.from_residual-in_err-make.ensures.1 in cc (e, k.1, k.2))) in (
+    let u = rw (same_heap, b.callers) at (c.in_err-make.ensures.not_yet (let k = err_from_is_err_and c.from_residual-in_err-make.result c.from_residual-in_err-make.ensures.1 in cc (e, k.1, k.2))) in (
       c.begin_round-begun.result.1,
       b.chosen,
       IsStuck-met c.args.program.now (g.S.Space.sets c.args.space.now) (g.S.Space.sets c.compact.new.space) (g.S.Space.sets c.spend.new.space) c.in_ok-spent.ensures.extends c.args.state.now.heap.allowed c.args.state.now c.begin_round-begun.new.state c.args.which c.begin_round-begun.result.0 c.begin_round-begun.result.1 c.in_ok-spent.spent c.in_ok-spent.attempts c.requires.state c.in_ok-compact.ensures.compacted b c.in_ok-spent.ensures.spent u,

@@ -1,0 +1,21 @@
+use Rattle.vx_space.proofs.Spaces.{Extends-refl}
+use Rattle.vx_java.specs.Step.{outcome_carried_out}
+use Rattle.vx_attempt.proofs.Carrying.{AreCarriedOut-plain}
+use Rattle.vx_attempt.proofs.Kept.{IsPlain-other}
+use Rattle.vx_attempt.proofs.natives.one_carried_out.Goals as goal
+
+pub returns-in_ok-same-in_default : goal.returns-in_ok-same-in_default
+returns-in_ok-same-in_default g c =
+    let p = c.args.site.now.program.now in
+    let sets = g.S.Space.sets c.args.space.now in
+    record {
+      extends = Extends-refl sets;
+      carried = rw c.in_ok-same-in_default.ensures (AreCarriedOut-plain p (outcome_carried_out p) sets c.args.heap.now c.args.callers.now c.args.outcome c.requires.is_heap c.requires.is_for (IsPlain-other p c.args.outcome c.in_default.not-Begin c.in_default.not-Native));
+      not_yet = λ e. cc e;
+    }
+
+pub returns-in-Native-clause-carried : goal.returns-in-Native-clause-carried
+returns-in-Native-clause-carried g c = rw c.in-Native.is c.native_carried_out.ensures.carried
+
+pub returns-in-Begin-clause-carried : goal.returns-in-Begin-clause-carried
+returns-in-Begin-clause-carried g c = rw c.in-Begin.is c.no_beginning.ensures.carried

@@ -1,0 +1,39 @@
+//! A program of methods that are never run.
+
+use std::alloc::{AllocError, Global};
+use vx_class::Code;
+use vx_link::{AccessFlags, LinkedMethod, Program};
+use vx_list::Items;
+use vx_value::{ClassId, MethodId, Name};
+
+/// A method with four locals.
+fn method(alloc: Global) -> Result<LinkedMethod, AllocError> {
+    let code = Code {
+        max_stack: 1,
+        max_locals: 4,
+        bytes: Items::of(Vec::new(alloc)),
+        catches: Items::of(Vec::new(alloc)),
+    };
+    Ok(LinkedMethod {
+        class: ClassId(0),
+        name: Name::of(alloc, b"m")?,
+        descriptor: Name::of(alloc, b"(JI)V")?,
+        flags: AccessFlags(0),
+        code: Some(code),
+        native: 0,
+    })
+}
+
+/// Two methods.
+pub(crate) fn program(alloc: Global) -> Result<Program, AllocError> {
+    let mut methods = Vec::new(alloc);
+    methods.push(method(alloc)?)?;
+    methods.push(method(alloc)?)?;
+    Ok(Program {
+        classes: Items::of(Vec::new(alloc)),
+        methods: Items::of(methods),
+        fields: Items::of(Vec::new(alloc)),
+        main: MethodId(0),
+        options: Items::of(Vec::new(alloc)),
+    })
+}
