@@ -1,17 +1,15 @@
 -- Operations by recursion: the answers of two parts make that of the whole.
-use Rattle.std.proofs.Common.{◌≡◌, ℕ, ◌+◌, ◌-◌, ◌<◌, ◌≤◌, Bool, true, false, List, refl, sym, ◌∙◌, ap, subst, arith, inl, inr}
-use Rattle.std.specs.Prelude.{Option, Some, None, if◌then◌else◌, nat_eq, ◌&&◌, min}
-use Rattle.std.specs.HashMap.{HashMap}
-use Rattle.std.proofs.lemmas.Map.Views.{exact_unsigned_eq}
+use Rattle.std.proofs.Common.{◌≡◌, ℕ, ◌+◌, ◌-◌, ◌<◌, ◌≤◌, Bool, true, false, List, refl, sym, ◌∙◌, ap, arith, inl, inr}
+use Rattle.std.specs.Prelude.{Option, None, if◌then◌else◌, nat_eq, min}
+use Rattle.std.proofs.lemmas.List.Elements.{All-weaker}
 use Rattle.vx_space.specs.Config.{value_of}
 use Rattle.vx_bdd.specs.declared.node.Node.{Node}
-use Rattle.vx_bdd.specs.declared.node.Pair.{Pair}
+use Rattle.vx_bdd.specs.declared.node.Answer.{Answer}
 use Rattle.vx_bdd.specs.declared.node.Op.{Op}
-use Rattle.vx_bdd.specs.contracts.node.PairPartialEq.TheImpl as pair_eq
 use Rattle.vx_bdd.specs.Diagram.{node_at, reaches, is_stored, level_of, level, IsReduced}
 use Rattle.vx_bdd.specs.Canonical.{node_cases, walk-end}
 use Rattle.vx_bdd.specs.Table.{Grows, Stands, AreParts}
-use Rattle.vx_bdd.specs.Apply.{op_value, IsAnswer, IsMemo, answer_of}
+use Rattle.vx_bdd.specs.Apply.{op_value, IsAnswer, IsRight, AreRight}
 use Rattle.vx_bdd.proofs.TableLaws.{stored-grows, level-grows, reaches-grows, Grows-trans}
 
 -- how many options are left below two ids
@@ -27,30 +25,13 @@ IsAnswer-grows op {options = options} r g a b id h = record {
   reaches = λ c. rw (reaches-grows r g id c h.stored, reaches-grows r g a c h.a_stored, reaches-grows r g b c h.b_stored) (h.reaches c);
 }
 
-pub IsMemo-grows : {S : Type 0} (op : Op) {options : ℕ} {old new : List (Option Node)} → IsReduced options old → Grows old new → (memo : HashMap Pair ℕ S) → IsMemo op options old memo → IsMemo op options new memo
-IsMemo-grows op r g memo h = record { answers = λ a b id e. IsAnswer-grows op r g a b id (h.answers a b id e) }
+pub AreRight-grows : (op : Op) {options : ℕ} {old new : List (Option Node)} → IsReduced options old → Grows old new → (answers : List Answer) → AreRight op options old answers → AreRight op options new answers
+AreRight-grows op {options = options} {old = old} {new = new} r g answers h = record {
+  each = All-weaker (IsRight op options old) (IsRight op options new) (λ x p. IsAnswer-grows op r g x.a x.b x.id p) answers h.each;
+}
 
-pair_exact : (a b x y : ℕ) → pair_eq.ghosts.eq (record { a = a; b = b }) (record { a = x; b = y }) ≡ true → (a ≡ x) × (b ≡ y)
-pair_exact a b x y e =
-    let both = and_parts (nat_eq a x) (nat_eq b y) e in
-    (exact_unsigned_eq a x both.0, exact_unsigned_eq b y both.1)
-  where
-    and_parts : (p q : Bool) → (p && q) ≡ true → (p ≡ true) × (q ≡ true)
-    and_parts true q h = (refl, h)
-    and_parts false q h = cc
-
-pub IsMemo-insert : {S : Type 0} (op : Op) (options : ℕ) (slots : List (Option Node)) (old new : HashMap Pair ℕ S) (a b id : ℕ) → IsMemo op options slots old → IsAnswer op options slots a b id → ((x y : ℕ) → answer_of new x y ≡ (if pair_eq.ghosts.eq (record { a = a; b = b }) (record { a = x; b = y }) then Some id else answer_of old x y)) → IsMemo op options slots new
-IsMemo-insert op options slots old new a b id m h u = record { answers = λ x y i e. cases x y i (pair_eq.ghosts.eq (record { a = a; b = b }) (record { a = x; b = y })) refl (sym (u x y) ∙ e) }
-  where
-    cases : (x y i : ℕ) (t : Bool) → pair_eq.ghosts.eq (record { a = a; b = b }) (record { a = x; b = y }) ≡ t → (if t then Some id else answer_of old x y) ≡ Some i → IsAnswer op options slots x y i
-    cases x y i true k e =
-        let same = pair_exact a b x y k in
-        let there : id ≡ i = cc e in
-        let P : ℕ → Type 0 = λ v. IsAnswer op options slots v b id in
-        let Q : ℕ → Type 0 = λ v. IsAnswer op options slots x v id in
-        let R : ℕ → Type 0 = λ v. IsAnswer op options slots x y v in
-        subst R there (subst Q same.1 (subst P same.0 h))
-    cases x y i false k e = m.answers x y i e
+pub AreRight-later : (op : Op) {options : ℕ} {old new : List (Option Node)} (options' : ℕ) → IsReduced options old → Grows old new → options' ≡ options → (answers : List Answer) → AreRight op options old answers → AreRight op options' new answers
+AreRight-later op options' r g e answers h = rw e (AreRight-grows op r g answers h)
 
 -- never and always
 no_node : {options : ℕ} {slots : List (Option Node)} → IsReduced options slots → (id : ℕ) → options ≤ level slots options id → node_at slots id ≡ None

@@ -1,8 +1,6 @@
 -- A swept table is a table, and keeps the sets of its marked ids.
-use Rattle.std.proofs.Common.{◌≡◌, ◌≢◌, ℕ, ◌<◌, ◌≤◌, Bool, true, false, List, [], ◌∷◌, refl, sym, ◌∙◌, ap, subst, arith, zero, suc, inl, inr, length, map}
+use Rattle.std.proofs.Common.{◌≡◌, ℕ, ◌<◌, Bool, true, false, List, [], ◌∷◌, refl, sym, ◌∙◌, ap, subst, arith, zero, suc, inl, inr, length, map}
 use Rattle.std.specs.Prelude.{Option, Some, None, if◌then◌else◌, is_some, nat_eq, slice_index_or, Contains}
-use Rattle.std.proofs.lemmas.Bool.{cases_eq}
-use Rattle.std.specs.HashMap.{HashMap}
 use Rattle.slab.proofs.SlabLemmas.{Contains-cons, Contains-cons_cases}
 use Rattle.vx_space.specs.Config.{value_of, with_option}
 use Rattle.vx_space.specs.Under.{fixed, Under, never, always, root, part}
@@ -10,16 +8,16 @@ use Rattle.vx_space.specs.Sets.{IsSet, AreKept, IsCompacted, IsJustUnder}
 use Rattle.vx_bdd.specs.declared.node.Node.{Node}
 use Rattle.vx_bdd.specs.Diagram.{node_at, walk, reaches, is_stored, IsReduced}
 use Rattle.vx_bdd.specs.Canonical.{node_cases, walk-end, reaches-part}
-use Rattle.vx_bdd.specs.Table.{id_of, IsIndex}
+use Rattle.vx_bdd.specs.declared.node.Answer.{Answer}
+use Rattle.vx_bdd.specs.declared.node.Op.{Op}
+use Rattle.vx_bdd.specs.Table.{Grows}
+use Rattle.vx_bdd.specs.Apply.{AreRight}
 use Rattle.vx_bdd.specs.Space.{sets_of}
-use Rattle.vx_bdd.specs.Marks.{Below, here, low, high, IsClosed, AreMarked, IsMarking, kept_id, IsSwept, IsBounded}
-use Rattle.vx_bdd.proofs.TableLaws.{some_same}
+use Rattle.vx_bdd.specs.Marks.{Below, here, low, high, IsClosed, AreMarked, IsMarking, KeepsMarked}
+use Rattle.vx_bdd.proofs.ApplyLaws.{AreRight-grows}
+use Rattle.vx_bdd.proofs.CacheLaws.{AreRight-none}
 use Rattle.vx_bdd.proofs.SpaceLaws.{IsTop-node}
 use Rattle.vx_bdd_tools.proofs.NodeSets.{order_cases}
-
--- what a swept table has
-pub record KeepsMarked (has : ℕ → Bool) (old new : List (Option Node)) : Type 0 where
-  pub slots : (x : ℕ) → slice_index_or new x None ≡ (if has x then slice_index_or old x None else None)
 
 node_at-swept : (has : ℕ → Bool) (old new : List (Option Node)) → KeepsMarked has old new → (id : ℕ) → node_at new id ≡ (if has id then node_at old id else None)
 node_at-swept has old new w zero = none (has 0)
@@ -34,13 +32,13 @@ node_at-swept has old new w (suc zero) = none (has 1)
     none false = refl
 node_at-swept has old new w (suc (suc k)) = w.slots (suc (suc k))
 
-kept_node : (has : ℕ → Bool) (old new : List (Option Node)) → KeepsMarked has old new → (id : ℕ) → has id ≡ true → node_at new id ≡ node_at old id
+pub kept_node : (has : ℕ → Bool) (old new : List (Option Node)) → KeepsMarked has old new → (id : ℕ) → has id ≡ true → node_at new id ≡ node_at old id
 kept_node has old new w id h = node_at-swept has old new w id ∙ ap (λ b. if b then node_at old id else None) h
 
 kept_stored : (has : ℕ → Bool) (old new : List (Option Node)) → KeepsMarked has old new → (id : ℕ) → has id ≡ true → is_stored new id ≡ is_stored old id
 kept_stored has old new w id h = ap is_some (w.slots id ∙ ap (λ b. if b then slice_index_or old id None else None) h)
 
-stored_marked : (has : ℕ → Bool) (old new : List (Option Node)) → KeepsMarked has old new → (id : ℕ) → is_stored new id ≡ true → has id ≡ true
+pub stored_marked : (has : ℕ → Bool) (old new : List (Option Node)) → KeepsMarked has old new → (id : ℕ) → is_stored new id ≡ true → has id ≡ true
 stored_marked has old new w id s = cases (has id) refl (sym (ap is_some (w.slots id)) ∙ s)
   where
     cases : (b : Bool) → has id ≡ b → is_some (if b then slice_index_or old id None else None) ≡ true → has id ≡ true
@@ -73,30 +71,6 @@ IsReduced-swept options has old new r c s t w = record {
       };
   distinct = λ a b node e f. r.distinct a b node (node_kept has old new w a node e).1 (node_kept has old new w b node f).1;
 }
-
-pub IsIndex-swept : {S : Type 0} (has : ℕ → Bool) (old new : List (Option Node)) (ids ids' : HashMap Node ℕ S) → IsIndex old ids → IsSwept has old new ids ids' → IsIndex new ids'
-IsIndex-swept {S = S} has old new ids ids' x w = record {
-  sound = λ q i e.
-      let k = kept (id_of ids q) i (sym (w.index q) ∙ e) in
-      kept_node has old new swept i k.1 ∙ x.sound q i k.0;
-  complete = λ i q e.
-      let k = node_kept has old new swept i q e in
-      w.index q ∙ ap (kept_id has) (x.complete i q k.1) ∙ ap (λ b. if b then Some i else None) k.0;
-}
-  where
-    swept : KeepsMarked has old new
-    swept = record { slots = w.slots }
-
-    kept : (o : Option ℕ) (i : ℕ) → kept_id has o ≡ Some i → (o ≡ Some i) × (has i ≡ true)
-    kept None i e = cc
-    kept (Some j) i e = cases (has j) refl e
-      where
-        cases : (b : Bool) → has j ≡ b → (if b then Some j else None) ≡ Some i → (Some j ≡ Some i) × (has i ≡ true)
-        cases true f g = (g, ap has (sym (some_same g)) ∙ f)
-        cases false f g = cc
-
-pub IsBounded-swept : (has : ℕ → Bool) (old new : List (Option Node)) (bound : ℕ) → IsBounded old bound → KeepsMarked has old new → IsBounded new bound
-IsBounded-swept has old new bound b w = record { below = λ id s. b.below id (sym (kept_stored has old new w id (stored_marked has old new w id s)) ∙ s) }
 
 walk-swept : (has : ℕ → Bool) {old : List (Option Node)} (new : List (Option Node)) → IsClosed old has → KeepsMarked has old new → (steps id : ℕ) (c : List Bool) → has id ≡ true → walk new steps id c ≡ walk old steps id c
 walk-swept has new c w zero id d h = refl
@@ -166,6 +140,13 @@ stored_either : (slots : List (Option Node)) (b : Bool) (x y : ℕ) → is_store
 stored_either slots true x y h k = h
 stored_either slots false x y h k = k
 
+pub marked_root : (has : ℕ → Bool) (ids : List ℕ) (id : ℕ) → AreMarked has ids → Contains ids id → has id ≡ true
+marked_root has [] id a p = absurd (omega (arith, p.1))
+marked_root has (x ∷ xs) id a p = elim (Contains-cons_cases x id xs p) [
+  | inl e ↦ ap has (sym e) ∙ a.0
+  | inr q ↦ marked_root has xs id a.1 q
+]
+
 -- the sets of the ids below the roots are all that is under them
 complete_under : (options base : ℕ) (old new : List (Option Node)) (has : ℕ → Bool) (roots : List ℕ) → options < 65 → IsReduced options new → IsMarking old roots has → KeepsMarked has old new → (set : List Bool → Bool) → Under (map (reaches old options) roots) set → (id : ℕ) × IsSet (sets_of options new base) id set
 complete_under options base old new has roots few r m w set never = (0, record { known = r.never; test = λ c. ap (λ x. nat_eq x 1) (walk-end new options 0 c refl) })
@@ -179,13 +160,6 @@ complete_under options base old new has roots few r m w set (root s p) =
         test = λ c. reaches-swept options has old new m.closed w q.0 c h ∙ ap (λ f. f c) q.2;
       },
     )
-  where
-    marked_root : (g : ℕ → Bool) (xs : List ℕ) (x : ℕ) → AreMarked g xs → Contains xs x → g x ≡ true
-    marked_root g [] x a p = absurd (omega (arith, p.1))
-    marked_root g (y ∷ ys) x a p = elim (Contains-cons_cases y x ys p) [
-      | inl e ↦ ap g (sym e) ∙ a.0
-      | inr q ↦ marked_root g ys x a.1 q
-    ]
 complete_under options base old new has roots few r m w set (part s i value u l) =
     let before = complete_under options base old new has roots few r m w s u in
     elim (node_cases (node_at new before.0)) [
@@ -233,10 +207,7 @@ IsJustUnder-swept options base old new has roots few r m w =
       complete = λ set u. complete_under options base old new has roots few q m w set u;
     }
 
-pub IsBounded-added : (old new : List (Option Node)) (id bound bound' : ℕ) → IsBounded old bound → bound ≤ bound' → id < bound' → ((x : ℕ) → x ≢ id → slice_index_or new x None ≡ slice_index_or old x None) → IsBounded new bound'
-IsBounded-added old new id bound bound' b l m o = record {
-  below = λ x s. elim (cases_eq x id) [
-    | inl e ↦ rw e m
-    | inr n ↦ omega (arith, l, b.below x (sym (ap is_some (o x n)) ∙ s))
-  ];
-}
+-- the answers that a compaction leaves are right
+pub AreRight-forgotten : (op : Op) {options : ℕ} {old new : List (Option Node)} (all_kept : Bool) → IsReduced options old → (all_kept ≡ true → Grows old new) → (before after : List Answer) → (all_kept ≡ false → after ≡ []) → (all_kept ≡ true → after ≡ before) → AreRight op options old before → AreRight op options new after
+AreRight-forgotten op true r g before after n s h = rw (s refl) (AreRight-grows op r (g refl) before h)
+AreRight-forgotten op {options = options} {new = new} false r g before after n s h = rw (n refl) (AreRight-none op options new)

@@ -1,16 +1,18 @@
 -- Marking what is below some ids, and dropping the rest.
-use Rattle.std.proofs.Common.{◌≡◌, ◌≢◌, ◌⊎◌, ℕ, ◌+◌, ◌<◌, ◌≤◌, Bool, true, false, List, [], ◌∷◌, refl, sym, ◌∙◌, ap, subst, arith, zero, suc, inl, inr, length, get_or}
-use Rattle.std.specs.Prelude.{Option, Some, None, if◌then◌else◌, is_some, nat_eq, nat_lt, slice_index_or, Contains, ◌&&◌, not}
+use Rattle.std.proofs.Common.{◌≡◌, ◌≢◌, ◌⊎◌, ℕ, ◌+◌, ◌<◌, ◌≤◌, Bool, true, false, List, [], ◌∷◌, ◌++◌, refl, sym, ◌∙◌, ap, subst, arith, zero, suc, inl, inr, length, get_or, map}
+use Rattle.std.specs.Prelude.{Option, Some, None, if◌then◌else◌, nat_eq, slice_index_or, slice_get, Contains}
 use Rattle.std.proofs.lemmas.Bool.{cases_eq}
-use Rattle.std.proofs.lemmas.Bool.Decides.{nat_tests}
 use Rattle.std.proofs.lemmas.Map.Views.{exact_unsigned_eq}
-use Rattle.std.specs.HashMap.{HashMap}
+use Rattle.std.proofs.lemmas.Map.Entries.{place_from_lookup}
+use Rattle.std.proofs.lemmas.List.Elements.{Contains-get_or, Contains-push, Contains-push_cases, Contains-append_left}
+use Rattle.std.specs.HashMap.{HashMap, values}
+use Rattle.slab.proofs.SlabLemmas.{Contains-cons, Contains-cons_cases}
 use Rattle.vx_bdd.specs.declared.node.Node.{Node}
 use Rattle.vx_bdd.specs.Diagram.{node_at, is_stored}
-use Rattle.vx_bdd.specs.Table.{id_of, IsIndex}
+use Rattle.vx_bdd.specs.Table.{id_of, IsIndex, Grows}
 use Rattle.vx_bdd.specs.contracts.node.NodePartialEq.TheImpl as node_eq
-use Rattle.vx_bdd.proofs.TableLaws.{node_eq-refl, node_eq-exact, node_inside}
-use Rattle.vx_bdd.specs.Marks.{Below, here, low, high, IsClosed, AddsBelow, AreMarked, IsMarking, kept_id, IsSwept, AreStored, SlotsWithout, IndexWithout, IsBounded}
+use Rattle.vx_bdd.proofs.TableLaws.{node_eq-refl, node_eq-exact, node_inside, some_same}
+use Rattle.vx_bdd.specs.Marks.{Below, here, low, high, IsClosed, AddsBelow, AreMarked, IsMarking, KeepsMarked, AreStored, AreUnmarked, AreNodes, IsDropped, SlotsWithout, IndexWithout}
 
 pub Below-low : {slots : List (Option Node)} (id : ℕ) (node : Node) (x : ℕ) → node_at slots id ≡ Some node → Below slots node.low x → Below slots id x
 Below-low id node x e here = low id node here e
@@ -34,21 +36,47 @@ AddsBelow-parts id node a b c e p q = record {
   ];
 }
 
+-- what was marked stays marked with one id more
+still : (t v : Bool) → v ≡ true → (if t then true else v) ≡ true
+still true v h = refl
+still false v h = h
+
 pub AddsBelow-insert : {slots : List (Option Node)} (id : ℕ) (a b c : ℕ → Bool) → AddsBelow slots id a b → ((q : ℕ) → c q ≡ (if nat_eq id q then true else b q)) → AddsBelow slots id a c
 AddsBelow-insert {slots = slots} id a b c p u = record {
-  kept = λ x h. u x ∙ either (nat_eq id x) (b x) (p.kept x h);
+  kept = λ x h. u x ∙ still (nat_eq id x) (b x) (p.kept x h);
   below = λ x h. cases x (nat_eq id x) refl (sym (u x) ∙ h);
 }
   where
-    either : (t v : Bool) → v ≡ true → (if t then true else v) ≡ true
-    either true v h = refl
-    either false v h = h
-
     cases : (x : ℕ) (t : Bool) → nat_eq id x ≡ t → (if t then true else b x) ≡ true → (a x ≡ true) ⊎ Below slots id x
     cases x true e h =
         let P : ℕ → Type 0 = λ y. Below slots id y in
         inr (subst P (exact_unsigned_eq id x e) here)
     cases x false e h = p.below x h
+
+-- an id whose parts are marked may be marked
+pub IsClosed-insert : {slots : List (Option Node)} (id : ℕ) (b c : ℕ → Bool) → IsClosed slots b → is_stored slots id ≡ true → ((node : Node) → node_at slots id ≡ Some node → (b node.low ≡ true) × (b node.high ≡ true)) → ((q : ℕ) → c q ≡ (if nat_eq id q then true else b q)) → IsClosed slots c
+IsClosed-insert {slots = slots} id b c h s parts u = record {
+  stored = λ x k. stored x (nat_eq id x) refl (sym (u x) ∙ k);
+  low = λ x node k e. kept node.low (part x node (nat_eq id x) refl (sym (u x) ∙ k) e).0;
+  high = λ x node k e. kept node.high (part x node (nat_eq id x) refl (sym (u x) ∙ k) e).1;
+}
+  where
+    kept : (x : ℕ) → b x ≡ true → c x ≡ true
+    kept x k = u x ∙ still (nat_eq id x) (b x) k
+
+    stored : (x : ℕ) (t : Bool) → nat_eq id x ≡ t → (if t then true else b x) ≡ true → is_stored slots x ≡ true
+    stored x true e k = ap (is_stored slots) (sym (exact_unsigned_eq id x e)) ∙ s
+    stored x false e k = h.stored x k
+
+    part : (x : ℕ) (node : Node) (t : Bool) → nat_eq id x ≡ t → (if t then true else b x) ≡ true → node_at slots x ≡ Some node → (b node.low ≡ true) × (b node.high ≡ true)
+    part x node true e k f = parts node (ap (node_at slots) (exact_unsigned_eq id x e) ∙ f)
+    part x node false e k f = (h.low x node k f, h.high x node k f)
+
+-- the parts of a node, by one that is known
+pub parts_of_node : (slots : List (Option Node)) (id : ℕ) (known : Node) (b : ℕ → Bool) → node_at slots id ≡ Some known → b known.low ≡ true → b known.high ≡ true → (node : Node) → node_at slots id ≡ Some node → (b node.low ≡ true) × (b node.high ≡ true)
+parts_of_node slots id known b e s t node f =
+    let same : known ≡ node = node_inside (sym e ∙ f) in
+    (ap (λ m. b m.low) (sym same) ∙ s, ap (λ m. b m.high) (sym same) ∙ t)
 
 -- marking root after root
 pub record IsMarkingSome (slots : List (Option Node)) (roots : List ℕ) (i : ℕ) (has : ℕ → Bool) : Type 0 where
@@ -116,118 +144,189 @@ stored_at slots [] i h l = absurd (omega (arith, l))
 stored_at slots (x ∷ xs) zero h l = h.0
 stored_at slots (x ∷ xs) (suc i) h l = stored_at slots xs i h.1 (omega (arith, l))
 
--- dropping what has no mark, of the ids below k
-abbrev pub kept_below : (ℕ → Bool) → ℕ → Option ℕ → Option ℕ
-kept_below has k None = None
-kept_below has k (Some id) = if (nat_lt id k && not (has id)) then None else Some id
+-- the ids of a map that have no mark, as far as they were looked at
+pub record IsPicking (has : ℕ → Bool) (ids left unmarked : List ℕ) : Type 0 where
+  pub sound : (x : ℕ) → Contains unmarked x → has x ≡ false
+  pub all : (x : ℕ) → Contains ids x → has x ≡ false → Contains unmarked x ⊎ Contains left x
 
-pub record IsSweeping {S : Type 0} (has : ℕ → Bool) (start now : List (Option Node)) (ids0 ids : HashMap Node ℕ S) (k : ℕ) : Type 0 where
-  pub slots : (x : ℕ) → slice_index_or now x None ≡ (if (nat_lt x k && not (has x)) then None else slice_index_or start x None)
-  pub index : (q : Node) → id_of ids q ≡ kept_below has k (id_of ids0 q)
+pub IsPicking-start : (has : ℕ → Bool) (ids : List ℕ) → IsPicking has ids ids []
+IsPicking-start has ids = record { sound = λ x p. absurd (omega (arith, p.1)); all = λ x p h. inr p }
 
-not_below_zero : (x : ℕ) → nat_lt x 0 ≡ false
-not_below_zero x = grind (arith, nat_tests)
+pub IsPicking-step : (has : ℕ → Bool) (ids left rest old new : List ℕ) (id : ℕ) → IsPicking has ids left old → left ≡ id ∷ rest → new ≡ (if has id then old else old ++ id ∷ []) → IsPicking has ids rest new
+IsPicking-step has ids left rest old new id h e f = cases (has id) refl f
+  where
+    ahead : (x : ℕ) → Contains left x → (id ≡ x) ⊎ Contains rest x
+    ahead x p = Contains-cons_cases id x rest (rw e at p)
 
-kept_below-zero : (has : ℕ → Bool) (o : Option ℕ) → kept_below has 0 o ≡ o
-kept_below-zero has None = refl
-kept_below-zero has (Some id) = rw (not_below_zero id) refl
+    cases : (b : Bool) → has id ≡ b → new ≡ (if b then old else old ++ id ∷ []) → IsPicking has ids rest new
+    cases true m n = rw n (record {
+      sound = h.sound;
+      all = λ x p u. elim (h.all x p u) [
+        | inl q ↦ inl q
+        | inr q ↦ elim (ahead x q) [ inl s ↦ cc (m, u, s) | inr r ↦ inr r ]
+      ];
+    })
+    cases false m n = rw n (record {
+      sound = λ x p. elim (Contains-push_cases old id x p) [ inl q ↦ h.sound x q | inr s ↦ sym (ap has s) ∙ m ];
+      all = λ x p u. elim (h.all x p u) [
+        | inl q ↦ inl (Contains-append_left old (id ∷ []) x q)
+        | inr q ↦ elim (ahead x q) [
+          | inl s ↦
+              let P : ℕ → Type 0 = λ y. Contains (old ++ id ∷ []) y in
+              inl (subst P s (Contains-push old id))
+          | inr r ↦ inr r
+        ]
+      ];
+    })
 
-pub IsSweeping-start : {S : Type 0} (has : ℕ → Bool) (start : List (Option Node)) (ids : HashMap Node ℕ S) → IsSweeping has start start ids ids 0
-IsSweeping-start has start ids = record {
-  slots = λ x. rw (not_below_zero x) refl;
-  index = λ q. sym (kept_below-zero has (id_of ids q));
+pub IsPicking-end : (has : ℕ → Bool) (ids left unmarked : List ℕ) → IsPicking has ids left unmarked → left ≡ [] → AreUnmarked has ids unmarked
+IsPicking-end has ids left unmarked h e = record {
+  sound = h.sound;
+  all = λ x p u. elim (h.all x p u) [
+    | inl q ↦ q
+    | inr q ↦
+        let none : Contains [] x = rw e at q in
+        absurd (omega (arith, none.1))
+  ];
 }
 
-below_other : (x k : ℕ) → x ≢ k → nat_lt x (k + 1) ≡ nat_lt x k
-below_other x k n = grind (arith, nat_tests)
+-- an id that has no mark is a node's, where never and always have marks
+pub AreNodes-unmarked : (has : ℕ → Bool) (ids unmarked : List ℕ) → has 0 ≡ true → has 1 ≡ true → AreUnmarked has ids unmarked → AreNodes unmarked
+AreNodes-unmarked has ids unmarked s t h = record { inner = λ x p. least x (h.sound x p) }
+  where
+    least : (x : ℕ) → has x ≡ false → 2 ≤ x
+    least zero u = cc (s, u)
+    least (suc zero) u = cc (t, u)
+    least (suc (suc x)) u = omega arith
 
-below_here : (k : ℕ) → nat_lt k (k + 1) ≡ true
-below_here k = grind (arith, nat_tests)
+-- dropping the first of some ids
+pub record IsDropping (dropped : List ℕ) (i : ℕ) (start now : List (Option Node)) : Type 0 where
+  pub gone : (k : ℕ) → k < i → k < length dropped → slice_index_or now (get_or dropped k 0) None ≡ None
+  pub others : (x : ℕ) → (slice_index_or now x None ≡ slice_index_or start x None) ⊎ ((slice_index_or now x None ≡ None) × Contains dropped x)
 
-not_below_here : (k : ℕ) → nat_lt k k ≡ false
-not_below_here k = grind (arith, nat_tests)
+pub IsDropping-start : (dropped : List ℕ) (start : List (Option Node)) → IsDropping dropped 0 start start
+IsDropping-start dropped start = record { gone = λ k l m. absurd (omega (arith, l)); others = λ x. inl refl }
 
--- a marked id changes nothing
-same_test : (has : ℕ → Bool) (x k : ℕ) → (x ≡ k → has k ≡ true) → (nat_lt x (k + 1) && not (has x)) ≡ (nat_lt x k && not (has x))
-same_test has x k h = elim (cases_eq x k) [
-  | inl e ↦ rw (e, h e, below_here k, not_below_here k) refl
-  | inr n ↦ ap (λ b. b && not (has x)) (below_other x k n)
-]
-
-same_kept : (has : ℕ → Bool) (o : Option ℕ) (k : ℕ) → (o ≡ Some k → has k ≡ true) → kept_below has (k + 1) o ≡ kept_below has k o
-same_kept has None k h = refl
-same_kept has (Some x) k h = ap (λ b. if b then None else Some x) (same_test has x k (λ e. h (ap Some e)))
-
-pub IsSweeping-marked : {S : Type 0} (has : ℕ → Bool) (start now : List (Option Node)) (ids0 ids : HashMap Node ℕ S) (k : ℕ) → IsSweeping has start now ids0 ids k → has k ≡ true → IsSweeping has start now ids0 ids (k + 1)
-IsSweeping-marked has start now ids0 ids k w h = record {
-  slots = λ x. w.slots x ∙ ap (λ b. if b then None else slice_index_or start x None) (sym (same_test has x k (λ _. h)));
-  index = λ q. w.index q ∙ sym (same_kept has (id_of ids0 q) k (λ _. h));
+pub IsDropping-step : (dropped : List ℕ) (i : ℕ) (start now next : List (Option Node)) → IsDropping dropped i start now → i < length dropped → SlotsWithout (get_or dropped i 0) now next → IsDropping dropped (i + 1) start next
+IsDropping-step dropped i start now next h l d = record {
+  gone = λ k m n. elim (cases_eq k i) [
+    | inl e ↦ rw e d.empty
+    | inr q ↦ stays_empty (get_or dropped k 0) (h.gone k (omega (arith, m, q)) n)
+  ];
+  others = λ x. elim (cases_eq x (get_or dropped i 0)) [
+    | inl e ↦ inr (ap (λ y. slice_index_or next y None) e ∙ d.empty, rw e (Contains-get_or dropped i 0 l))
+    | inr n ↦ elim (h.others x) [
+      | inl same ↦ inl (d.others x n ∙ same)
+      | inr gone ↦ inr (d.others x n ∙ gone.0, gone.1)
+    ]
+  ];
 }
+  where
+    stays_empty : (x : ℕ) → slice_index_or now x None ≡ None → slice_index_or next x None ≡ None
+    stays_empty x e = elim (cases_eq x (get_or dropped i 0)) [
+      | inl s ↦ ap (λ y. slice_index_or next y None) s ∙ d.empty
+      | inr n ↦ d.others x n ∙ e
+    ]
+
+pub IsDropping-end : (dropped : List ℕ) (i : ℕ) (start now : List (Option Node)) → IsDropping dropped i start now → length dropped ≤ i → IsDropped dropped start now
+IsDropping-end dropped i start now h l = record {
+  gone = λ x p. ap (λ y. slice_index_or now y None) (sym (at_place dropped p.0 x p.1 p.2)) ∙ h.gone p.0 (omega (arith, p.1, l)) p.1;
+  others = h.others;
+}
+  where
+    at_place : (xs : List ℕ) (k x : ℕ) → k < length xs → slice_index_or xs k x ≡ x → get_or xs k 0 ≡ x
+    at_place [] k x m e = absurd (omega (arith, m))
+    at_place (y ∷ ys) zero x m e = e
+    at_place (y ∷ ys) (suc k) x m e = at_place ys k x (omega (arith, m)) e
 
 node_of : (slots : List (Option Node)) (id : ℕ) (node : Node) → node_at slots id ≡ Some node → slice_index_or slots id None ≡ Some node
 node_of slots zero node e = cc
 node_of slots (suc zero) node e = cc
 node_of slots (suc (suc k)) node e = e
 
-of_node : (has : ℕ → Bool) (slots : List (Option Node)) (id : ℕ) (o : Option Node) → has 0 ≡ true → has 1 ≡ true → has id ≡ false → slice_index_or slots id None ≡ o → node_at slots id ≡ o
-of_node has slots zero o s t f e = cc (s, f)
-of_node has slots (suc zero) o s t f e = cc (t, f)
-of_node has slots (suc (suc k)) o s t f e = e
+of_node : (slots : List (Option Node)) (id : ℕ) (node : Node) → 2 ≤ id → slice_index_or slots id None ≡ Some node → node_at slots id ≡ Some node
+of_node slots zero node l e = absurd (omega (arith, l))
+of_node slots (suc zero) node l e = absurd (omega (arith, l))
+of_node slots (suc (suc k)) node l e = e
 
-pub IsSweeping-dropped : {S : Type 0} (has : ℕ → Bool) (start now next : List (Option Node)) (ids0 ids ids' : HashMap Node ℕ S) (k : ℕ) → IsIndex start ids0 → has 0 ≡ true → has 1 ≡ true → IsSweeping has start now ids0 ids k → has k ≡ false → SlotsWithout k now next → IndexWithout (slice_index_or now k None) ids ids' → IsSweeping has start next ids0 ids' (k + 1)
-IsSweeping-dropped {S = S} has start now next ids0 ids ids' k x s t w f d i = record {
-  slots = λ y. elim (cases_eq y k) [
-    | inl e ↦ rw (e, below_here k, f) d.empty
-    | inr n ↦ d.others y n ∙ w.slots y ∙ ap (λ b. if b then None else slice_index_or start y None) (sym (same_test has y k (λ e. absurd (n e))))
-  ];
-  index = λ q. index (slice_index_or start k None) refl q (rw here at i);
-}
+-- the slots without one, by nodes
+node_without : {id : ℕ} {old new : List (Option Node)} → SlotsWithout id old new → (x : ℕ) → x ≢ id → node_at new x ≡ node_at old x
+node_without d zero n = refl
+node_without d (suc zero) n = refl
+node_without d (suc (suc k)) n = d.others (suc (suc k)) n
+
+no_node : {id : ℕ} {old new : List (Option Node)} → SlotsWithout id old new → (node : Node) → node_at new id ≡ Some node → ⊥
+no_node {id = id} {new = new} d node e = cc (node_of new id node e, d.empty)
+
+pub IsIndex-without : {S : Type 0} (old new : List (Option Node)) (ids ids' : HashMap Node ℕ S) (id : ℕ) → IsIndex old ids → 2 ≤ id → SlotsWithout id old new → IndexWithout (slice_index_or old id None) ids ids' → IsIndex new ids'
+IsIndex-without {S = S} old new ids ids' id x l d i = cases (slice_index_or old id None) refl i
   where
-    here : slice_index_or now k None ≡ slice_index_or start k None
-    here = w.slots k ∙ ap (λ b. if (b && not (has k)) then None else slice_index_or start k None) (not_below_here k)
-
-    index : (o : Option Node) → slice_index_or start k None ≡ o → (q : Node) → IndexWithout (slice_index_or start k None) ids ids' → id_of ids' q ≡ kept_below has (k + 1) (id_of ids0 q)
-    index None e q j =
-        let j2 : (r : Node) → id_of ids' r ≡ id_of ids r = rw e at j in
-        j2 q ∙ w.index q ∙ sym (same_kept has (id_of ids0 q) k (λ g. cc (node_of start k q (x.sound q k g), e)))
-    index (Some node) e q j =
-        let j2 : (r : Node) → id_of ids' r ≡ (if node_eq.ghosts.eq node r then None else id_of ids r) = rw e at j in
-        j2 q ∙ cases (node_eq.ghosts.eq node q) refl
+    cases : (o : Option Node) → slice_index_or old id None ≡ o → IndexWithout o ids ids' → IsIndex new ids'
+    cases None e j = record {
+      sound = λ q k f.
+          let was = x.sound q k (sym (j q) ∙ f) in
+          let other : k ≢ id = λ s. cc (node_of old k q was, s, e) in
+          node_without d k other ∙ was;
+      complete = λ k q f.
+          let other : k ≢ id = λ s. no_node d q (ap (node_at new) (sym s) ∙ f) in
+          j q ∙ x.complete k q (sym (node_without d k other) ∙ f);
+    }
+    cases (Some node) e j = record {
+      sound = λ q k f. sound q k (node_eq.ghosts.eq node q) refl (sym (j q) ∙ f);
+      complete = λ k q f.
+          let other : k ≢ id = λ s. no_node d q (ap (node_at new) (sym s) ∙ f) in
+          j q ∙ complete q k (node_eq.ghosts.eq node q) refl other (x.complete k q (sym (node_without d k other) ∙ f));
+    }
       where
-        cases : (b : Bool) → node_eq.ghosts.eq node q ≡ b → (if b then None else id_of ids q) ≡ kept_below has (k + 1) (id_of ids0 q)
-        cases true g = rw (← node_eq-exact node q g, x.complete k node (of_node has start k (Some node) s t f e), below_here k, f) refl
-        cases false g = w.index q ∙ sym (same_kept has (id_of ids0 q) k (λ r.
-            let same : Some node ≡ Some q = sym e ∙ node_of start k q (x.sound q k r) in
-            cc (sym g ∙ ap (node_eq.ghosts.eq node) (sym (node_inside same)) ∙ node_eq-refl node)))
+        here : id_of ids node ≡ Some id
+        here = x.complete id node (of_node old id node l e)
 
-and_false : (t : Bool) → (t && not true) ≡ false
-and_false true = refl
-and_false false = refl
+        sound : (q : Node) (k : ℕ) (b : Bool) → node_eq.ghosts.eq node q ≡ b → (if b then None else id_of ids q) ≡ Some k → node_at new k ≡ Some q
+        sound q k true g f = cc
+        sound q k false g f =
+            let was = x.sound q k f in
+            let other : k ≢ id = λ s.
+            let same : Some node ≡ Some q = sym e ∙ ap (λ y. slice_index_or old y None) (sym s) ∙ node_of old k q was in
+            cc (sym g ∙ ap (node_eq.ghosts.eq node) (sym (node_inside same)) ∙ node_eq-refl node) in
+            node_without d k other ∙ was
 
-both : (t : Bool) → ◌≡◌ {A = Option Node} (if t then None else None) None
-both true = refl
-both false = refl
+        complete : (q : Node) (k : ℕ) (b : Bool) → node_eq.ghosts.eq node q ≡ b → k ≢ id → id_of ids q ≡ Some k → (if b then None else id_of ids q) ≡ Some k
+        complete q k true g n f = absurd (n (some_same (sym f ∙ ap (id_of ids) (sym (node_eq-exact node q g)) ∙ here)))
+        complete q k false g n f = f
 
-last : (t : Bool) (v : Option ℕ) → (if (true && not t) then None else v) ≡ (if t then v else None)
-last true v = refl
-last false v = refl
-
-pub IsSweeping-end : {S : Type 0} (has : ℕ → Bool) (start now : List (Option Node)) (ids0 ids : HashMap Node ℕ S) (k bound : ℕ) → IsIndex start ids0 → IsBounded start bound → bound ≤ k → IsSweeping has start now ids0 ids k → IsSwept has start now ids0 ids
-IsSweeping-end {S = S} has start now ids0 ids k bound x b l w = record {
-  slots = λ y. w.slots y ∙ slot y (has y) (slice_index_or start y None) refl;
-  index = λ q. w.index q ∙ kept (id_of ids0 q) (λ id e. ap is_some (node_of start id q (x.sound q id e)));
-}
+-- the id of a node is among those of the map
+among : {S : Type 0} (ids : HashMap Node ℕ S) (node : Node) (id : ℕ) → id_of ids node ≡ Some id → Contains (values ids) id
+among ids node id e =
+    let p = place_from_lookup (node_eq.ghosts.eq node) ids.entries id e in
+    at_place ids.entries p.0 p.1 p.2
   where
-    lower : (y : ℕ) → is_stored start y ≡ true → nat_lt y k ≡ true
-    lower y s =
-        let less : y < k = omega (arith, b.below y s, l) in
-        grind (arith, nat_tests)
+    at_place : (es : List (Node × ℕ)) (i : ℕ) (k : Node) → slice_get es i ≡ Some (k, id) → Contains (map (λ e. e.1) es) id
+    at_place [] i k f = cc
+    at_place (e ∷ es) zero k f = (0, omega arith, pair_inside e k f)
+      where
+        pair_inside : (e : Node × ℕ) (k : Node) → Some e ≡ Some (k, id) → e.1 ≡ id
+        pair_inside e k f = cc
+    at_place (e ∷ es) (suc i) k f = Contains-cons e.1 id (map (λ e. e.1) es) (at_place es i k f)
 
-    slot : (y : ℕ) (h : Bool) (o : Option Node) → slice_index_or start y None ≡ o → (if (nat_lt y k && not h) then None else o) ≡ (if h then o else None)
-    slot y true o e = rw (and_false (nat_lt y k)) refl
-    slot y false None e = both (nat_lt y k && not false)
-    slot y false (Some node) e = rw (lower y (ap is_some e)) refl
+-- what is left where the unmarked ids of the map were dropped
+pub KeepsMarked-dropped : {S : Type 0} (has : ℕ → Bool) (old new : List (Option Node)) (ids : HashMap Node ℕ S) (unmarked : List ℕ) → IsIndex old ids → has 0 ≡ true → has 1 ≡ true → AreUnmarked has (values ids) unmarked → IsDropped unmarked old new → KeepsMarked has old new
+KeepsMarked-dropped {S = S} has old new ids unmarked x s t u d = record { slots = λ y. cases y (has y) refl }
+  where
+    least : (y : ℕ) → has y ≡ false → 2 ≤ y
+    least zero e = cc (s, e)
+    least (suc zero) e = cc (t, e)
+    least (suc (suc y)) e = omega arith
 
-    kept : (o : Option ℕ) → ((id : ℕ) → o ≡ Some id → is_stored start id ≡ true) → kept_below has k o ≡ kept_id has o
-    kept None h = refl
-    kept (Some id) h = rw (lower id (h id refl)) (last (has id) (Some id))
+    dropped : (y : ℕ) → has y ≡ false → (o : Option Node) → slice_index_or old y None ≡ o → slice_index_or new y None ≡ None
+    dropped y e None f = elim (d.others y) [ inl q ↦ q ∙ f | inr q ↦ q.0 ]
+    dropped y e (Some node) f = d.gone y (u.all y (among ids node y (x.complete y node (of_node old y node (least y e) f))) e)
+
+    cases : (y : ℕ) (b : Bool) → has y ≡ b → slice_index_or new y None ≡ (if b then slice_index_or old y None else None)
+    cases y true e = elim (d.others y) [ inl q ↦ q | inr q ↦ cc (e, u.sound y q.1) ]
+    cases y false e = dropped y e (slice_index_or old y None) refl
+
+-- where no id is dropped the slots stay
+pub Grows-dropped : (old new : List (Option Node)) (dropped : List ℕ) → IsDropped dropped old new → length dropped ≡ 0 → Grows old new
+Grows-dropped old new dropped d e = record {
+  kept = λ x s. elim (d.others x) [ inl q ↦ q | inr q ↦ absurd (omega (arith, e, q.1.1)) ];
+}

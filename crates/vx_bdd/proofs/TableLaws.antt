@@ -1,5 +1,5 @@
 -- What a growing table keeps.
-use Rattle.std.proofs.Common.{◌≡◌, ◌≢◌, ℕ, ◌≤◌, Bool, true, false, List, refl, sym, ◌∙◌, ap, subst, arith, zero, suc, inl, inr}
+use Rattle.std.proofs.Common.{◌≡◌, ◌≢◌, ℕ, ◌<◌, ◌≤◌, Bool, true, false, List, refl, sym, ◌∙◌, ap, subst, arith, zero, suc, inl, inr}
 use Rattle.std.specs.Prelude.{Option, Some, None, if◌then◌else◌, is_some, nat_eq, slice_index_or, ◌&&◌}
 use Rattle.std.proofs.lemmas.Bool.{cases_eq}
 use Rattle.std.proofs.lemmas.Bool.Decides.{nat_tests}
@@ -8,7 +8,7 @@ use Rattle.std.specs.HashMap.{HashMap}
 use Rattle.vx_space.specs.Config.{value_of}
 use Rattle.vx_bdd.specs.declared.node.Node.{Node}
 use Rattle.vx_bdd.specs.contracts.node.NodePartialEq.TheImpl as node_eq
-use Rattle.vx_bdd.specs.Diagram.{node_at, walk, reaches, is_stored, level_of, level, IsNode, IsReduced}
+use Rattle.vx_bdd.specs.Diagram.{node_at, asked_of, walk, reaches, is_stored, level_of, level, IsNode, IsReduced}
 use Rattle.vx_bdd.specs.Canonical.{node_same, node_cases, walk-end, reaches-node}
 use Rattle.vx_bdd.specs.Table.{id_of, IsIndex, Grows, Stands, AreParts}
 
@@ -160,8 +160,8 @@ stored_node slots (suc (suc k)) node e = ap is_some e
 pub node_here : {options : ℕ} {slots : List (Option Node)} → IsReduced options slots → (id : ℕ) (node : Node) → 2 ≤ id → Some node ≡ slice_index_or slots id None → node_at slots id ≡ Some node
 node_here {slots = slots} r id node l e = node_at-high slots id l ∙ sym e
 
-pub node_in_range : {options : ℕ} {slots : List (Option Node)} → IsReduced options slots → (id : ℕ) (node : Node) → 2 ≤ id → Some node ≡ slice_index_or slots id None → node.option ≤ options
-node_in_range {slots = slots} r id node l e = omega (arith, (r.nodes id node (node_here r id node l e)).in_range)
+pub node_at_most : {options : ℕ} {slots : List (Option Node)} → IsReduced options slots → (id : ℕ) (node : Node) → node_at slots id ≡ Some node → node.option ≤ options
+node_at_most r id node e = omega (arith, (r.nodes id node e).in_range)
 
 either : (options : ℕ) (slots : List (Option Node)) (c : List Bool) (b : Bool) (x y : ℕ) → reaches slots options (if b then x else y) c ≡ (if b then reaches slots options x c else reaches slots options y c)
 either options slots c true x y = refl
@@ -177,6 +177,14 @@ AreParts-node {options = options} {slots = slots} r id node e =
       high_later = n.high_later;
       reaches = λ c. reaches-node r id node c e ∙ either options slots c (value_of c node.option) node.high node.low;
     }
+
+-- what an id asks, by its node
+pub AreParts-asked : {options : ℕ} {slots : List (Option Node)} → IsReduced options slots → (id : ℕ) (asked : Node) → asked ≡ asked_of options id (node_at slots id) → asked.option < options → AreParts options slots id asked.option asked.low asked.high
+AreParts-asked {options = options} {slots = slots} r id asked e l =
+    elim (node_cases (node_at slots id)) [
+      | inl n ↦ absurd (omega (arith, l, ap (λ m. m.option) (e ∙ ap (asked_of options id) n)))
+      | inr p ↦ rw (e ∙ ap (asked_of options id) p.1) (AreParts-node r id p.0 p.1)
+    ]
 
 pub Stands-node : {options : ℕ} {old new : List (Option Node)} → IsReduced options old → IsReduced options new → Grows old new → (id option low high : ℕ) → node_at new id ≡ Some (record { option = option; low = low; high = high }) → is_stored old low ≡ true → is_stored old high ≡ true → Stands options new option id (λ c. if value_of c option then reaches old options high c else reaches old options low c)
 Stands-node {options = options} {old = old} {new = new} r q g id option low high e s t = record {

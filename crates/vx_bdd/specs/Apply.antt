@@ -1,12 +1,11 @@
--- Operations on two sets, and what a memo of them knows.
-use Rattle.std.specs.Prelude.{◌≡◌, ℕ, ◌≤◌, Bool, true, false, List, Option, Some, ◌&&◌, ◌||◌, not}
-use Rattle.std.specs.HashMap.{HashMap, get}
+-- Operations on two sets, and what is known of them.
+use Rattle.std.specs.Prelude.{◌≡◌, ℕ, ◌≤◌, Bool, true, false, List, Option, ◌&&◌, ◌||◌, not}
+use Rattle.std.specs.List.{All}
 use Rattle.vx_bdd.specs.declared.node.Node.{Node}
-use Rattle.vx_bdd.specs.declared.node.Pair.{Pair}
+use Rattle.vx_bdd.specs.declared.node.Answer.{Answer}
 use Rattle.vx_bdd.specs.declared.node.Op.{Op}
 use Rattle.vx_bdd.specs.declared.node.Op.TheVariants.{And, Or, Minus}
-use Rattle.vx_bdd.specs.contracts.node.PairPartialEq.TheImpl as pair_eq
-use Rattle.vx_bdd.specs.Diagram.{is_stored, level, reaches}
+use Rattle.vx_bdd.specs.Diagram.{is_stored, level, reaches, IsReduced}
 
 abbrev pub op_value : Op → Bool → Bool → Bool
 op_value And a b = a && b
@@ -25,10 +24,18 @@ pub record IsAnswer (op : Op) (options : ℕ) (slots : List (Option Node)) (a b 
 pub record IsPlainAnswer (op : Op) (a b id : ℕ) : Type 0 where
   pub right : (has : ℕ → Bool) → has 0 ≡ false → has 1 ≡ true → has id ≡ op_value op (has a) (has b)
 
--- what a memo has of two ids
-abbrev pub answer_of : {S : Type 0} → HashMap Pair ℕ S → ℕ → ℕ → Option ℕ
-answer_of memo a b = get pair_eq.ghosts.eq memo (record { a = a; b = b })
+-- the answer is right, of an operation
+abbrev pub IsRight : Op → ℕ → List (Option Node) → Answer → Type 0
+IsRight op options slots answer = IsAnswer op options slots answer.a answer.b answer.id
 
--- each entry is an answer
-pub record IsMemo {S : Type 0} (op : Op) (options : ℕ) (slots : List (Option Node)) (memo : HashMap Pair ℕ S) : Type 0 where
-  pub answers : (a b id : ℕ) → answer_of memo a b ≡ Some id → IsAnswer op options slots a b id
+-- each answer of a list is right, of an operation
+pub record AreRight (op : Op) (options : ℕ) (slots : List (Option Node)) (answers : List Answer) : Type 0 where
+  pub each : All (IsRight op options slots) answers
+
+-- where the old answers are right, the new ones are, of every operation and in every reduced table
+pub record AreStillRight (old new : List Answer) : Type 0 where
+  pub right : (op : Op) (options : ℕ) (slots : List (Option Node)) → IsReduced options slots → AreRight op options slots old → AreRight op options slots new
+
+-- where the old answers and one more are right, the new ones are, of every operation and in every reduced table
+pub record KeepsRight (answer : Answer) (old new : List Answer) : Type 0 where
+  pub right : (op : Op) (options : ℕ) (slots : List (Option Node)) → IsReduced options slots → AreRight op options slots old → IsRight op options slots answer → AreRight op options slots new

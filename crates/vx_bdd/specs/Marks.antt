@@ -1,10 +1,16 @@
 -- What is below some ids, and what a compaction keeps.
-use Rattle.std.specs.Prelude.{◌≡◌, ◌≢◌, ℕ, ◌<◌, Bool, true, List, [], ◌∷◌, Option, Some, None, ◌⊎◌, if◌then◌else◌, slice_index_or, Contains}
+use Rattle.std.specs.Prelude.{◌≡◌, ◌≢◌, ℕ, ◌≤◌, Bool, true, false, List, [], ◌∷◌, Option, Some, None, ◌⊎◌, if◌then◌else◌, slice_index_or, Contains}
 use Rattle.std.specs.HashMap.{HashMap}
 use Rattle.vx_bdd.specs.declared.node.Node.{Node}
+use Rattle.vx_bdd.specs.declared.marks.Marks.{Marks}
 use Rattle.vx_bdd.specs.contracts.node.NodePartialEq.TheImpl as node_eq
 use Rattle.vx_bdd.specs.Diagram.{node_at, is_stored}
 use Rattle.vx_bdd.specs.Table.{id_of}
+use Rattle.vx_bdd.specs.Stamps.{has_stamp}
+
+-- the id has the mark of the current compaction
+abbrev pub is_marked : Marks → ℕ → Bool
+is_marked marks id = has_stamp marks.stamps.items marks.current id
 
 -- the id is a top, or a part of a node below it
 pub data Below (slots : List (Option Node)) (top : ℕ) : ℕ → Type 0 where
@@ -36,24 +42,28 @@ pub record IsMarking (slots : List (Option Node)) (roots : List ℕ) (has : ℕ 
   pub roots_marked : AreMarked has roots
   pub below : (x : ℕ) → has x ≡ true → (x ≡ 0) ⊎ (x ≡ 1) ⊎ ((root : ℕ) × Contains roots root × Below slots root x)
 
--- what is left of an id
-abbrev pub kept_id : (ℕ → Bool) → Option ℕ → Option ℕ
-kept_id has None = None
-kept_id has (Some id) = if has id then Some id else None
-
 -- the table with its marked ids alone
-pub record IsSwept {S : Type 0} (has : ℕ → Bool) (old new : List (Option Node)) (ids ids' : HashMap Node ℕ S) : Type 0 where
+pub record KeepsMarked (has : ℕ → Bool) (old new : List (Option Node)) : Type 0 where
   pub slots : (x : ℕ) → slice_index_or new x None ≡ (if has x then slice_index_or old x None else None)
-  pub index : (q : Node) → id_of ids' q ≡ kept_id has (id_of ids q)
 
 -- each id of the list is stored
 abbrev pub AreStored : List (Option Node) → List ℕ → Type 0
 AreStored slots [] = Unit {0}
 AreStored slots (id ∷ ids) = (is_stored slots id ≡ true) × AreStored slots ids
 
--- stored ids are below a bound
-pub record IsBounded (slots : List (Option Node)) (bound : ℕ) : Type 0 where
-  pub below : (id : ℕ) → is_stored slots id ≡ true → id < bound
+-- just the ids of a list that have no mark
+pub record AreUnmarked (has : ℕ → Bool) (ids unmarked : List ℕ) : Type 0 where
+  pub sound : (x : ℕ) → Contains unmarked x → has x ≡ false
+  pub all : (x : ℕ) → Contains ids x → has x ≡ false → Contains unmarked x
+
+-- none of the ids is never or always
+pub record AreNodes (ids : List ℕ) : Type 0 where
+  pub inner : (x : ℕ) → Contains ids x → 2 ≤ x
+
+-- the slots of some ids are empty, and the others are the same
+pub record IsDropped (ids : List ℕ) (old new : List (Option Node)) : Type 0 where
+  pub gone : (x : ℕ) → Contains ids x → slice_index_or new x None ≡ None
+  pub others : (x : ℕ) → (slice_index_or new x None ≡ slice_index_or old x None) ⊎ ((slice_index_or new x None ≡ None) × Contains ids x)
 
 -- one slot is empty, and the others are the same
 pub record SlotsWithout (id : ℕ) (old new : List (Option Node)) : Type 0 where

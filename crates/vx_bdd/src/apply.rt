@@ -1,14 +1,14 @@
 //! Operations on two sets, by their parts (`apply` of Bryant 1986).
 
-ghost use Rattle.std.specs.Prelude.{◌≡◌, IfOk, IfSome, OnOk, true, if◌then◌else◌};
+ghost use Rattle.std.specs.Prelude.{◌≡◌, IfOk, IfSome, true, if◌then◌else◌};
 ghost use Rattle.vx_bdd.specs.declared.node.Op.TheVariants.{And, Minus, Or};
 ghost use Rattle.vx_bdd.specs.Diagram.{is_stored};
 ghost use Rattle.vx_bdd.specs.Table.{Grows};
-ghost use Rattle.vx_bdd.specs.Apply.{op_value, IsAnswer, IsMemo, IsPlainAnswer};
+ghost use Rattle.vx_bdd.specs.Apply.{op_value, IsAnswer, AreRight, IsPlainAnswer};
 
-use crate::node::{Op, Pair};
+use crate::cache::Cache;
+use crate::node::{Answer, Op};
 use crate::table::Table;
-use std::collections::HashMap;
 use vx_space::SpaceFault;
 
 /// The value of an operation.
@@ -80,37 +80,39 @@ fn plain_answer(op: Op, a: usize, b: usize) -> Option<usize>
     }
 }
 
-/// The id of an operation on two sets. The memo has what was answered before, so that each pair of nodes is looked at once.
+/// The id of an operation on two sets: what the ids tell, or what was answered before, or else what the answers of the parts make. The
+/// cache is the operation's own.
 pub fn apply(
     table: &mut Table,
-    memo: &mut HashMap<Pair, usize>,
+    cache: &mut Cache,
     op: Op,
     a: usize,
     b: usize,
 ) -> Result<usize, SpaceFault>
     requires first { is_stored table.old.nodes.slots a ≡ true }
     requires second { is_stored table.old.nodes.slots b ≡ true }
-    requires memo { IsMemo op table.old.options table.old.nodes.slots memo.old }
+    requires right { AreRight op table.old.options table.old.nodes.slots cache.old.answers.items }
     ensures options { table.new.options ≡ table.old.options }
     ensures grows { Grows table.old.nodes.slots table.new.nodes.slots }
-    ensures memo { OnOk result (IsMemo op table.old.options table.new.nodes.slots memo.new) }
+    ensures right { AreRight op table.new.options table.new.nodes.slots cache.new.answers.items }
     ensures ok { IfOk result (IsAnswer op table.old.options table.new.nodes.slots a b) }
 {
-    let option = table.level(a).min(table.level(b));
-    if option == table.options {
-        return Ok(end_of(value_of_op(op, a == 1, b == 1)));
-    }
     if let Some(plain) = plain_answer(op, a, b) {
         return Ok(plain);
     }
-    if let Some(known) = memo.get(&Pair { a, b }) {
-        return Ok(*known);
+    if let Some(known) = cache.get(a, b) {
+        return Ok(known);
     }
-    let (a_low, a_high) = table.parts(a, option);
-    let (b_low, b_high) = table.parts(b, option);
-    let low = apply(table, memo, op, a_low, b_low)?;
-    let high = apply(table, memo, op, a_high, b_high)?;
+    let (first, second) = (table.asked(a), table.asked(b));
+    let option = first.option.min(second.option);
+    if option == table.options {
+        return Ok(end_of(value_of_op(op, a == 1, b == 1)));
+    }
+    let (a_low, a_high) = table.parts(first, a, option);
+    let (b_low, b_high) = table.parts(second, b, option);
+    let low = apply(table, cache, op, a_low, b_low)?;
+    let high = apply(table, cache, op, a_high, b_high)?;
     let id = table.make(option, low, high)?;
-    memo.insert(Pair { a, b }, id)?;
+    cache.put(Answer { a, b, id });
     Ok(id)
 }

@@ -2,6 +2,8 @@
 #![tactic(auto)]
 
 mod apply;
+mod cache;
+mod compaction;
 mod marks;
 mod node;
 pub mod space;

@@ -1,93 +1,69 @@
-//! What a compaction keeps: the nodes under some roots are marked, and all others are dropped.
+//! Marks of ids.
 
-ghost use Rattle.std.specs.Prelude.{◌≡◌, ◌<◌, true, OnOk, IfOk, slice_index_or, None, nat_eq};
-ghost use Rattle.std.specs.HashSet.{contains};
-ghost use Rattle.vx_bdd.specs.Diagram.{is_stored};
-ghost use Rattle.vx_bdd.specs.Table.{IsIndex};
-ghost use Rattle.vx_bdd.specs.Marks.{IsClosed, AddsBelow, IsMarking, IsSwept, AreStored, SlotsWithout, IndexWithout, IsBounded};
+ghost use Rattle.std.specs.Prelude.{◌≡◌, ℕ, true, false, OnOk, if◌then◌else◌, nat_eq, slice_index_or};
+ghost use Rattle.std.proofs.Props.{props};
+ghost use Rattle.vx_bdd.specs.Stamps.{has_stamp, AreUpTo};
 
-use crate::node::Node;
-use crate::table::Table;
-use slab::Slab;
 use std::alloc::{AllocError, Global};
-use std::collections::{HashMap, HashSet};
 
-/// Marks an id and all that is below it.
-fn mark(table: &Table, marks: &mut HashSet<usize>, id: usize) -> Result<(), AllocError>
-    requires stored { is_stored table.now.nodes.slots id ≡ true }
-    requires closed { IsClosed table.now.nodes.slots (contains nat_eq marks.old) }
-    ensures closed { OnOk result (IsClosed table.now.nodes.slots (contains nat_eq marks.new)) }
-    ensures adds { OnOk result (AddsBelow table.now.nodes.slots id (contains nat_eq marks.old) (contains nat_eq marks.new)) }
-    ensures marked { OnOk result (contains nat_eq marks.new id ≡ true) }
-{
-    if marks.contains(&id) {
-        return Ok(());
-    }
-    if let Some(node) = table.node(id) {
-        mark(table, marks, node.low)?;
-        mark(table, marks, node.high)?;
-    }
-    marks.insert(id)?;
-    Ok(())
+/// Marks of ids. A mark is the number of the compaction that made it, so that none has to be taken away.
+#[derive(Drop)]
+pub struct Marks {
+    pub stamps: Vec<u64>,
+    pub current: u64,
+    pub ghost past: { AreUpTo current stamps.items } by { Prim.hlevel props },
 }
 
-/// Marks a root and all that is below it. Never and always, which most roots are, are marked before all roots.
-fn mark_root(table: &Table, marks: &mut HashSet<usize>, root: usize) -> Result<(), AllocError>
-    requires stored { is_stored table.now.nodes.slots root ≡ true }
-    requires closed { IsClosed table.now.nodes.slots (contains nat_eq marks.old) }
-    requires never { contains nat_eq marks.old 0 ≡ true }
-    requires always { contains nat_eq marks.old 1 ≡ true }
-    ensures closed { OnOk result (IsClosed table.now.nodes.slots (contains nat_eq marks.new)) }
-    ensures adds { OnOk result (AddsBelow table.now.nodes.slots root (contains nat_eq marks.old) (contains nat_eq marks.new)) }
-    ensures marked { OnOk result (contains nat_eq marks.new root ≡ true) }
-{
-    if root > 1 {
-        mark(table, marks, root)?;
-    }
-    Ok(())
-}
-
-/// The marks of never, always, the roots and all that is below them.
-pub(crate) fn mark_all(
-    alloc: Global,
-    table: &Table,
-    roots: &[usize],
-) -> Result<HashSet<usize>, AllocError>
-    requires { AreStored table.now.nodes.slots roots.now }
-    ensures { IfOk result (λ marks. IsMarking table.now.nodes.slots roots.now (contains nat_eq marks)) }
-{
-    let mut marks = HashSet::new(alloc);
-    mark(table, &mut marks, 0)?;
-    mark(table, &mut marks, 1)?;
-    for root in roots {
-        mark_root(table, &mut marks, *root)?;
-    }
-    Ok(marks)
-}
-
-/// Drops the node of an id, if it has one.
-fn drop_node(nodes: &mut Slab<Node>, ids: &mut HashMap<Node, usize>, id: usize)
-    ensures nodes { SlotsWithout id nodes.old.slots nodes.new.slots }
-    ensures ids { IndexWithout (slice_index_or nodes.old.slots id None) ids.old ids.new }
-    ensures capacity { nodes.new.capacity ≡ nodes.old.capacity }
-{
-    if let Some(node) = nodes.try_remove(id) {
-        ids.remove(&node);
-    }
-}
-
-/// Drops all nodes that have no mark.
-pub(crate) fn sweep(nodes: &mut Slab<Node>, ids: &mut HashMap<Node, usize>, marks: &HashSet<usize>)
-    requires bounded { IsBounded nodes.old.slots nodes.old.capacity }
-    requires index { IsIndex nodes.old.slots ids.old }
-    requires never { contains nat_eq marks.now 0 ≡ true }
-    requires always { contains nat_eq marks.now 1 ≡ true }
-    ensures swept { IsSwept (contains nat_eq marks.now) nodes.old.slots nodes.new.slots ids.old ids.new }
-    ensures capacity { nodes.new.capacity ≡ nodes.old.capacity }
-{
-    for id in 0..nodes.capacity() {
-        if !marks.contains(&id) {
-            drop_node(nodes, ids, id);
+#[tactic(auto, using(crate::proofs::StampLaws::stamp_laws))]
+impl Marks {
+    /// No marks, and no memory.
+    pub fn new(alloc: Global) -> Marks {
+        Marks {
+            stamps: Vec::new(alloc),
+            current: 0,
         }
+    }
+
+    /// Begins a compaction, which has no marks yet.
+    pub fn begin(&mut self)
+        ensures { (x : ℕ) → has_stamp self.new.stamps.items self.new.current x ≡ false }
+    {
+        if self.current == u64::MAX {
+            self.stamps.clear();
+            self.current = 1;
+            return;
+        }
+        self.current += 1;
+    }
+
+    /// Whether an id is marked.
+    pub fn has(&self, id: usize) -> bool
+        ensures { result ≡ has_stamp self.now.stamps.items self.now.current id }
+    {
+        self.stamps.as_slice().get(id).copied().unwrap_or(0) == self.current
+    }
+
+    /// Makes the stamps reach to an id, which has none yet.
+    fn reach(&mut self, id: usize) -> Result<(), AllocError>
+        ensures stamps { (x : ℕ) → slice_index_or self.new.stamps.items x 0 ≡ slice_index_or self.old.stamps.items x 0 }
+        ensures current { self.new.current ≡ self.old.current }
+    {
+        if id < self.stamps.len() {
+            return Ok(());
+        }
+        self.stamps.resize(id.saturating_add(1), 0)?;
+        Ok(())
+    }
+
+    /// Marks an id.
+    pub fn add(&mut self, id: usize) -> Result<(), AllocError>
+        ensures { OnOk result ((x : ℕ) → has_stamp self.new.stamps.items self.new.current x ≡ (if nat_eq id x then true else has_stamp self.old.stamps.items self.old.current x)) }
+    {
+        self.reach(id)?;
+        if id >= self.stamps.len() {
+            return Err(AllocError);
+        }
+        self.stamps[id] = self.current;
+        Ok(())
     }
 }

@@ -1,4 +1,4 @@
-//! Nodes, and the keys of the tables over them.
+//! Nodes, operations, and what is known of an operation.
 
 /// A node of a diagram: the option that it asks, and the ids to go to with it off and on.
 #[derive(Clone, Copy, Debug, PartialEq, Eq, Hash)]
@@ -8,17 +8,18 @@ pub struct Node {
     pub high: usize,
 }
 
-/// The two ids of an operation.
-#[derive(Clone, Copy, Debug, PartialEq, Eq, Hash)]
-pub struct Pair {
-    pub a: usize,
-    pub b: usize,
-}
-
 /// An operation on two sets.
-#[derive(Clone, Copy, Debug, PartialEq, Eq)]
+#[derive(Clone, Copy, Debug)]
 pub enum Op {
     And,
     Or,
     Minus,
+}
+
+/// Two ids, and the id of what an operation gives of their sets.
+#[derive(Clone, Copy, Debug)]
+pub struct Answer {
+    pub a: usize,
+    pub b: usize,
+    pub id: usize,
 }

@@ -1,15 +1,17 @@
 //! The space of diagrams: each call of `Space` by a call of the table.
 
-ghost use Rattle.std.specs.Prelude.{◌≡◌, ◌<◌, ◌≤◌, Some, IfOk, true};
+ghost use Rattle.std.specs.Prelude.{◌≡◌, ◌≤◌, IfOk};
 ghost use Rattle.std.proofs.lemmas.Map.Views.{exact_unsigned_eq};
-ghost use Rattle.vx_space.specs.Sets.{IsSet, Extends};
-ghost use Rattle.vx_bdd.specs.Apply.{op_value};
+ghost use Rattle.std.proofs.Props.{props};
+ghost use Rattle.vx_bdd.specs.declared.node.Op.TheVariants.{And, Minus, Or};
+ghost use Rattle.vx_bdd.specs.Apply.{AreRight};
 ghost use Rattle.vx_bdd.specs.Space.{sets_of};
 ghost use Rattle.vx_bdd.specs.Lawful.{lawful_sets};
-ghost use Rattle.vx_bdd.specs.Diagram.{is_stored, reaches};
 
 use crate::apply::apply;
-use crate::marks::mark_all;
+use crate::cache::Cache;
+use crate::compaction::mark_all;
+use crate::marks::Marks;
 use crate::node::{Node, Op};
 use crate::table::Table;
 use slab::Slab;
@@ -18,13 +20,21 @@ use std::collections::HashMap;
 use vx_space::{Config, Space, SpaceFault};
 
 /// Sets of configurations as reduced ordered diagrams (Bryant 1986), which share one table of distinct nodes. An id is the
-/// number of a node, and `count` is the number of known sets. The table has no bound but memory. An operation on two sets
-/// takes time linear in the product of the numbers of their nodes.
+/// number of a node, and `count` is the number of known sets. The table has no bound but memory. What operations gave is kept in
+/// caches from compaction to compaction; while they have room, an operation on two sets takes time linear in the product of the
+/// numbers of their nodes. A compaction takes time linear in the roots and the nodes that there are.
 #[derive(Drop)]
 pub struct BddSpace {
     alloc: Global,
     table: Table,
+    ands: Cache,
+    ors: Cache,
+    minuses: Cache,
+    marks: Marks,
     base: u64,
+    ghost ands_right: { AreRight And table.options table.nodes.slots ands.answers.items } by { Prim.hlevel props },
+    ghost ors_right: { AreRight Or table.options table.nodes.slots ors.answers.items } by { Prim.hlevel props },
+    ghost minuses_right: { AreRight Minus table.options table.nodes.slots minuses.answers.items } by { Prim.hlevel props },
 }
 
 impl BddSpace {
@@ -51,23 +61,18 @@ impl BddSpace {
             options,
             nodes,
             ids: HashMap::new(alloc),
+            roots: Vec::new(alloc),
+            grown: true,
         };
         Ok(BddSpace {
             alloc,
             table,
+            ands: Cache::new(alloc),
+            ors: Cache::new(alloc),
+            minuses: Cache::new(alloc),
+            marks: Marks::new(alloc),
             base: 2,
         })
-    }
-
-    /// An operation on two sets, with a memo of its own.
-    fn apply(&mut self, op: Op, a: usize, b: usize) -> Result<usize, SpaceFault>
-        requires first { is_stored self.old.table.nodes.slots a ≡ true }
-        requires second { is_stored self.old.table.nodes.slots b ≡ true }
-        ensures extends { Extends (sets_of self.old.table.options self.old.table.nodes.slots self.old.base) (sets_of self.new.table.options self.new.table.nodes.slots self.new.base) }
-        ensures ok { IfOk result (λ r. IsSet (sets_of self.new.table.options self.new.table.nodes.slots self.new.base) r (λ c. op_value op (reaches self.old.table.nodes.slots self.old.table.options a c) (reaches self.old.table.nodes.slots self.old.table.options b c))) }
-    {
-        let mut memo = HashMap::new(self.alloc);
-        apply(&mut self.table, &mut memo, op, a, b)
     }
 }
 
@@ -97,15 +102,15 @@ impl Space for BddSpace {
     }
 
     fn and(&mut self, a: usize, b: usize) -> Result<usize, SpaceFault> {
-        self.apply(Op::And, a, b)
+        apply(&mut self.table, &mut self.ands, Op::And, a, b)
     }
 
     fn or(&mut self, a: usize, b: usize) -> Result<usize, SpaceFault> {
-        self.apply(Op::Or, a, b)
+        apply(&mut self.table, &mut self.ors, Op::Or, a, b)
     }
 
     fn minus(&mut self, a: usize, b: usize) -> Result<usize, SpaceFault> {
-        self.apply(Op::Minus, a, b)
+        apply(&mut self.table, &mut self.minuses, Op::Minus, a, b)
     }
 
     fn is_never(&self, a: usize) -> bool {
@@ -135,8 +140,15 @@ impl Space for BddSpace {
     }
 
     fn compact(&mut self, roots: &[usize]) -> Result<(), AllocError> {
-        let marks = mark_all(self.alloc, &self.table, roots)?;
-        self.table.keep(&marks);
+        if self.table.is_swept(roots) {
+            self.base = self.count();
+            return Ok(());
+        }
+        mark_all(&self.table, &mut self.marks, roots)?;
+        let all_kept = self.table.sweep(self.alloc, &self.marks, roots)?;
+        self.ands.forget(all_kept);
+        self.ors.forget(all_kept);
+        self.minuses.forget(all_kept);
         self.base = self.count();
         Ok(())
     }

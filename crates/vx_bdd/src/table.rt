@@ -1,17 +1,19 @@
 //! The table of distinct reduced nodes, from which all sets are made.
 
-ghost use Rattle.std.specs.Prelude.{◌≡◌, ℕ, ◌<◌, ◌≤◌, Some, IfOk, true, if◌then◌else◌, slice_index_or, None, nat_eq};
-ghost use Rattle.std.specs.HashSet.{contains};
+ghost use Rattle.std.specs.Prelude.{◌≡◌, ℕ, ◌<◌, ◌≤◌, Some, IfOk, OnOk, OnErr, true, false, if◌then◌else◌};
 ghost use Rattle.std.proofs.Props.{props};
 ghost use Rattle.vx_space.specs.Config.{value_of};
-ghost use Rattle.vx_bdd.specs.Diagram.{IsReduced, IsNode, node_at, is_stored, level, reaches};
-ghost use Rattle.vx_bdd.specs.Marks.{IsBounded, IsClosed};
+ghost use Rattle.vx_bdd.specs.Diagram.{IsReduced, IsNode, node_at, asked_of, is_stored, level, reaches};
+ghost use Rattle.vx_bdd.specs.Marks.{is_marked, IsMarking, KeepsMarked};
+ghost use Rattle.vx_bdd.specs.Swept.{IsSwept};
 ghost use Rattle.vx_bdd.specs.Table.{IsIndex, Grows, Stands, AreParts, IsStep};
 
-use crate::marks::sweep;
+use crate::compaction::{drop_nodes, unmarked_ids};
+use crate::marks::Marks;
 use crate::node::Node;
 use slab::Slab;
-use std::collections::{HashMap, HashSet};
+use std::alloc::{AllocError, Global};
+use std::collections::HashMap;
 use vx_space::{Config, SpaceFault};
 
 /// The nodes by id, and the ids by node (the unique table). The ids 0 and 1 are never and always, which have no node.
@@ -20,10 +22,14 @@ pub struct Table {
     pub options: u32,
     pub nodes: Slab<Node>,
     pub ids: HashMap<Node, usize>,
+    /// The roots of the last sweep.
+    pub roots: Vec<usize>,
+    /// Whether a node may have come since, or there was no sweep.
+    pub grown: bool,
     pub ghost few: { options < 65 },
     pub ghost reduced: { IsReduced options nodes.slots } by { Prim.hlevel props },
     pub ghost index: { IsIndex nodes.slots ids } by { Prim.hlevel props },
-    pub ghost bounded: { IsBounded nodes.slots nodes.capacity } by { Prim.hlevel props },
+    pub ghost swept: { grown ≡ false → IsSwept options nodes.slots roots.items } by { Prim.hlevel props },
 }
 
 impl Table {
@@ -37,6 +43,7 @@ impl Table {
         match self.ids.get(&node) {
             Some(id) => Ok(*id),
             None => {
+                self.grown = true;
                 self.nodes.reserve(1)?;
                 let id = self.nodes.vacant_key();
                 self.ids.insert(node, id)?;
@@ -62,15 +69,33 @@ impl Table {
         self.find_or_add(Node { option, low, high })
     }
 
-    /// Drops all nodes that have no mark.
-    pub fn keep(&mut self, marks: &HashSet<usize>)
-        requires closed { IsClosed self.old.nodes.slots (contains nat_eq marks.now) }
-        requires never { contains nat_eq marks.now 0 ≡ true }
-        requires always { contains nat_eq marks.now 1 ≡ true }
-        ensures options { self.new.options ≡ self.old.options }
-        ensures kept { (x : ℕ) → slice_index_or self.new.nodes.slots x None ≡ (if contains nat_eq marks.now x then slice_index_or self.old.nodes.slots x None else None) }
+    /// Whether a sweep with some roots has nothing to drop, since the last had just these, and no node came since.
+    pub fn is_swept(&self, roots: &[usize]) -> bool
+        ensures { result ≡ true → IsSwept self.now.options self.now.nodes.slots roots.now }
     {
-        sweep(&mut self.nodes, &mut self.ids, marks);
+        !self.grown && self.roots.as_slice() == roots
+    }
+
+    /// Drops all nodes that have no mark, where those under some roots have one, and says whether there were none. Want of memory drops
+    /// none.
+    pub fn sweep(
+        &mut self,
+        alloc: Global,
+        marks: &Marks,
+        roots: &[usize],
+    ) -> Result<bool, AllocError>
+        requires { IsMarking self.old.nodes.slots roots.now (is_marked marks.now) }
+        ensures options { self.new.options ≡ self.old.options }
+        ensures kept { OnOk result (KeepsMarked (is_marked marks.now) self.old.nodes.slots self.new.nodes.slots) }
+        ensures all { IfOk result (λ all_kept. all_kept ≡ true → Grows self.old.nodes.slots self.new.nodes.slots) }
+        ensures err { OnErr result (self.new ≡ self.old) }
+    {
+        let unmarked = unmarked_ids(alloc, &self.ids, marks)?;
+        let swept = Vec::from_slice(alloc, roots)?;
+        drop_nodes(&mut self.nodes, &mut self.ids, unmarked.as_slice());
+        self.roots = swept;
+        self.grown = false;
+        Ok(unmarked.is_empty())
     }
 
     /// The node of an id.
@@ -84,40 +109,35 @@ impl Table {
         }
     }
 
-    /// The option that an id asks, or the number of options.
-    pub fn level(&self, id: usize) -> u32
+    /// What an id asks, and its parts: never and always ask the number of options, and are their own parts.
+    pub fn asked(&self, id: usize) -> Node
         requires { is_stored self.now.nodes.slots id ≡ true }
-        ensures level { result ≡ level self.now.nodes.slots self.now.options id }
-        ensures at_most { result ≤ self.now.options }
+        ensures asked { result ≡ asked_of self.now.options id (node_at self.now.nodes.slots id) }
+        ensures level { result.option ≡ level self.now.nodes.slots self.now.options id }
+        ensures at_most { result.option ≤ self.now.options }
     {
-        if id < 2 {
-            return self.options;
-        }
-        match self.nodes.get(id) {
-            Some(node) => node.option,
-            None => self.options,
+        match self.node(id) {
+            Some(node) => node,
+            None => Node {
+                option: self.options,
+                low: id,
+                high: id,
+            },
         }
     }
 
-    /// The parts of an id's set, with an option off and on that is not after the id's own.
-    pub fn parts(&self, id: usize, option: u32) -> (usize, usize)
+    /// The parts of an id's set, by what it asks, with an option off and on that is not after the id's own.
+    pub fn parts(&self, asked: Node, id: usize, option: u32) -> (usize, usize)
+        requires asked { asked ≡ asked_of self.now.options id (node_at self.now.nodes.slots id) }
         requires stored { is_stored self.now.nodes.slots id ≡ true }
         requires option { option < self.now.options }
         requires level { option ≤ level self.now.nodes.slots self.now.options id }
         ensures { AreParts self.now.options self.now.nodes.slots id option result.0 result.1 }
     {
-        if id < 2 {
-            return (id, id);
-        }
-        match self.nodes.get(id) {
-            Some(node) => {
-                if node.option == option {
-                    (node.low, node.high)
-                } else {
-                    (id, id)
-                }
-            }
-            None => (id, id),
+        if asked.option == option {
+            (asked.low, asked.high)
+        } else {
+            (id, id)
         }
     }
 

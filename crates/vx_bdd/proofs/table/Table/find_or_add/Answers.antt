@@ -1,6 +1,5 @@
-use Rattle.std.proofs.Common.{◌≡◌, sym, ◌∙◌, ap, arith}
+use Rattle.std.proofs.Common.{◌≡◌, sym, ◌∙◌, ap}
 use Rattle.vx_bdd.proofs.TableLaws.{IsAddedNode, IsReduced-added, IsIndex-added}
-use Rattle.vx_bdd.proofs.CompactLaws.{IsBounded-added}
 use Rattle.vx_bdd.proofs.table.Table.find_or_add.Goals as goal
 
 pub invariant_of-self-in-None : goal.invariant_of-self-in-None
@@ -18,6 +17,6 @@ invariant_of-self-in-None c =
     record {
       few = old.few;
       reduced = IsReduced-added old.options old.nodes.slots _ old.ids _ _ _ old.reduced old.index c.requires added;
-      bounded = IsBounded-added _ _ _ _ _ old.bounded (omega (arith, c.reserve.ensures.capacity, c.insert_reserved.ensures.capacity)) c.insert_reserved.ensures.key_in_range added.others;
       index = IsIndex-added old.nodes.slots _ old.ids _ _ _ old.reduced.never old.reduced.always old.index added;
+      swept = λ e. cc e;
     }

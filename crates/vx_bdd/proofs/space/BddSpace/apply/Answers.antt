@@ -1,9 +1,0 @@
-use Rattle.std.proofs.lemmas.Result.{IfOk-weaker}
-use Rattle.vx_bdd.proofs.SpaceLaws.{Extends-grows, IsSet-answer}
-use Rattle.vx_bdd.proofs.space.BddSpace.apply.Goals as goal
-
-pub returns-clause-extends : goal.returns-clause-extends
-returns-clause-extends c = Extends-grows c.args.self.now.base _ c.args.self.now.table.reduced c.apply.ensures.grows c.apply.ensures.options
-
-pub returns-clause-ok : goal.returns-clause-ok
-returns-clause-ok c = IfOk-weaker c.apply.result _ _ (λ id h. IsSet-answer c.args.op c.args.self.now.base _ c.args.a c.args.b id c.args.self.now.table.reduced c.apply.ensures.grows c.apply.ensures.options c.requires.first c.requires.second h) c.apply.ensures.ok
