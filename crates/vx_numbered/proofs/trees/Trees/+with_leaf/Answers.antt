@@ -1,0 +1,64 @@
+use Rattle.std.proofs.Common.{arith, sym, suc, length, ◌-◌, ◌≡◌, ◌∙◌, ◌++◌, ◌∷◌, [], ℕ, slice_set}
+use Rattle.vx_numbered.proofs.TreeLaws.{above_half, made_alone, made_high, made_low, paired_high, paired_low, put_made, tree_high, tree_low, tree_within}
+use Rattle.vx_numbered.specs.Trees.{IsMade, leaves, pair_at}
+use Rattle.vx_numbered.proofs.trees.Trees.+with_leaf.Goals as goal
+
+pub returns-then-levels-eq0 : goal.returns-then-levels-eq0
+returns-then-levels-eq0 t c = made_alone c.args.self.now.pairs.items c.args.levels c.args.tree c.args.place c.args.leaf c.if-levels-eq0.true c.requires.place
+
+pub pair-pair-requires : goal.pair-pair-requires
+pair-pair-requires t c = tree_within c.args.self.now.pairs.items c.args.levels c.args.tree (omega arith) c.requires.tree
+
+pub with_leaf-requires : goal.with_leaf-requires
+with_leaf-requires t c = (
+  omega (arith, c.decreases),
+  (
+    omega arith,
+    (
+      rw c.pair-pair.ensures (tree_low c.args.self.now.pairs.items c.args.levels c.args.tree (omega arith) c.requires.tree),
+      omega (arith, c.half_of-half.ensures),
+    ),
+  ),
+)
+
+pub returns-then-low-pair : goal.returns-then-low-pair
+returns-then-low-pair t c =
+    let below : c.args.levels ≡ suc (c.args.levels - 1) = omega arith in
+    made_low c.args.self.now.pairs.items c.with_leaf.new.self.pairs.items c.args.levels (c.args.levels - 1) c.args.tree c.args.place c.args.leaf c.in_ok-low.low below
+    (omega (arith, c.half_of-half.ensures)) c.requires.tree (rw c.pair-pair.ensures at c.in_ok-low.ensures) (rw c.pair-pair.ensures at c.if-low-pair.true)
+
+pub returns-then-place-half : goal.returns-then-place-half
+returns-then-place-half t c =
+    let xs = c.args.self.now.pairs.items in
+    let below : c.args.levels ≡ suc (c.args.levels - 1) = omega arith in
+    put_made (λ (made : ℕ). IsMade xs c.put.new.self.pairs.items c.args.levels made (slice_set (leaves xs c.args.levels c.args.tree) c.args.place c.args.leaf)) _ c.put.result
+    (length c.with_leaf.new.self.pairs.items) c.put.ensures.number c.put.ensures.pairs
+    (λ is. paired_low xs c.with_leaf.new.self.pairs.items c.put.new.self.pairs.items c.args.levels (c.args.levels - 1) c.args.tree c.args.place c.args.leaf c.in_ok-low.low below
+    (omega (arith, c.half_of-half.ensures)) c.requires.tree (rw c.pair-pair.ensures at c.in_ok-low.ensures) (rw c.pair-pair.ensures at is))
+
+pub with_leaf-requires-2 : goal.with_leaf-requires-2
+with_leaf-requires-2 t c = (
+  omega (arith, c.decreases),
+  (
+    omega arith,
+    (
+      rw c.pair-pair.ensures (tree_high c.args.self.now.pairs.items c.args.levels c.args.tree (omega arith) c.requires.tree),
+      rw c.half_of-half.ensures (above_half c.args.levels c.args.place (omega arith) c.requires.place),
+    ),
+  ),
+)
+
+pub returns-then-high-pair : goal.returns-then-high-pair
+returns-then-high-pair t c =
+    let below : c.args.levels ≡ suc (c.args.levels - 1) = omega arith in
+    made_high c.args.self.now.pairs.items c.with_leaf-2.new.self.pairs.items c.args.levels (c.args.levels - 1) c.args.tree c.args.place c.args.leaf c.in_ok-high.high below
+    (omega (arith, c.half_of-half.ensures)) c.requires.tree (rw (c.pair-pair.ensures, c.half_of-half.ensures) at c.in_ok-high.ensures) (rw c.pair-pair.ensures at c.if-high-pair.true)
+
+pub returns : goal.returns
+returns t c =
+    let xs = c.args.self.now.pairs.items in
+    let below : c.args.levels ≡ suc (c.args.levels - 1) = omega arith in
+    put_made (λ (made : ℕ). IsMade xs c.put-2.new.self.pairs.items c.args.levels made (slice_set (leaves xs c.args.levels c.args.tree) c.args.place c.args.leaf)) _ c.put-2.result
+    (length c.with_leaf-2.new.self.pairs.items) c.put-2.ensures.number c.put-2.ensures.pairs
+    (λ is. paired_high xs c.with_leaf-2.new.self.pairs.items c.put-2.new.self.pairs.items c.args.levels (c.args.levels - 1) c.args.tree c.args.place c.args.leaf c.in_ok-high.high below
+    (omega (arith, c.half_of-half.ensures)) c.requires.tree (rw (c.pair-pair.ensures, c.half_of-half.ensures) at c.in_ok-high.ensures) (rw c.pair-pair.ensures at is))

@@ -1,0 +1,122 @@
+//! Rows of numbers as the leaves of numbered trees, so that rows share what they have in common: a row that differs from another in one place
+//! has one path of its own.
+
+ghost use Rattle.std.specs.Prelude.{◌≡◌, ◌<◌, ◌≤◌, ◌-◌, ◌^◌, IfOk, OnOk, ◌++◌, ◌∷◌, [], length, replicate, slice_index, slice_set};
+ghost use Rattle.vx_numbered.specs.Trees.{IsMade, IsTree, leaves, pair_at};
+
+use crate::numbers::next_number;
+use std::alloc::{AllocError, Global};
+
+/// Two trees with as many leaves each, by their numbers.
+#[derive(Clone, Copy)]
+pub struct Pair {
+    pub low: u32,
+    pub high: u32,
+}
+
+/// Pairs by number. A tree of no level is its one leaf, and a tree of more levels the number of a pair of trees with one level less.
+#[derive(Drop)]
+pub struct Trees {
+    pub pairs: Vec<Pair>,
+}
+
+/// How many leaves each half of a tree has.
+fn half_of(levels: u32) -> u32
+    requires some { 1 ≤ levels }
+    requires few { levels ≤ 16 }
+    ensures { result ≡ 2 ^ (levels - 1) }
+{
+    1 << (levels - 1)
+}
+
+impl Trees {
+    /// No pairs.
+    pub fn new(alloc: Global) -> Trees
+        ensures { result.pairs.items ≡ [] }
+    {
+        Trees {
+            pairs: Vec::new(alloc),
+        }
+    }
+
+    /// The pair of a number.
+    pub fn pair(&self, tree: u32) -> Pair
+        requires { tree < length self.now.pairs.items }
+        ensures { result ≡ pair_at self.now.pairs.items tree }
+    {
+        self.pairs[tree as usize]
+    }
+
+    /// A new pair.
+    pub fn put(&mut self, low: u32, high: u32) -> Result<u32, AllocError>
+        ensures number { IfOk result (λ number. number ≡ length self.old.pairs.items) }
+        ensures pairs { OnOk result (self.new.pairs.items ≡ self.old.pairs.items ++ record { low = low; high = high } ∷ []) }
+    {
+        let number = next_number(self.pairs.len())?;
+        self.pairs.push(Pair { low, high })?;
+        Ok(number)
+    }
+
+    /// A tree of so many levels whose leaves are all of one number.
+    pub fn row_of(&mut self, leaf: u32, levels: u32) -> Result<u32, AllocError>
+        requires { levels ≤ 16 }
+        ensures { IfOk result (λ tree. IsMade self.old.pairs.items self.new.pairs.items levels tree (replicate (2 ^ levels) leaf)) }
+    {
+        let mut tree = leaf;
+        for _level in 0..levels {
+            tree = self.put(tree, tree)?;
+        }
+        Ok(tree)
+    }
+
+    /// The number of a leaf.
+    pub fn leaf(&self, tree: u32, levels: u32, place: u32) -> u32
+        requires few { levels ≤ 16 }
+        requires tree { IsTree self.now.pairs.items levels tree }
+        requires place { place < 2 ^ levels }
+        ensures { result ≡ slice_index (leaves self.now.pairs.items levels tree) place }
+    {
+        if levels == 0 {
+            return tree;
+        }
+        let pair = self.pair(tree);
+        let half = half_of(levels);
+        if place < half {
+            self.leaf(pair.low, levels - 1, place)
+        } else {
+            self.leaf(pair.high, levels - 1, place - half)
+        }
+    }
+
+    /// The tree with another number as one of its leaves; the same tree where nothing changes.
+    pub fn with_leaf(
+        &mut self,
+        tree: u32,
+        levels: u32,
+        place: u32,
+        leaf: u32,
+    ) -> Result<u32, AllocError>
+        requires few { levels ≤ 16 }
+        requires tree { IsTree self.old.pairs.items levels tree }
+        requires place { place < 2 ^ levels }
+        ensures { IfOk result (λ made. IsMade self.old.pairs.items self.new.pairs.items levels made (slice_set (leaves self.old.pairs.items levels tree) place leaf)) }
+    {
+        if levels == 0 {
+            return Ok(leaf);
+        }
+        let pair = self.pair(tree);
+        let half = half_of(levels);
+        if place < half {
+            let low = self.with_leaf(pair.low, levels - 1, place, leaf)?;
+            if low == pair.low {
+                return Ok(tree);
+            }
+            return self.put(low, pair.high);
+        }
+        let high = self.with_leaf(pair.high, levels - 1, place - half, leaf)?;
+        if high == pair.high {
+            return Ok(tree);
+        }
+        self.put(pair.low, high)
+    }
+}

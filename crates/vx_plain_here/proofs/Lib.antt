@@ -1,0 +1,3 @@
+mod Rooms
+pub mod Comes
+pub mod Operands

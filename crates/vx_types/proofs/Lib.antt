@@ -1,0 +1,9 @@
+pub mod Tests
+pub mod Chains
+pub mod FitLaws
+pub mod CommonLaws
+pub mod Lists
+pub mod RowLaws
+pub mod Flows
+pub mod NameLaws
+pub mod Ranks
