@@ -4,14 +4,15 @@ use Rattle.vx_io.specs.Held.{FilesState, Held, contents}
 use Rattle.vx_io.specs.Sink.{Gains, SinkState}
 use Rattle.vx_agree.proofs.Agreeing.{one_agreement_text}
 use Rattle.vx_agree.specs.Text.{IsAgreementText}
-use Rattle.vx_interact.proofs.OneText.{one_interactions_text}
-use Rattle.vx_interact.specs.Text.{IsInteractionsText}
 use Rattle.vx_model.specs.Models.{is_allowed}
+use Rattle.vx_people.proofs.OneText.{one_told_text}
+use Rattle.vx_people.specs.Tellings.{HasOneText, IsToldText}
+use Rattle.vx_people.specs.declared.telling.Telling.{Telling}
 use Rattle.vx_report_reader.proofs.Verdicts.{report_same}
 use Rattle.vx_reporting.proofs.OneText.{one_text}
 use Rattle.vx_reporting.specs.Reported.{IsReported}
-use Rattle.vx_cli.specs.Causes.{AreClasses, IsAgreeing, IsInteracting, IsProjection, IsReport, IsResult, IsShown}
-use Rattle.vx_cli.specs.Command.{Agree, Asm, Command, Interact, Project, Run}
+use Rattle.vx_cli.specs.Causes.{AreClasses, HasOneResult, IsAgreeing, IsProjection, IsReport, IsResult, IsShown, IsTold}
+use Rattle.vx_cli.specs.Command.{Agree, Asm, Command, Project, Run, Tell}
 use Rattle.vx_cli.specs.Ends.{Ends}
 use Rattle.vx_cli.specs.Job.{names_of, program_in}
 use Rattle.vx_cli.specs.PlanOf.{plan_of}
@@ -41,10 +42,10 @@ one_projection held path word one other h k =
     let report : h.report ≡ k.report = report_same (contents held path) h.report k.report h.is_report.spells k.is_report.spells in
     same_value one other (projected h.report word) h.is_text (subst (λ r. projected r word ≡ Ok other) (sym report) k.is_text)
 
-one_interacting : (held : Held) (path one other : List ℕ) → IsInteracting held path one → IsInteracting held path other → one ≡ other
-one_interacting held path one other h k =
+one_telling : (held : Held) (telling : Telling) (path one other : List ℕ) → HasOneText telling → IsTold held telling path one → IsTold held telling path other → one ≡ other
+one_telling held telling path one other p h k =
     let report : h.report ≡ k.report = report_same (contents held path) h.report k.report h.is_report.spells k.is_report.spells in
-    one_interactions_text h.report one other h.is_text (subst (λ r. IsInteractionsText r other) (sym report) k.is_text)
+    one_told_text telling h.report one other p h.is_text (subst (λ r. IsToldText telling r other) (sym report) k.is_text)
 
 one_agreeing : (held : Held) (path against one other : List ℕ) → IsAgreeing held path against one → IsAgreeing held path against other → one ≡ other
 one_agreeing held path against one other h k =
@@ -52,21 +53,21 @@ one_agreeing held path against one other h k =
     let reference : h.against ≡ k.against = report_same (contents held against) h.against k.against h.is_other.spells k.is_other.spells in
     one_agreement_text h.report h.against one other h.is_text (subst (λ r. IsAgreementText r h.against other) (sym report) (subst (λ r. IsAgreementText k.report r other) (sym reference) k.is_text))
 
-one_result : (held : Held) (command : Command) (one other : List ℕ) → IsResult held command one → IsResult held command other → one ≡ other
-one_result held (Run folder path main limit version) one other h k = one_report held folder path main limit version one other h k
-one_result held (Project path word) one other h k = one_projection held path word one other h k
-one_result held (Interact path) one other h k = one_interacting held path one other h k
-one_result held (Agree path against) one other h k = one_agreeing held path against one other h k
-one_result held (Asm path) one other h k = same_value one other _ h.is_text k.is_text
+one_result : (held : Held) (command : Command) (one other : List ℕ) → HasOneResult command → IsResult held command one → IsResult held command other → one ≡ other
+one_result held (Run folder path main limit version) one other p h k = one_report held folder path main limit version one other h k
+one_result held (Project path word) one other p h k = one_projection held path word one other h k
+one_result held (Tell telling path) one other p h k = one_telling held telling path one other p h k
+one_result held (Agree path against) one other p h k = one_agreeing held path against one other h k
+one_result held (Asm path) one other p h k = same_value one other _ h.is_text k.is_text
 
 -- a call that is done has written each text that its command asks for, of which there is one
-pub done_only : (old new : FilesState) (out out' : SinkState) (command : Command) (status : Status) → Ends old new out out' (plan_of command) status → (held : Held) (text : List ℕ) → old.held ≡ Some held → status ≡ Done
+pub done_only : (old new : FilesState) (out out' : SinkState) (command : Command) (status : Status) → Ends old new out out' (plan_of command) status → (held : Held) (text : List ℕ) → HasOneResult command → old.held ≡ Some held → status ≡ Done
     → IsResult held command text → Gains out out' text
-done_only old new out out' command status ends held text told done result =
+done_only old new out out' command status ends held text one told done result =
     by_text (there (λ files. (t : List ℕ) × IsResult files command t × Gains out out' t) (subst (λ s. IsShown old new out out' command s) done (call_shows old new out out' command status ends)))
   where
     there : (P : Held → Type 0) → IfSome old.held P → P held
     there P h = rw told at h
 
     by_text : (t : List ℕ) × IsResult held command t × Gains out out' t → Gains out out' text
-    by_text h = subst (Gains out out') (one_result held command h.0 text h.1 result) h.2
+    by_text h = subst (Gains out out') (one_result held command h.0 text one h.1 result) h.2

@@ -15,7 +15,7 @@ use Rattle.vx_report_reader.specs.Reading.{IsCutOff}
 use Rattle.vx_cli.specs.Again.{Asked, IsReportFile, asked_text}
 use Rattle.vx_cli.specs.Causes.{IsGood, IsProjection, IsResult, IsShown}
 use Rattle.vx_cli.specs.Command.{Project}
-use Rattle.vx_cli.specs.Configuration.{are_distinct, configuration_of, is_among, names_in}
+use Rattle.vx_configuration.specs.Configuration.{are_distinct, configuration_of, is_among, names_in}
 use Rattle.vx_cli.specs.Ends.{Ends}
 use Rattle.vx_cli.specs.Job.{names_of}
 use Rattle.vx_cli.specs.PlanOf.{plan_of}
@@ -61,7 +61,7 @@ file_projected old new out out' path word status ends held asked told file done 
       is_report = record { fits = file.fits; spells = h.spells };
       is_text = text_projected held path word asked file;
     } in
-    done_only old new out out' (Project path word) status ends held (asked_text asked) told done result
+    done_only old new out out' (Project path word) status ends held (asked_text asked) tt told done result
 
 -- a file that was cut off holds no report
 pub cut_refused : (old new : FilesState) (out out' : SinkState) (path word : List ℕ) (status : Status) → Ends old new out out' (plan_of (Project path word)) status → (held : Held) → old.held ≡ Some held

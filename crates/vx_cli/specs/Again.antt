@@ -8,7 +8,7 @@ use Rattle.vx_model.specs.Models.{is_allowed}
 use Rattle.vx_model.specs.declared.model.Model.{Model}
 use Rattle.vx_report.specs.Projection.{projection_text}
 use Rattle.vx_reporting.specs.Reported.{IsReported}
-use Rattle.vx_cli.specs.Configuration.{configuration_of}
+use Rattle.vx_configuration.specs.Configuration.{configuration_of}
 use Rattle.vx_cli.specs.Job.{names_of}
 use Rattle.vx_cli.specs.Reports.{most_report_bytes}
 

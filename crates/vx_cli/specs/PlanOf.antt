@@ -1,15 +1,15 @@
 -- The plan of each command.
-use Rattle.vx_cli.specs.Command.{Command, Run, Project, Interact, Agree, Asm}
+use Rattle.vx_cli.specs.Command.{Command, Run, Project, Tell, Agree, Asm}
 use Rattle.vx_cli.specs.Agree.{agree_plan}
 use Rattle.vx_cli.specs.Assemble.{asm_plan}
-use Rattle.vx_cli.specs.Interact.{interact_plan}
 use Rattle.vx_cli.specs.Plan.{Plan}
 use Rattle.vx_cli.specs.Project.{project_plan}
 use Rattle.vx_cli.specs.Run.{run_plan}
+use Rattle.vx_cli.specs.Tell.{tell_plan}
 
 abbrev pub plan_of : Command → Plan
 plan_of (Run folder model main limit version) = run_plan folder model main limit version
 plan_of (Project report configuration) = project_plan report configuration
-plan_of (Interact report) = interact_plan report
+plan_of (Tell telling report) = tell_plan telling report
 plan_of (Agree report other) = agree_plan report other
 plan_of (Asm source) = asm_plan source

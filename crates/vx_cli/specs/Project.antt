@@ -5,7 +5,7 @@ use Rattle.vx_report.specs.declared.report.Report.{Report}
 use Rattle.vx_report.specs.Projection.{project, projection_text}
 use Rattle.vx_cli.specs.declared.status.Status.{Status}
 use Rattle.vx_cli.specs.declared.status.Status.TheVariants.{NotAllowed}
-use Rattle.vx_cli.specs.Configuration.{configuration_of}
+use Rattle.vx_configuration.specs.Configuration.{configuration_of}
 use Rattle.vx_cli.specs.Job.{Exactly}
 use Rattle.vx_cli.specs.Plan.{Plan, Write, attempt}
 use Rattle.vx_cli.specs.Reports.{read_report}

@@ -5,11 +5,11 @@ ghost use Rattle.vx_cli.specs.KeepsFiles.{KeepsFiles};
 ghost use Rattle.vx_cli.specs.Plan.{MayGive, MayStop};
 ghost use Rattle.vx_cli.specs.Project.{projected, project_plan};
 
-use crate::configuration::configuration_of;
 use crate::reports::read_report_file;
 use crate::status::Status;
 use crate::words::ProjectWords;
 use std::alloc::Global;
+use vx_configuration::configuration_of;
 use vx_io::Files;
 use vx_report::{Report, project_text};
 

@@ -1,8 +1,10 @@
-//! Pictures and covers of small reports.
+//! Pictures, covers and explanations of small reports.
 #![tactic(auto)]
 
 #[cfg(test)]
 mod cover;
+#[cfg(test)]
+mod explain;
 #[cfg(test)]
 mod picture;
 #[cfg(test)]

@@ -20,6 +20,11 @@ pub const MAIL: &str =
 pub const ODD: &str =
     "varexj report 2\noptions 2\noption A\noption B\nlimit 100\nrounds 4\nnode 2 0 1 0\nnode 3 1 0 1\nnode 4 0 0 3\nnode 5 0 0 1\nnode 6 1 1 0\nout 2 a\\0ab\\0a\nerr 4 0123456789012345678901234567890123456789012345678901234567890\nend 5 return\nend 4 exit 3\nattempts 6 3\nattempts 3 4\ndone\n";
 
+/// A piece that a configuration has where an odd number of its seven options is on, so that each rule for it in terms has 64 of
+/// them.
+pub const PARITY: &str =
+    "varexj report 1\noptions 7\noption A\noption B\noption C\noption D\noption E\noption F\noption G\nlimit 100\nrounds 4\nnode 2 6 0 1\nnode 3 6 1 0\nnode 4 5 2 3\nnode 5 5 3 2\nnode 6 4 4 5\nnode 7 4 5 4\nnode 8 3 6 7\nnode 9 3 7 6\nnode 10 2 8 9\nnode 11 2 9 8\nnode 12 1 10 11\nnode 13 1 11 10\nnode 14 0 12 13\nout 14 x\nend 1 return\ndone\n";
+
 /// A report of a text.
 pub fn report_of(rt: &impl Abort, alloc: Global, text: &str) -> Report
     ensures { IsLawful result }

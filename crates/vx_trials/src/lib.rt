@@ -144,7 +144,7 @@ mod tests {
     ];
 
     /// Words, and what has to come: the code, `out`, and `err`.
-    const CASES: [(&str, u8, &str, &str); 49] = [
+    const CASES: [(&str, u8, &str, &str); 55] = [
         (
             "run a m Main 100 1",
             0,
@@ -311,6 +311,27 @@ mod tests {
         ),
         ("interact cut", 10, "", "bad report line 6\n"),
         ("interact report A", 2, "", "usage\n"),
+        (
+            "picture report",
+            0,
+            "digraph report {\n2 [label=\"A\"];\n3 [label=\"A\"];\n1 [label=\"always\", shape=box];\n2 -> 1 [style=dashed];\n3 -> 1;\nend1 [label=\"end return\", shape=box];\nend1 -> 1;\npiece1 [label=\"out 1 2 0\\\\0a\", shape=box];\npiece1 -> 2;\npiece2 [label=\"out 2 2 1\\\\0a\", shape=box];\npiece2 -> 3;\n}\n",
+            "",
+        ),
+        ("picture cut", 10, "", "bad report line 6\n"),
+        (
+            "cover report",
+            0,
+            "varexj cover 1\ntry - 1 1\ntry A - 2\ndone\n",
+            "",
+        ),
+        ("cover", 2, "", "usage\n"),
+        (
+            "explain report",
+            0,
+            "varexj explain 1\nend return\nwhen true\nexample -\nout 1 2 0\\0a\nwhen !A\nexample -\nout 2 2 1\\0a\nwhen A\nexample A\ndone\n",
+            "",
+        ),
+        ("explain cut", 10, "", "bad report line 6\n"),
         (
             "agree report report",
             0,

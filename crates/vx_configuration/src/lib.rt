@@ -1,0 +1,6 @@
+//! The configuration that a word names.
+#![tactic(auto)]
+
+pub mod configuration;
+
+pub use configuration::configuration_of;

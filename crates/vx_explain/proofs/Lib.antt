@@ -1,0 +1,7 @@
+mod Cycle
+mod Explaining
+mod Halves
+pub mod Printed
+mod Sums
+mod TermSets
+mod Truths

@@ -1,0 +1,18 @@
+use Rattle.std.proofs.Common.{arith, sym, ◌∙◌}
+use Rattle.vx_interact.proofs.Entries.{few_options}
+use Rattle.vx_people.proofs.telling.explaining.Goals as goal
+
+pub overflow_cast-len : goal.overflow_cast-len
+overflow_cast-len c = omega (arith, few_options c.args.report.now c.requires, c.len.ensures)
+
+pub new-requires : goal.new-requires
+new-requires c = omega (arith, few_options c.args.report.now c.requires, c.len.ensures)
+
+pub explain-requires-clause-options : goal.explain-requires-clause-options
+explain-requires-clause-options c = sym (c.in_ok-space.ensures.options_are ∙ c.len.ensures)
+
+pub explanation_text-requires : goal.explanation_text-requires
+explanation_text-requires c = few_options c.args.report.now c.requires
+
+pub returns : goal.returns
+returns c = record { explained = c.in_ok-explained.explained.items; are = c.in_ok-explained.ensures.explained; spelled = rw c.as_slice.ensures.value at c.in_ok-explanation_text.ensures }
