@@ -1,0 +1,15 @@
+pub mod Forcing
+pub mod Inferring
+pub mod StoreLaws
+pub mod CommonLists
+pub mod PutLaws
+pub mod JoinLaws
+pub mod LocalLaws
+pub mod TakeLaws
+pub mod MergeLaws
+pub mod Reaching
+pub mod Putting
+pub mod VerdictLaws
+pub mod Following
+pub mod Known
+pub mod Reached

@@ -1,0 +1,60 @@
+//! The verdict over a program.
+
+ghost use Rattle.std.specs.Bool.{MatchBool};
+ghost use Rattle.std.specs.Prelude.{◌≡◌, IfOk, option_copied};
+ghost use Rattle.vx_link.specs.Parts.{method_at};
+ghost use Rattle.vx_verify.specs.Typing.{IsTyped};
+ghost use Rattle.vx_verify.specs.Verdict.{CanBeTyped, IsVerdict};
+
+use crate::inference::is_typed;
+use std::alloc::{AllocError, Global};
+use vx_class::Code;
+use vx_link::Program;
+use vx_numbered::next_number;
+use vx_value::MethodId;
+
+/// Whether each method of a program has a typing.
+#[derive(Clone, Copy, Debug, PartialEq, Eq)]
+pub enum Verdict {
+    Yes,
+    /// The first method, by its number, that has none.
+    No { method: MethodId },
+}
+
+/// Whether a method has no code, or code that has a typing.
+fn is_method_typed(alloc: Global, program: &Program, method: MethodId) -> Result<bool, AllocError>
+    requires { CanBeTyped program.now }
+    ensures { IfOk result (λ typed. MatchBool typed (IsTyped program.now method.0) (¬ IsTyped program.now method.0)) }
+{
+    match code_of(program, method) {
+        Some(code) => is_typed(alloc, program, method, code),
+        None => Ok(true),
+    }
+}
+
+/// The code of a method, if it has one.
+fn code_of(program: &Program, method: MethodId) -> Option<&Code>
+    ensures { option_copied result ≡ (method_at program.now method.0).code }
+{
+    match program.method(method) {
+        Some(method) => match &method.code {
+            Some(code) => Some(code),
+            None => None,
+        },
+        None => None,
+    }
+}
+
+/// Infers the types of each method that has code, in the order of their numbers. Memory may run out; a verdict is then not given.
+pub fn verify(alloc: Global, program: &Program) -> Result<Verdict, AllocError>
+    requires { CanBeTyped program.now }
+    ensures { IfOk result (IsVerdict program.now) }
+{
+    for place in 0..program.methods.len() {
+        let method = MethodId(next_number(place)?);
+        if !is_method_typed(alloc, program, method)? {
+            return Ok(Verdict::No { method });
+        }
+    }
+    Ok(Verdict::Yes)
+}
