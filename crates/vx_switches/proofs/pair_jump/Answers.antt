@@ -1,8 +1,8 @@
 use Rattle.std.proofs.Common.{◌-◌, ◌∙◌, arith, sym}
 use Rattle.std.proofs.lemmas.Int.{to_z-of_z}
 use Rattle.std.specs.Int.{w32}
-use Rattle.vx_arith.proofs.Pairs.{IsSearching-end, IsSearching-found, IsSearching-start, IsSearching-step}
-use Rattle.vx_arith.proofs.jumping.pair_jump.Goals as goal
+use Rattle.vx_switches.proofs.Pairs.{IsSearching-end, IsSearching-found, IsSearching-start, IsSearching-step}
+use Rattle.vx_switches.proofs.pair_jump.Goals as goal
 
 pub loop-pair-init : goal.loop-pair-init
 loop-pair-init c = IsSearching-start c.args.code.now _ _ c.args.pairs c.args.first

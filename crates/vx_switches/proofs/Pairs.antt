@@ -2,7 +2,7 @@
 use Rattle.std.proofs.Common.{◌≡◌, ℕ, ◌+◌, ◌*◌, ◌≤◌, suc, ℤ, Bool, true, false, List, refl, sym, ◌∙◌, ap, arith}
 use Rattle.vx_value.specs.Arithmetic.{same_int}
 use Rattle.vx_opcode.specs.Numbers.{s4}
-use Rattle.vx_arith.specs.Numbers.{pair_jump}
+use Rattle.vx_switches.specs.Switches.{pair_jump}
 
 -- what is left of the pairs gives what all of them give
 pub record IsSearching (code : List ℕ) (key fallback : ℤ) (pairs first pair : ℕ) : Type 0 where
