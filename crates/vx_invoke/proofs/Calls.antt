@@ -18,7 +18,8 @@ use Rattle.vx_link.specs.Parts.{method_at}
 use Rattle.vx_space.specs.Sets.{Sets}
 use Rattle.vx_value.specs.declared.slot.Slot.{Slot}
 use Rattle.vx_value.specs.declared.slot.Slot.TheVariants.{Top, Int, Long, Null, Ref, Text}
-use Rattle.vx_invoke.specs.Called.{IsEntry, accepts, by_selected, call_of, called, is_enter, receiver_of}
+use Rattle.vx_families.specs.Entering.{IsEntry}
+use Rattle.vx_invoke.specs.Called.{accepts, by_selected, call_of, called, is_enter, receiver_of}
 use Rattle.vx_references.specs.Calls.{println}
 use Rattle.vx_invoke.specs.declared.call.Call.{Call}
 use Rattle.vx_invoke.specs.declared.call.Call.TheVariants as call

@@ -42,7 +42,8 @@ use Rattle.vx_value.specs.declared.ids.MethodId.{MethodId}
 use Rattle.vx_value.specs.declared.slot.Slot.{Slot}
 use Rattle.vx_value.specs.declared.slot.Slot.TheVariants.{Top, Ref}
 use Rattle.vx_value.specs.Slot.{slot_cmp}
-use Rattle.vx_invoke.specs.Called.{AreReceivers, HasReceiver, IsCalling, IsEntry, IsRunning, SomeEnters, call_of, called, is_enter, operand_at, receiver_at, receiver_of}
+use Rattle.vx_families.specs.Entering.{IsEntry, SomeEnters}
+use Rattle.vx_invoke.specs.Called.{AreReceivers, HasReceiver, IsCalling, IsRunning, call_of, called, is_enter, operand_at, receiver_at, receiver_of}
 use Rattle.vx_references.specs.Calls.{IsMethodReference, by_reference, println, referenced}
 use Rattle.vx_references.specs.declared.calls.MethodReference.{MethodReference}
 use Rattle.vx_invoke.specs.Receivers.{receiver_cmp}

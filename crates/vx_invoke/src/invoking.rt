@@ -10,8 +10,9 @@ ghost use Rattle.vx_java.specs.declared.operation.Mode.TheVariants.{Virtual};
 ghost use Rattle.vx_link.specs.ClassNames.{class_named};
 ghost use Rattle.vx_group_states.specs.Sites.{Gives, GivesAt, here, IsSomewhere};
 ghost use Rattle.vx_families.specs.Attempts.{IsAttemptBy, IsGiven, MeetsUnbuilt};
-ghost use Rattle.vx_invoke.specs.Called.{AreReceivers, HasReceiver, IsCalling, IsRunning, SomeEnters, called, is_enter};
-ghost use Rattle.vx_invoke.specs.Named.{is_built_call, pool_of};
+ghost use Rattle.vx_families.specs.Entering.{SomeEnters, pool_of};
+ghost use Rattle.vx_invoke.specs.Called.{AreReceivers, HasReceiver, IsCalling, IsRunning, called, is_enter};
+ghost use Rattle.vx_invoke.specs.Named.{is_built_call};
 ghost use Rattle.vx_references.specs.Calls.{println, referenced};
 
 use crate::call::{Call, Receiver, call_of, receiver_of};

@@ -1,0 +1,146 @@
+//! Stores of elements (JVMS 6.5 iastore and its kin).
+
+ghost use Rattle.std.specs.Prelude.{◌≡◌, ◌<◌, Bool, IfOk, List, length, true};
+ghost use Rattle.vx_arrays.specs.Elements.{element_place, kept, may_have, stored_place};
+ghost use Rattle.vx_cells.specs.Places.{place_cmp};
+ghost use Rattle.vx_cells.specs.Through.{ArePlacesHeld, place_at};
+ghost use Rattle.vx_cond.specs.Cond.{IsCond};
+ghost use Rattle.vx_families.specs.Attempts.{IsAttemptBy, IsGiven};
+ghost use Rattle.vx_group.specs.Group.{path_of};
+ghost use Rattle.vx_group_states.specs.Answering.{operands_at};
+ghost use Rattle.vx_java.specs.Arrays.{element_sort};
+ghost use Rattle.vx_list.specs.Places.{item_or};
+ghost use Rattle.vx_ready.specs.Running.{IsRunning};
+ghost use Rattle.vx_space.specs.Sets.{Extends};
+ghost use Rattle.vx_value.specs.declared.slot.Slot.TheVariants.{Top};
+
+use crate::elements::places_under;
+use std::alloc::Global;
+use vx_cells::{Place, passes_at, write_through};
+use vx_cond::Cond;
+use vx_families::slot_is_of;
+use vx_group::Group;
+use vx_group_states::{Site, carry_out, illegal};
+use vx_heap::Heap;
+use vx_java::arrays::component_of;
+use vx_java::{Element, Operation, Sort, assignable};
+use vx_link::Program;
+use vx_numbers::narrow;
+use vx_outcome::Outcomes;
+use vx_space::{Space, SpaceFault};
+use vx_value::{Narrow, Slot};
+
+fn sort_of(element: Element) -> Sort
+    ensures { result ≡ element_sort element }
+{
+    match element {
+        Element::Longs => Sort::Long,
+        Element::References => Sort::Reference,
+        _ => Sort::Int,
+    }
+}
+
+/// Whether an array may have a value as an element.
+fn may_have<S: Space>(
+    program: &Program,
+    heap: &Heap<S>,
+    element: Element,
+    array: u64,
+    value: Slot,
+) -> bool
+    ensures { result ≡ may_have program.now heap.now element array value }
+{
+    let Element::References = element else {
+        return true;
+    };
+    match (heap.class_at(value), heap.class_at(Slot::Ref(array))) {
+        (Some(class), Some(array)) => assignable(program, class, component_of(program, array)),
+        _ => true,
+    }
+}
+
+fn stored_place<S: Space>(
+    program: &Program,
+    heap: &Heap<S>,
+    element: Element,
+    value: Slot,
+    found: Place,
+) -> Place
+    ensures { result ≡ stored_place program.now heap.now element value found }
+{
+    if !slot_is_of(sort_of(element), value) {
+        return Place::Illegal;
+    }
+    match found {
+        Place::At(array, _) if !may_have(program, heap, element, array, value) => Place::Refused,
+        found => found,
+    }
+}
+
+/// What a store keeps of a value.
+fn kept(element: Element, value: Slot) -> Slot
+    ensures { result ≡ kept element value }
+{
+    match (element, value) {
+        (Element::Bytes, Slot::Int(n)) => Slot::Int(narrow(Narrow::Byte, n)),
+        (Element::Chars, Slot::Int(n)) => Slot::Int(narrow(Narrow::Char, n)),
+        (Element::Shorts, Slot::Int(n)) => Slot::Int(narrow(Narrow::Short, n)),
+        _ => value,
+    }
+}
+
+/// Where a store writes, at each configuration of a group that has three operands.
+fn places_written<S: Space>(
+    site: &Site,
+    space: &mut S,
+    heap: &Heap<S>,
+    group: &Group<S>,
+    element: Element,
+) -> Result<Cond<Place, S>, SpaceFault>
+    requires running { IsRunning site.now (S.sets space.old) heap.now group.now }
+    requires operands { 2 < length group.now.top.stack.conds }
+    ensures extends { Extends (S.sets space.old) (S.sets space.new) }
+    ensures cond { IfOk result (IsCond place_cmp (S.sets space.new)) }
+    ensures scope { IfOk result (λ r. r.scope ≡ path_of group.now) }
+    ensures held { IfOk result (ArePlacesHeld (S.sets space.new) heap.now) }
+    ensures at { IfOk result (λ r. (c : List Bool) → (S.sets space.old).test (path_of group.now) c ≡ true → place_at (S.sets space.new) r c ≡ stored_place site.now.program.now heap.now element (item_or (operands_at (S.sets space.old) group.now.top.stack c) 0 Top) (element_place site.now.program.now heap.now element (item_or (operands_at (S.sets space.old) group.now.top.stack c) 1 Top) (item_or (operands_at (S.sets space.old) group.now.top.stack c) 2 Top))) }
+{
+    let program = site.program;
+    let places = places_under(site, space, heap, group, element, 1)?;
+    let at_element = |value: Slot, found: Place| -> Place
+        ensures { result ≡ stored_place program.now heap.now element value found }
+    { stored_place(program, heap, element, value, found) };
+    let stack = &group.top_frame().stack;
+    let stored = stack.get(stack.len() - 1).zip(space, &places, at_element)?;
+    Ok(stored)
+}
+
+/// iastore, lastore, aastore, bastore, castore and sastore.
+pub(crate) fn store_element<S: Space>(
+    alloc: Global,
+    site: &Site,
+    space: &mut S,
+    heap: &mut Heap<S>,
+    element: Element,
+    group: Group<S>,
+) -> Result<Outcomes<S>, SpaceFault>
+    requires { IsGiven site.now (Operation.StoreElement element) (S.sets space.old) heap.old group }
+    ensures extends { Extends (S.sets space.old) (S.sets space.new) }
+    ensures ok { IfOk result (λ r. IsAttemptBy site.now (Operation.StoreElement element) (S.sets space.old) (S.sets space.new) heap.old heap.new group r.items.items) }
+{
+    let program = site.program;
+    let stack = &group.top_frame().stack;
+    if stack.len() < 3 {
+        let ended = illegal(alloc, program, &group)?;
+        return Ok(ended);
+    }
+    let places = places_written(site, space, heap, &group, element)?;
+    let as_kept = |value: Slot| -> Slot
+        ensures { result ≡ kept element value }
+    { kept(element, value) };
+    let values = stack.get(stack.len() - 1).map(space, as_kept)?;
+    write_through(space, heap, &places, &values)?;
+    let answers = passes_at(alloc, program, space, heap, &places)?;
+    let outcomes = carry_out(alloc, site, space, group, 3, &answers)?;
+    Ok(outcomes)
+}

@@ -1,0 +1,5 @@
+pub mod WrittenThrough
+pub mod Passing
+pub mod Giving
+pub mod PlaceRows
+pub mod ObjectClasses
