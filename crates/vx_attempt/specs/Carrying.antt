@@ -17,7 +17,6 @@ use Rattle.vx_outcome.specs.declared.outcome.Outcome.{Outcome}
 use Rattle.vx_outcome.specs.declared.outcome.Outcome.TheVariants as shared
 use Rattle.vx_group_states.specs.Stands.{CameTo, Grows, IsMessage, IsThrown, StandsIn}
 use Rattle.vx_group_states.specs.declared.site.Site.{Site}
-use Rattle.vx_standing.specs.Attempted.{thrown_out}
 
 -- ---- outcomes by themselves
 
@@ -73,12 +72,3 @@ is_unbuilt p o = not (is_built_outcome p o)
 abbrev pub is_refused : Program → PlainOutcome → Bool
 is_refused p (Native m s) = true
 is_refused p o = is_unbuilt p o
-
--- ---- exceptions
-
--- outcomes with their exceptions thrown, over every heap of the program and every tree
-abbrev pub AreThrown : {S I : Type 0} → Program → Sets I → (items made : List (Outcome S I)) → Type 0
-AreThrown {S = S} {I = I} p sets items made = (heap : HeapView S I) (tree : List (Option (Caller S I))) → IsHeap sets heap → IsHeapFor p heap → AreCarriedOut p (thrown_out p) sets sets heap heap tree tree items made
-
-abbrev pub SomeRefused : {S I : Type 0} → Program → Sets I → List (Outcome S I) → Type 0
-SomeRefused {S = S} {I = I} p sets items = (heap : HeapView S I) (tree : List (Option (Caller S I))) → IsHeap sets heap → IsHeapFor p heap → SomeComesTo p (is_refused p) sets heap tree items

@@ -3,12 +3,12 @@
 ghost use Rattle.std.specs.Prelude.{◌≡◌, IfSome, IsNone, false, true};
 ghost use Rattle.vx_link.specs.Names.{member};
 ghost use Rattle.vx_link.specs.Parts.{class_at};
-ghost use Rattle.vx_families.specs.Built.{is_built_operation, is_println, is_virtual};
+ghost use Rattle.vx_families.specs.Built.{is_built_operation, names_clone};
 ghost use Rattle.vx_attempt.specs.Families.{is_of};
 
-use vx_fields::named_member;
-use vx_java::{Mode, Operation};
+use vx_java::Operation;
 use vx_link::Program;
+use vx_references::named_member;
 use vx_value::ClassId;
 
 /// A family of instructions.
@@ -24,30 +24,18 @@ pub enum Family {
     /// Static fields.
     Statics,
     Calls,
+    /// Objects that are thrown.
+    Throws,
 }
 
-fn is_virtual(mode: Mode) -> bool
-    ensures { result ≡ is_virtual mode }
-{
-    matches!(mode, Mode::Virtual)
-}
-
-/// Whether an entry of the pool of a class names println of an int.
-fn names_println(program: &Program, class: ClassId, entry: u16) -> bool
-    ensures { result ≡ is_println (member (class_at program.now class.0).pool entry) }
+/// Whether an entry of the pool of a class names the clone of an array.
+fn names_clone(program: &Program, class: ClassId, entry: u16) -> bool
+    ensures { result ≡ names_clone (member (class_at program.now class.0).pool entry) }
 {
     let named = named_member(program, class, entry);
-    named.class == b"java/io/PrintStream".as_slice()
-        && named.name == b"println".as_slice()
-        && named.descriptor == b"(I)V".as_slice()
-        && !named.by_interface
-}
-
-/// Whether a call is built.
-fn is_built_call(program: &Program, class: ClassId, mode: Mode, entry: u16) -> bool
-    ensures { result ≡ is_built_operation (class_at program.now class.0).pool (Operation.Invoke mode entry) }
-{
-    is_virtual(mode) && names_println(program, class, entry)
+    named.class.first() == Some(&b'[')
+        && (named.name == b"clone".as_slice()
+            && named.descriptor == b"()Ljava/lang/Object;".as_slice())
 }
 
 /// The family of an operation in a method of a class, or `None` where the operation isn't built.
@@ -85,9 +73,8 @@ pub fn family_of(program: &Program, class: ClassId, operation: Operation) -> Opt
         | Operation::Refuse(_) => Some(Family::Numbers),
         Operation::Return(_) => Some(Family::Returns),
         Operation::GetStatic(_) | Operation::PutStatic(_) => Some(Family::Statics),
-        Operation::Invoke(mode, entry) if is_built_call(program, class, mode, entry) => {
-            Some(Family::Calls)
-        }
+        Operation::Invoke(_, entry) if !names_clone(program, class, entry) => Some(Family::Calls),
+        Operation::Throw => Some(Family::Throws),
         Operation::Invoke(_, _)
         | Operation::LoadElement(_)
         | Operation::StoreElement(_)
@@ -99,7 +86,6 @@ pub fn family_of(program: &Program, class: ClassId, operation: Operation) -> Opt
         | Operation::NewReferences(_)
         | Operation::NewGrid(_, _)
         | Operation::Length
-        | Operation::Throw
         | Operation::Monitor
         | Operation::CheckCast(_)
         | Operation::InstanceOf(_) => None,

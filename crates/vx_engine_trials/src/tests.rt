@@ -1,3 +1,4 @@
+use crate::call_cases::CALL_CASES;
 use crate::cases::{CASES, Case, DIFFERENT_VALUES};
 use crate::last_key::LastKey;
 use crate::runs::{agree, report_of};
@@ -36,6 +37,19 @@ fn is_same_with_last_keys(rt: &impl Abort, alloc: Global, case: &Case) -> Result
 #[test]
 fn what_runs_come_to_depends_on_no_order(rt: HostRuntime) -> Result<(), Fail> {
     for case in CASES {
+        assert!(rt; is_reported(&rt, rt.alloc(), &case)?, "{:?}", case.report);
+        assert!(rt;
+            is_same_with_last_keys(&rt, rt.alloc(), &case)?,
+            "{:?}",
+            case.report
+        );
+    }
+    Ok(())
+}
+
+#[test]
+fn calls_come_to_what_the_machine_says(rt: HostRuntime) -> Result<(), Fail> {
+    for case in CALL_CASES {
         assert!(rt; is_reported(&rt, rt.alloc(), &case)?, "{:?}", case.report);
         assert!(rt;
             is_same_with_last_keys(&rt, rt.alloc(), &case)?,

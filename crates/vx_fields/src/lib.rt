@@ -5,4 +5,5 @@ mod operands;
 pub mod statics;
 mod unresolved;
 
-pub use statics::{attempt, named_member};
+pub use operands::fits;
+pub use statics::attempt;

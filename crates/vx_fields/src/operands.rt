@@ -45,7 +45,7 @@ fn has_room(size: u64, width: u64, room: u16) -> bool
 }
 
 /// Whether a slot is of the sort of a type.
-fn fits(field_type: JavaType, slot: Slot) -> bool
+pub fn fits(field_type: JavaType, slot: Slot) -> bool
     ensures { result ≡ slot_fits (sort_of field_type) slot }
 {
     match sort_of(field_type) {

@@ -9,8 +9,6 @@ ghost use Rattle.vx_java.specs.Checks.{sort_of};
 ghost use Rattle.vx_java.specs.Fields.{put_value};
 ghost use Rattle.vx_java.specs.FirstObjects.{narrowed_value};
 ghost use Rattle.vx_java.specs.Machine.{Go, Top, at_position, go};
-ghost use Rattle.vx_java.specs.Named.{in_bytes};
-ghost use Rattle.vx_link.specs.Names.{member};
 ghost use Rattle.vx_link.specs.Parts.{class_at, field_at, is_static_field};
 ghost use Rattle.vx_list.specs.Places.{item_or};
 ghost use Rattle.vx_space.specs.Sets.{Extends, IsKnown};
@@ -31,12 +29,12 @@ use vx_desc::{JavaType, is_clinit};
 use vx_group::Group;
 use vx_group_states::{Site, illegal};
 use vx_heap::Heap;
+use vx_java::Operation;
 use vx_java::parts::{class_of_method, name_of_method};
-use vx_java::{MemberReference, Operation, member};
 use vx_link::Program;
 use vx_outcome::Outcomes;
 use vx_ready::{Readiness, make_ready, stop_others};
-use vx_references::{FieldReference, field_reference};
+use vx_references::{FieldReference, field_reference, named_member};
 use vx_space::{Space, SpaceFault};
 use vx_value::{ClassId, FieldId, MethodId};
 
@@ -298,21 +296,6 @@ fn static_field<S: Space>(
     match program.class(class) {
         Some(class) => field_reference(program, &class.pool, index, owner, true),
         None => FieldReference::NoType,
-    }
-}
-
-/// The member that an entry of the pool of a class names (JVMS 4.4.2).
-pub fn named_member(program: &Program, class: ClassId, index: u16) -> MemberReference<'_>
-    ensures { in_bytes result ≡ member (class_at program.now class.0).pool index }
-{
-    match program.class(class) {
-        Some(class) => member(&class.pool, index),
-        None => MemberReference {
-            class: &[],
-            name: &[],
-            descriptor: &[],
-            by_interface: false,
-        },
     }
 }
 

@@ -20,7 +20,7 @@ use crate::lifted::{lifted_objects, same_values, static_values};
 use crate::object::HeapObject;
 use std::alloc::{AllocError, Global};
 use std::marker::Model;
-use vx_cond::{Cond, Projects};
+use vx_cond::{Cond, Projects, Row};
 use vx_initial_heap::First;
 use vx_java::{class_named, name_of_entry};
 use vx_link::Program;
@@ -94,6 +94,24 @@ impl<S: Space> Heap<S> {
         ensures { result.now ≡ object_in self.now reference }
     {
         &self.objects[reference as usize]
+    }
+
+    /// Makes an object that is no array, in the configurations of a path, with these cells, whose scope is the path. After want of memory
+    /// the heap is as it was.
+    pub fn alloc_with(
+        &mut self,
+        class: ClassId,
+        cells: Row<Slot, S>,
+        path: S::Id,
+    ) -> Result<u64, AllocError> {
+        let reference = self.objects.len() as u64;
+        self.objects.push(HeapObject {
+            class,
+            length: 0,
+            presence: path,
+            cells,
+        })?;
+        Ok(reference)
     }
 
     /// The class of an object.

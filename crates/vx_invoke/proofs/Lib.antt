@@ -1,3 +1,5 @@
-pub mod Calls
-pub mod Groups
+pub mod Selections
+pub mod Rooms
 pub mod Rows
+pub mod Receivers
+pub mod Entering

@@ -1,53 +1,42 @@
--- The return of the machine, by a group of one frame.
-use Rattle.std.proofs.Common.{◌≡◌, ℕ, ◌-◌, ◌<◌, ◌^◌, zero, suc, Bool, true, false, List, [], ◌∷◌, refl, sym, ◌∙◌, ap, subst, arith, map, length, reverse}
+-- The return of the machine: the class of an initialisation is marked first, then the frame is left.
+use Rattle.std.proofs.Common.{◌≡◌, ℕ, ◌-◌, ◌<◌, ◌^◌, zero, suc, Bool, true, false, List, [], ◌∷◌, refl, sym, ◌∙◌, ap, arith, map, length, reverse}
 use Rattle.std.proofs.lemmas.Bool.Decides.{nat_tests}
 use Rattle.std.proofs.lemmas.List.{get_or-reverse, length-map, length-reverse}
 use Rattle.std.proofs.lemmas.Option.{get_or_from_slice_get, slice_get-get_or}
-use Rattle.std.specs.Ordering.{bool_cmp}
 use Rattle.std.specs.List.{list_all}
-use Rattle.std.specs.Prelude.{Option, Some, None, if◌then◌else◌, is_some, slice_get, unwrap_or}
-use Rattle.vx_value.specs.declared.slot.Slot.{Slot}
-use Rattle.vx_value.specs.declared.slot.Slot.TheVariants.{Top, Int, Long, Null, Ref, Text}
-use Rattle.vx_value.specs.Slot.{slot_cmp}
-use Rattle.vx_space.specs.Sets.{Sets, Extends}
-use Rattle.vx_space.proofs.Spaces.{Extends-refl}
-use Rattle.vx_cond.specs.Cond.{Conditional, IsCondLifting, cond_at}
-use Rattle.vx_cond.specs.Leaves.{IsLifted}
+use Rattle.std.specs.Prelude.{Some, None, if◌then◌else◌, is_some, slice_get, unwrap_or}
+use Rattle.vx_cond.specs.Cond.{Conditional}
 use Rattle.vx_cond.specs.Row.{Conditionals}
-use Rattle.vx_cond.specs.Slots.{or_top, slot_at, slots_at}
-use Rattle.vx_cond.proofs.RowSteps.{IsRow-get, slots_at-get}
-use Rattle.vx_cond.proofs.SideLaws.{cond_at-covers}
-use Rattle.vx_frame.proofs.FrameLaws.{IsFrame-stack}
-use Rattle.vx_group.specs.declared.callers.Caller.{Caller}
-use Rattle.vx_group.specs.Callers.{callers_of, frames_at}
-use Rattle.vx_group.specs.Group.{GroupView, IsGroup}
-use Rattle.vx_group.proofs.GroupLaws.{IsGroup-top}
-use Rattle.vx_heap.specs.Heap.{HeapView, value_of}
+use Rattle.vx_cond.specs.Slots.{slot_at, slots_at}
+use Rattle.vx_cond.proofs.RowSteps.{slots_at-get}
+use Rattle.vx_families.proofs.SlotSorts.{same_sort}
+use Rattle.vx_families.specs.Bounds.{IsBounded, is_short}
+use Rattle.vx_families.specs.Built.{is_call}
+use Rattle.vx_families.specs.Sorts.{slot_is_of}
+use Rattle.vx_frames.specs.Entering.{with_frame}
+use Rattle.vx_frames.specs.Waking.{state_awake}
+use Rattle.vx_group_states.proofs.StateLaws.{both_first, both_second}
+use Rattle.vx_group_states.specs.Answering.{operands_at}
+use Rattle.vx_group_states.specs.Sites.{here}
+use Rattle.vx_group_states.specs.declared.site.Site.{Site}
+use Rattle.vx_growth.specs.Changing.{with_globals}
+use Rattle.vx_heap.specs.Heap.{Globals, HeapView, value_of}
 use Rattle.vx_java.specs.Checks.{is_of}
-use Rattle.vx_java.specs.Machine.{Here, State, Value, illegal, illegal_in, when}
-use Rattle.vx_java.specs.Returns.{agrees, return_to, return_value, values_returned}
-use Rattle.vx_java.specs.declared.operation.Operation.{Operation}
-use Rattle.vx_java.specs.declared.operation.Operation.TheVariants.{Return}
+use Rattle.vx_java.specs.Machine.{Ended, Frame, Go, Here, State, Value, current_class, illegal, place_at, when}
+use Rattle.vx_java.specs.Returns.{fits_caller, frame_resumed, return_to, return_value, values_returned}
 use Rattle.vx_java.specs.declared.operation.Sort.{Sort}
-use Rattle.vx_java.specs.declared.operation.Sort.TheVariants.{Int as IntSort, Long as LongSort, Reference}
 use Rattle.vx_link.specs.Parts.{method_at, no_method}
-use Rattle.vx_link.specs.Signature.{signature}
 use Rattle.vx_link.specs.declared.program.LinkedMethod.{LinkedMethod}
 use Rattle.vx_link.specs.declared.program.Program.{Program}
-use Rattle.vx_outcome.specs.declared.outcome.Outcome.{Outcome}
-use Rattle.vx_group_states.specs.Answering.{operands_at}
-use Rattle.vx_group_states.specs.Sites.{Gives, GivesAt, here}
-use Rattle.vx_group_states.specs.Stands.{plain_frame, state_at}
-use Rattle.vx_group_states.specs.declared.site.Site.{Site}
-use Rattle.vx_group_states.proofs.EndingLaws.{GivesAt-before}
-use Rattle.vx_group_states.proofs.SettleLaws.{lifting_at, stack_scope}
-use Rattle.vx_group_states.proofs.StateLaws.{both_first, both_second}
-use Rattle.vx_families.specs.Attempts.{IsAttemptBy, IsGiven, row_by}
-use Rattle.vx_families.specs.Bounds.{IsBounded, is_short}
-use Rattle.vx_families.proofs.AttemptLaws.{AttemptsBy-as, IsAttemptBy-is}
-use Rattle.vx_families.specs.Sorts.{slot_is_of}
-use Rattle.vx_families.proofs.SlotSorts.{same_sort}
-use Rattle.vx_returns.specs.Ends.{ended_by, ended_where, returned_by}
+use Rattle.vx_ready.proofs.Rows.{globals_of}
+use Rattle.vx_ready.specs.Initialising.{with_done}
+use Rattle.vx_space.specs.Sets.{Sets}
+use Rattle.vx_value.specs.declared.end.End.TheVariants.{Illegal}
+use Rattle.vx_value.specs.declared.key.Kind.{Kind}
+use Rattle.vx_value.specs.declared.key.Kind.TheVariants.{Call, Init, Wait}
+use Rattle.vx_value.specs.declared.slot.Slot.{Slot}
+use Rattle.vx_returns.specs.Handing.{handed, left_to, received}
+use Rattle.vx_returns.specs.declared.receiving.ReturnSite.{ReturnSite}
 
 -- ---- the descriptor
 
@@ -66,27 +55,25 @@ short_descriptor p n b =
         let few : k < 65536 = grind (arith, nat_tests) in
         omega (arith, few)
 
--- ---- a frame without callers
+-- ---- marked, and then left
 
-value_handed : (h : Here) (sort : Option Sort) (o : Option (List Value)) → h.state.callers ≡ [] → ended_by h.program (is_some o) h.state ≡ return_value h o
-value_handed h sort None e = refl
-value_handed h sort (Some value) e = sym (ap (return_to h h.state.top.kind value) e)
+-- a frame is an initialisation, and another frame is below it
+abbrev pub initialises : Kind → List Frame → Bool
+initialises Call callers = false
+initialises _ [] = false
+initialises _ (f ∷ below) = true
 
-returned_row : (site : Site) (sort : Option Sort) (s : State) → s.callers ≡ [] → agrees sort (signature (method_at site.program.now s.top.method).descriptor).result ≡ true → returned_by site.program.now sort s ≡ row_by site (Return sort) s
-returned_row site sort s e h = value_handed (here site s) sort (values_returned sort s.top.operands) e ∙ sym (ap (λ b. when b (return_value (here site s) (values_returned sort s.top.operands)) (illegal (here site s))) h)
+-- the globals in which its class is done
+abbrev pub marked : Program → State → Kind → List Frame → Globals
+marked p s kind callers = if initialises kind callers then with_done (current_class p s ∷ []) (globals_of s) else globals_of s
 
-no_callers : {S I : Type 0} (sets : Sets I) (heap : HeapView S I) (tree : List (Option (Caller S I))) (group : GroupView S I) (c : List Bool) → group.below ≡ [] → (state_at sets heap tree group c).callers ≡ []
-no_callers sets heap tree group c e = ap (λ below. map (plain_frame sets heap c) (frames_at sets (callers_of tree (length below) group.caller) c)) e
-
--- ---- an attempt
-
-pub returned-by : {S I : Type 0} (site : Site) (operation : Operation) {old new : Sets I} (heap : HeapView S I) (group : GroupView S I) (sort : Option Sort) (outcomes : List (Outcome S I)) → operation ≡ Return sort → Extends old new → IsGiven site operation old heap group → group.below ≡ [] → agrees sort (signature (method_at site.program.now group.top.method.0).descriptor).result ≡ true → Gives site.program.now (returned_by site.program.now sort) old new group outcomes → IsAttemptBy site operation old new heap heap group outcomes
-returned-by site operation {old = old} {new = new} heap group sort outcomes is e given single h gives = IsAttemptBy-is site operation (Return sort) old new heap heap group outcomes is (AttemptsBy-as site operation (row_by site (Return sort)) heap group (λ _ _. returned_by site.program.now sort) outcomes (Extends-refl old) e given (λ tree s c t. returned_row site sort (state_at old heap tree group c) (no_callers old heap tree group c single) h) (gives heap))
-
-pub disagreed-by : {S I : Type 0} (site : Site) (operation : Operation) (sets : Sets I) (heap : HeapView S I) (group : GroupView S I) (sort : Option Sort) (outcomes : List (Outcome S I)) → operation ≡ Return sort → IsGiven site operation sets heap group → agrees sort (signature (method_at site.program.now group.top.method.0).descriptor).result ≡ false → Gives site.program.now (illegal_in site.program.now) sets sets group outcomes → IsAttemptBy site operation sets sets heap heap group outcomes
-disagreed-by site operation sets heap group sort outcomes is given h gives = IsAttemptBy-is site operation (Return sort) sets sets heap heap group outcomes is (AttemptsBy-as site operation (row_by site (Return sort)) heap group (λ _ _. illegal_in site.program.now) outcomes (Extends-refl sets) (Extends-refl sets) given (λ tree s c t.
-    let state = state_at sets heap tree group c in
-    sym (ap (λ b. when b (return_value (here site state) (values_returned sort state.top.operands)) (illegal (here site state))) h)) (gives heap))
+pub left_is_return : (site : Site) (s : State) (value : List Value) (kind : Kind) (callers : List Frame) → left_to (here site (with_globals s (marked site.program.now s kind callers))) kind value callers ≡ return_to (here site s) kind value callers
+left_is_return site s value Call [] = refl
+left_is_return site s value Init [] = refl
+left_is_return site s value Wait [] = refl
+left_is_return site s value Call (f ∷ below) = refl
+left_is_return site s value Init (f ∷ below) = refl
+left_is_return site s value Wait (f ∷ below) = refl
 
 -- ---- the value that is handed back
 
@@ -94,14 +81,24 @@ chosen : {T : Type 0} (b : Bool) (v : T) → is_some (if b then Some v else None
 chosen true v = refl
 chosen false v = refl
 
-handed : {S I : Type 0} (sets : Sets I) (heap : HeapView S I) (c : List Bool) (sort : Sort) (slots : List Slot) (slot : Slot) → Some slot ≡ slice_get slots 0 → slot_is_of sort slot ≡ is_some (values_returned (Some sort) (map (value_of sets heap c) slots))
-handed sets heap c sort [] slot e = cc
-handed sets heap c sort (s ∷ ss) slot e =
+-- a value of the sort is the one that is handed back
+pub judged : (h : Here) (sort : Sort) (kind : Kind) (callers : List Frame) (operands : List Value) (fits : Bool) → h.state.top.kind ≡ kind → h.state.callers ≡ callers → fits ≡ is_some (values_returned (Some sort) operands) → when fits (return_to h kind (handed true operands) callers) (illegal h) ≡ return_value h (values_returned (Some sort) operands)
+judged h sort kind callers [] fits k c f = ap (λ b. when b (return_to h kind [] callers) (illegal h)) f
+judged h sort kind callers (v ∷ rest) fits k c f = by_sort (is_of sort v) f
+  where
+    by_sort : (b : Bool) → fits ≡ is_some (if b then Some (v ∷ []) else None) → when fits (return_to h kind (v ∷ []) callers) (illegal h) ≡ return_value h (if b then Some (v ∷ []) else None)
+    by_sort true e = ap (λ b. when b (return_to h kind (v ∷ []) callers) (illegal h)) e ∙ sym (λ i. return_to h (k i) (v ∷ []) (c i))
+    by_sort false e = ap (λ b. when b (return_to h kind (v ∷ []) callers) (illegal h)) e
+
+-- the slot on top is of the sort exactly where a value is handed back
+pub handed_slot : {S I : Type 0} (sets : Sets I) (heap : HeapView S I) (c : List Bool) (sort : Sort) (slots : List Slot) (slot : Slot) → Some slot ≡ slice_get slots 0 → slot_is_of sort slot ≡ is_some (values_returned (Some sort) (map (value_of sets heap c) slots))
+handed_slot sets heap c sort [] slot e = cc
+handed_slot sets heap c sort (s ∷ ss) slot e =
     let same : slot ≡ s = cc in
     ap (slot_is_of sort) same ∙ sym (same_sort sets heap c sort s) ∙ sym (chosen (is_of sort (value_of sets heap c s)) (value_of sets heap c s ∷ []))
 
 -- the operand on top
-top_operand : {S I : Type 0} (sets : Sets I) (row : Conditionals Slot S I) (cond : Conditional Slot S I) (c : List Bool) → 0 < length row.conds → Some cond ≡ slice_get row.conds (length row.conds - 1) → Some (slot_at sets cond c) ≡ slice_get (operands_at sets row c) 0
+pub top_operand : {S I : Type 0} (sets : Sets I) (row : Conditionals Slot S I) (cond : Conditional Slot S I) (c : List Bool) → 0 < length row.conds → Some cond ≡ slice_get row.conds (length row.conds - 1) → Some (slot_at sets cond c) ≡ slice_get (operands_at sets row c) 0
 top_operand sets row cond c l e =
     let slots = slots_at sets row c in
     let x = slot_at sets cond c in
@@ -112,33 +109,28 @@ top_operand sets row cond c l e =
     let found : slice_get slots (length slots - 1 - 0) ≡ Some x = ap (slice_get slots) (sym last) ∙ sym (slots_at-get sets row (length row.conds - 1) cond c e) in
     sym (slice_get-get_or (reverse slots) 0 x turned ∙ ap Some (get_or-reverse slots 0 x inside ∙ get_or_from_slice_get slots (length slots - 1 - 0) x x found))
 
-truth : (R : Slot → Bool → Type 0) (sort : Sort) (n : Option Slot) (b : Option Bool) → ((n : Slot) (b : Bool) → R n b → b ≡ slot_is_of sort n) → is_some n ≡ true → IsLifted R n b → unwrap_or b false ≡ slot_is_of sort (or_top n)
-truth R sort None b law t l = cc
-truth R sort (Some n) None law t l = absurd l
-truth R sort (Some n) (Some b) law t l = law n b l
+-- ---- the frame that is left, above the state of its caller
 
-pub value-gives : {S I : Type 0} (p : Program) {s0 s1 : Sets I} (group : GroupView S I) (cond : Conditional Slot S I) (answers : Conditional Bool S I) (sort : Sort) (R : Slot → Bool → Type 0) (outcomes : List (Outcome S I)) → ((n : Slot) (b : Bool) → R n b → b ≡ slot_is_of sort n) → Extends s0 s1 → IsGroup s0 group → 0 < length group.top.stack.conds → Some cond ≡ slice_get group.top.stack.conds (length group.top.stack.conds - 1) → IsCondLifting bool_cmp s1 R (cond_at s0 cond) answers → ((heap : HeapView S I) → GivesAt p (λ _. ended_where p s1 answers.leaves) s1 s1 group outcomes heap) → Gives p (returned_by p (Some sort)) s0 s1 group outcomes
-value-gives p {s0 = s0} {s1 = s1} group cond answers sort R outcomes law e v some at l gives heap = GivesAt-before p s1 group heap (λ _. ended_where p s1 answers.leaves) (λ _ _. returned_by p (Some sort)) outcomes e (λ tree h s c t.
-    let state = state_at s0 heap tree group c in
-    let there = IsRow-get slot_cmp s0 group.top.stack (length group.top.stack.conds - 1) cond (IsFrame-stack s0 group.top (IsGroup-top s0 group v)) at in
-    let covered = cond_at-covers slot_cmp s0 cond there.0 c ∙ ap (λ i. s0.test i c) (there.1 ∙ stack_scope s0 group v) ∙ t in
-    ap (λ b. ended_by p b state) (truth R sort (cond_at s0 cond c) (cond_at s1 answers c) law covered (lifting_at bool_cmp s1 R (cond_at s0 cond) answers l c) ∙ handed s0 heap c sort (operands_at s0 group.top.stack c) (slot_at s0 cond c) (top_operand s0 group.top.stack cond c some at))) (gives heap)
+-- the caller past its call, with the value
+abbrev pub resumed : Program → State → List Value → State
+resumed p s value = record s { top = frame_resumed p s.top value }
 
-no_value : {S I : Type 0} (sets : Sets I) (heap : HeapView S I) (c : List Bool) (sort : Sort) (slots : List Slot) → length slots ≡ 0 → false ≡ is_some (values_returned (Some sort) (map (value_of sets heap c) slots))
-no_value sets heap c sort [] h = refl
-no_value sets heap c sort (s ∷ ss) h = absurd (omega (arith, h))
+pub left_call : (site : Site) (s : State) (f : Frame) (value : List Value) → f.kind ≡ Call → left_to (here site (with_frame s f)) f.kind value (s.top ∷ s.callers) ≡ when (fits_caller site.program.now s.top value) (Go (resumed site.program.now s value)) (Ended (Illegal (place_at site.program.now f.method f.position)))
+left_call site s f value k = by_kind f.kind k
+  where
+    by_kind : (kind : Kind) → kind ≡ Call → left_to (here site (with_frame s f)) kind value (s.top ∷ s.callers) ≡ when (fits_caller site.program.now s.top value) (Go (resumed site.program.now s value)) (Ended (Illegal (place_at site.program.now f.method f.position)))
+    by_kind Call k = refl
+    by_kind Init k = cc k
+    by_kind Wait k = cc k
 
-pub none-gives : {S I : Type 0} (p : Program) (sets : Sets I) (group : GroupView S I) (sort : Sort) (outcomes : List (Outcome S I)) → length group.top.stack.conds ≡ 0 → Gives p (illegal_in p) sets sets group outcomes → Gives p (returned_by p (Some sort)) sets sets group outcomes
-none-gives p sets group sort outcomes e gives heap = GivesAt-before p sets group heap (λ _ _. illegal_in p) (λ _ _. returned_by p (Some sort)) outcomes (Extends-refl sets) (λ tree h s c t.
-    let state = state_at sets heap tree group c in
-    let none : length (operands_at sets group.top.stack c) ≡ length group.top.stack.conds = simp (length-map, length-reverse) in
-    ap (λ b. ended_by p b state) (no_value sets heap c sort (operands_at sets group.top.stack c) (none ∙ e))) (gives heap)
+pub left_waiting : (site : Site) (s : State) (f : Frame) (value : List Value) → is_call f.kind ≡ false → left_to (here site (with_frame s f)) f.kind value (s.top ∷ s.callers) ≡ Go (state_awake s)
+left_waiting site s f value k = by_kind f.kind k
+  where
+    by_kind : (kind : Kind) → is_call kind ≡ false → left_to (here site (with_frame s f)) kind value (s.top ∷ s.callers) ≡ Go (state_awake s)
+    by_kind Call k = cc k
+    by_kind Init k = refl
+    by_kind Wait k = refl
 
-pub positive : (n : ℕ) → (n ≡ 0 → ⊥) → 0 < n
-positive zero f = absurd (f refl)
-positive (suc n) f = omega arith
-
-pub sort-gives : {S I : Type 0} (p : Program) (old new : Sets I) (group : GroupView S I) (sort other : Option Sort) (outcomes : List (Outcome S I)) → sort ≡ other → Gives p (returned_by p other) old new group outcomes → Gives p (returned_by p sort) old new group outcomes
-sort-gives p old new group sort other outcomes e h =
-    let P : Option Sort → Type 0 = λ o. Gives p (returned_by p o) old new group outcomes in
-    subst P (sym e) h
+-- a value that is received by the caller past its call is one that is handed back to it
+pub received_is : (p : Program) (at : ReturnSite) (s : State) (v : Value) → received p at v (resumed p s []) ≡ when (fits_caller p s.top (v ∷ [])) (Go (resumed p s (v ∷ []))) (Ended (Illegal (place_at p at.method.0 at.position)))
+received_is p at s v = refl

@@ -1,0 +1,3 @@
+pub mod RaiseLaws
+pub mod ThrowLaws
+pub mod Falling

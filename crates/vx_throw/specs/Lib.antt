@@ -1,0 +1,3 @@
+pub mod Thrown
+pub mod Flights
+pub mod Landings
