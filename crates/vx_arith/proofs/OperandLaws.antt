@@ -1,5 +1,5 @@
 -- From what is made of the operands of a group to the row at each configuration.
-use Rattle.std.proofs.Common.{◌≡◌, ℕ, ◌+◌, ◌^◌, ◌<◌, ◌≤◌, Bool, true, List, ◌∷◌, refl, sym, ◌∙◌, ap, subst, drop, map, length, arith}
+use Rattle.std.proofs.Common.{◌≡◌, ℕ, ◌+◌, ◌^◌, ◌<◌, ◌≤◌, Bool, true, List, refl, sym, ◌∙◌, ap, subst, drop, map, length, arith}
 use Rattle.std.proofs.lemmas.List.{length-map, length-reverse}
 use Rattle.std.specs.Prelude.{Option}
 use Rattle.vx_space.specs.Sets.{Sets, Extends}
@@ -10,10 +10,8 @@ use Rattle.vx_frame.specs.declared.frame.Frame.{Frame}
 use Rattle.vx_group.specs.declared.callers.Caller.{Caller}
 use Rattle.vx_group.specs.Group.{GroupView, IsGroup, path_of}
 use Rattle.vx_group.proofs.GroupLaws.{IsGroup-path_known}
-use Rattle.vx_heap.specs.Heap.{HeapView, IsHeap, value_of}
-use Rattle.vx_heap.proofs.HeapLaws.{value_of-extends}
-use Rattle.vx_java.specs.Machine.{Here, Value, go, illegal_in, push}
-use Rattle.vx_java.specs.Machine.{Throw as ThrowOutcome}
+use Rattle.vx_heap.specs.Heap.{HeapView, value_of}
+use Rattle.vx_java.specs.Machine.{illegal_in}
 use Rattle.vx_java.specs.declared.operation.Operation.{Operation}
 use Rattle.vx_outcome.specs.declared.outcome.Outcome.{Outcome}
 use Rattle.vx_group_states.specs.Answering.{AreHeld, IsReady, answer_at, answered, answered_by, is_answer_held, operands_at}
@@ -21,30 +19,17 @@ use Rattle.vx_group_states.specs.Answers.{answer_cmp}
 use Rattle.vx_group_states.specs.Sites.{Gives, GivesAt, here}
 use Rattle.vx_group_states.specs.Stands.{state_at}
 use Rattle.vx_group_states.specs.declared.answer.Answer.{Answer}
-use Rattle.vx_group_states.specs.declared.answer.Answer.TheVariants.{Illegal, Jump, Push, Raise, Pass, Give, Write, Exit, Throw}
 use Rattle.vx_group_states.specs.declared.site.Site.{Site}
 use Rattle.vx_group_states.proofs.EndingLaws.{GivesAt-before}
-use Rattle.vx_group_states.proofs.OutcomeStates.{object_named-extends}
 use Rattle.vx_group_states.proofs.SettleLaws.{stack_scope}
 use Rattle.vx_families.specs.Attempts.{row_by}
+use Rattle.vx_families.proofs.Answered.{answered-extends}
 use Rattle.vx_arith.specs.Family.{divides, takes_one, takes_two}
 use Rattle.vx_arith.specs.Numbers.{of_top, of_top_two}
 use Rattle.vx_arith.specs.Raising.{IsForZero}
 use Rattle.vx_arith.specs.declared.spot.Spot.{Spot}
 use Rattle.vx_arith.proofs.HeldLaws.{top_held, top_two_held, zero_held, zero_raises}
 use Rattle.vx_arith.proofs.RowLaws.{IsSpotOf, few_row, none_row, top_row, top_two_row}
-
--- what comes of an answer over a later space
-answered-extends : {S I : Type 0} {s0 s1 : Sets I} → Extends s0 s1 → (heap : HeapView S I) → IsHeap s0 heap → (c : List Bool) (h : Here) (rest : List Value) (answer : Answer) → answered s1 heap c h rest answer ≡ answered s0 heap c h rest answer
-answered-extends e heap v c h rest Illegal = refl
-answered-extends e heap v c h rest (Raise class message) = refl
-answered-extends e heap v c h rest (Push slot) = ap (λ (top : Value). push h top rest) (value_of-extends e heap v c slot)
-answered-extends e heap v c h rest (Jump position) = refl
-answered-extends e heap v c h rest Pass = refl
-answered-extends e heap v c h rest (Give slot) = ap (λ (top : Value). go h (top ∷ rest)) (value_of-extends e heap v c slot)
-answered-extends e heap v c h rest (Write stream text) = refl
-answered-extends e heap v c h rest (Exit code) = refl
-answered-extends e heap v c h rest (Throw slot) = ap (λ r. ThrowOutcome r h.state) (object_named-extends e heap v c slot)
 
 -- there are as many operands at each configuration
 operand_count : {S I : Type 0} (sets : Sets I) (group : GroupView S I) (c : List Bool) → length (operands_at sets group.top.stack c) ≡ length group.top.stack.conds

@@ -10,3 +10,5 @@ mod spot;
 
 pub use attempting::attempt;
 pub use family::is_of_numbers;
+pub use jumping::branch_by;
+pub use spot::{Spot, spot_at};

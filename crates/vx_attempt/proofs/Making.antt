@@ -14,7 +14,7 @@ use Rattle.vx_heap.specs.Heap.{HeapView}
 use Rattle.vx_families.specs.Attempts.{IsAtSite, IsAttemptIn, IsGiven, MeetsUnbuilt, row_by}
 use Rattle.vx_families.specs.Bounds.{IsBounded, has_short_code}
 use Rattle.vx_families.specs.Built.{has_none, is_built_at, is_built_in, is_built_operation, is_built_outcome, is_built_there, is_call, is_single}
-use Rattle.vx_invoke.proofs.Rows.{first_false, row_there, third_false}
+use Rattle.vx_families.proofs.Entries.{first_false, row_there, third_false}
 use Rattle.vx_java.specs.Machine.{State, illegal_in}
 use Rattle.vx_java.specs.Operation.{operation_of}
 use Rattle.vx_java.specs.Row.{row, row_if, row_in}

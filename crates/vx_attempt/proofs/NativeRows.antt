@@ -1,23 +1,26 @@
 -- A native method is left to be carried out in the very state in which its call was attempted.
 use Rattle.std.proofs.Common.{◌≡◌, ℕ, ℤ, Bool, true, false, List, [], ◌∷◌, refl}
-use Rattle.std.specs.Prelude.{Option, Some, None, ◌&&◌, ◌==◌, nat_lt, not}
+use Rattle.std.specs.List.{list_any}
+use Rattle.std.specs.Prelude.{Option, Some, None, ◌&&◌, ◌-◌, ◌||◌, ◌==◌, codes, map, nat_lt, not, pos}
 use Rattle.std.specs.Int.{w32, w64}
-use Rattle.vx_class.specs.Members.{STATIC}
+use Rattle.vx_class.specs.Members.{ABSTRACT, STATIC}
 use Rattle.vx_class.specs.declared.class_file.Code.{Code}
 use Rattle.vx_desc.specs.Descriptors.{field_type}
 use Rattle.vx_desc.specs.declared.java_type.JavaType.{JavaType}
-use Rattle.vx_families.specs.Built.{is_built_operation, is_println, is_virtual}
+use Rattle.vx_families.specs.Built.{is_built_operation, is_object_init, is_println, is_special, is_virtual}
+use Rattle.vx_java.specs.Arrays.{array_length, array_of, at_index, element_sort, elements_of_numbers, grid_cells, is_array_of, load_element, may_store, new_array, new_grid, new_grid_of, new_primitives, new_references, lengths_off, push_grid, store_element, value_kept}
 use Rattle.vx_java.specs.Calls.{arguments_off, call_instance, carry_out, clone_array, dispatch, enter, if_arguments, if_method, invoke, is_receiver, on_class, on_receiver, selection, state_in_callee, wrong_kind}
-use Rattle.vx_java.specs.Checks.{fits_type, if_there, is_of, non_null, same_bool, sort_of, width_of_type, with_class}
-use Rattle.vx_java.specs.FirstObjects.{literal_object}
+use Rattle.vx_java.specs.Checks.{fits_type, if_there, is_instance_of, is_object, is_of, is_within, non_null, same_bool, same_reference, sort_of, width_of_sort, width_of_type, with_class}
+use Rattle.vx_java.specs.FirstObjects.{literal_object, narrowed_value, new_object}
 use Rattle.vx_java.specs.Calculation.{int_arithmetic, int_result, int_shift, long_arithmetic, long_compare, long_result, long_shift, on_int, on_long}
-use Rattle.vx_java.specs.Jumps.{branch, if_int, if_ints, if_null, jump, switch_lookup, switch_table}
+use Rattle.vx_java.specs.Jumps.{branch, if_int, if_ints, if_null, if_same, jump, switch_lookup, switch_table}
 use Rattle.vx_java.specs.Locals.{increase, load, locals_with, store, with_locals}
 use Rattle.vx_java.specs.Constants.{push_entry}
-use Rattle.vx_java.specs.Fields.{Found, declaring, get_static, if_agreeing, if_field, if_sort, if_type, put_static, put_value, static_value, with_written}
+use Rattle.vx_java.specs.Fields.{Found, cell_of, declaring, get_field, get_from, get_static, if_agreeing, if_field, if_sort, if_type, put_field, put_into, put_static, put_value, static_value, with_written}
 use Rattle.vx_java.specs.Initialisation.{by_state, when_initialised, when_not}
-use Rattle.vx_java.specs.Machine.{Frame, Here, Outcome, State, Value, Go, Native, depth, fit, frame_bound, go, has_room, illegal, init_at, method_text, object_at, past, push, push_new, raise, settle, unsupported, when, Top, Int, Long, Null, Ref, Text}
-use Rattle.vx_java.specs.Operation.{native_word}
+use Rattle.vx_java.specs.Machine.{Frame, Here, Outcome, State, Value, Go, Native, cell_at, depth, fit, frame_bound, go, has_room, illegal, init_at, length_bound, method_text, object_at, past, push, push_new, raise, raise_with, settle, unsupported, when, with_cell, Top, Int, Long, Null, Ref, Text}
+use Rattle.vx_java.specs.Objects.{against, check_cast, instance_of, int_of_bool, monitor, new_instance, new_of_class}
+use Rattle.vx_java.specs.Operation.{float_word, native_word}
 use Rattle.vx_java.specs.Returns.{agrees, fits_caller, frame_resumed, return_to, return_value, values_returned}
 use Rattle.vx_java.specs.Row.{row_of}
 use Rattle.vx_java.specs.StackForms.{lower_taken, upper_taken}
@@ -27,18 +30,22 @@ use Rattle.vx_java.specs.declared.operation.Operation.{Operation}
 use Rattle.vx_java.specs.declared.operation.Operation.TheVariants as operation
 use Rattle.vx_java.specs.declared.operation.Shuffle.{Shuffle}
 use Rattle.vx_java.specs.declared.operation.Test.{Test}
-use Rattle.vx_value.specs.Arithmetic.{compare_long_of, long_to_int, narrow_of, negation, shift_int_of, shift_long_of}
+use Rattle.vx_value.specs.Arithmetic.{compare_long_of, long_to_int, narrow_of, natural, negation, negative, shift_int_of, shift_long_of}
 use Rattle.vx_value.specs.declared.operation.IntOp.{IntOp}
 use Rattle.vx_value.specs.declared.operation.ShiftOp.{ShiftOp}
+use Rattle.vx_java.specs.declared.operation.Element.{Element}
 use Rattle.vx_java.specs.declared.operation.Sort.{Sort}
+use Rattle.vx_java.specs.declared.operation.Sort.TheVariants.{Reference}
 use Rattle.vx_java.specs.declared.selected.Selected.{Selected}
 use Rattle.vx_java.specs.declared.selected.Selected.TheVariants as selected
-use Rattle.vx_link.specs.ClassNames.{class_named}
-use Rattle.vx_link.specs.Names.{Member, member, utf8}
+use Rattle.vx_link.specs.ClassNames.{array_class, array_over, class_named, double_element, float_element, int_element, is_array}
+use Rattle.vx_link.specs.Names.{Member, class_name, member, utf8}
 use Rattle.vx_link.specs.Assignability.{assignable}
-use Rattle.vx_link.specs.Parts.{has, is_interface, method_at}
+use Rattle.vx_link.specs.Parts.{class_at, has, is_interface, method_at}
 use Rattle.vx_link.specs.Resolution.{is_array_clone, resolve_field, resolve_method}
 use Rattle.vx_link.specs.Signature.{signature}
+use Rattle.vx_list.specs.Places.{item_or}
+use Rattle.std.specs.Fmt.{signed_decimal}
 use Rattle.vx_pool.specs.declared.pool.Entry.{Entry}
 use Rattle.vx_pool.specs.declared.pool.Entry.TheVariants as entry
 use Rattle.vx_value.specs.declared.key.Kind.{Kind}
@@ -50,6 +57,12 @@ use Rattle.vx_value.specs.declared.slot.InitState.TheVariants as init
 abbrev pub StaysIn : State → Outcome → Type 0
 StaysIn s (Native m t) = t ≡ s
 StaysIn s _ = Unit {0}
+
+-- a call that names the class of its receiver
+abbrev calls_object : Mode → Bool
+calls_object mode.Virtual = true
+calls_object mode.Special = true
+calls_object _ = false
 
 module _ (s : State) where
   by_when : (b : Bool) (x y : Outcome) → StaysIn s x → StaysIn s y → StaysIn s (when b x y)
@@ -173,6 +186,10 @@ module _ (h : Here) where
   of_null wanted offset (Ref r ∷ rest) = branched _ offset rest
   of_null wanted offset _ = tt
 
+  of_references : (wanted : Bool) (offset : ℤ) (operands : List Value) → Stays (if_same h wanted offset operands)
+  of_references wanted offset (b ∷ a ∷ rest) = by_when h.state (is_of Reference a && is_of Reference b) (branch h (same_bool wanted (same_reference a b)) offset rest) (illegal h) (branched _ offset rest) tt
+  of_references wanted offset _ = tt
+
   of_table : (fallback low high : ℤ) (first : ℕ) (operands : List Value) → Stays (switch_table h fallback low high first operands)
   of_table fallback low high first (Int key ∷ rest) = tt
   of_table fallback low high first _ = tt
@@ -238,7 +255,138 @@ module _ (h : Here) where
   put : (i : ℕ) → Stays (put_static h i)
   put i = of_type (member h.pool i) true (field_type (member h.pool i).descriptor) (λ found. put_value h found h.state.top.operands) (λ found. put_stays found h.state.top.operands)
 
-  -- ---- virtual calls
+  -- ---- instance fields
+
+  got_from : (found : Found) (operands : List Value) → Stays (get_from h found operands)
+  got_from found [] = tt
+  got_from found (o ∷ rest) =
+      let then : ℕ → Outcome = λ r. go h (cell_at h.state r (cell_of h found) ∷ rest) in
+      by_when h.state (is_instance_of h found.named o && has_room h (width_of_type found.type) rest) (non_null h o then) (illegal h) (by_non_null h.state h o then (λ r. tt)) tt
+
+  of_get : (i : ℕ) → Stays (get_field h i)
+  of_get i = of_type (member h.pool i) false (field_type (member h.pool i).descriptor) (λ found. get_from h found h.state.top.operands) (λ found. got_from found h.state.top.operands)
+
+  put_in : (found : Found) (operands : List Value) → Stays (put_into h found operands)
+  put_in found (v ∷ o ∷ rest) =
+      let then : ℕ → Outcome = λ r. Go (past h (with_cell h.state r (cell_of h found) (narrowed_value found.type v)) rest) in
+      by_when h.state (fits_type found.type v && is_instance_of h found.named o) (non_null h o then) (illegal h) (by_non_null h.state h o then (λ r. tt)) tt
+  put_in found _ = tt
+
+  of_put : (i : ℕ) → Stays (put_field h i)
+  of_put i = of_type (member h.pool i) false (field_type (member h.pool i).descriptor) (λ found. put_into h found h.state.top.operands) (λ found. put_in found h.state.top.operands)
+
+  -- ---- objects
+
+  made : (c : ℕ) → Stays (new_of_class h c)
+  made c =
+      let then : Here → Outcome = λ g. push_new g (new_object g.program c) g.state.top.operands in
+      let room : Outcome = when (has_room h 1 h.state.top.operands) (when_initialised h c then) (illegal h) in
+      by_when h.state (has ABSTRACT (class_at h.program c).flags || is_interface h.program c) (raise h "java/lang/InstantiationError") room tt
+      (by_when h.state (has_room h 1 h.state.top.operands) (when_initialised h c then) (illegal h) (by_init h.state h c (init_at h.state.inits c) true then (λ g. tt)) tt)
+
+  of_new : (i : ℕ) → Stays (new_instance h i)
+  of_new i = by_there h.state h (class_name h.pool i) (class_named h.program (class_name h.pool i)) (new_of_class h) made
+
+  monitored : (operands : List Value) → Stays (monitor h operands)
+  monitored [] = tt
+  monitored (o ∷ rest) = by_when h.state (is_of Reference o) (non_null h o (λ r. go h rest)) (illegal h) (by_non_null h.state h o (λ r. go h rest) (λ r. tt)) tt
+
+  by_class : (v : Value) (c : ℕ) (rest : Bool → Outcome) → ((b : Bool) → Stays (rest b)) → Stays (against h v c rest)
+  by_class (Ref r) c rest f = f _
+  by_class Top c rest f = tt
+  by_class (Int n) c rest f = tt
+  by_class (Long n) c rest f = tt
+  by_class Null c rest f = tt
+  by_class (Text t) c rest f = tt
+
+  cast_of : (name : List ℕ) (v : Value) (rest : List Value) → Stays (with_class h name (λ c. against h v c (λ fits. when fits (go h (v ∷ rest)) (raise h "java/lang/ClassCastException"))))
+  cast_of name v rest =
+      let then : Bool → Outcome = λ fits. when fits (go h (v ∷ rest)) (raise h "java/lang/ClassCastException") in
+      by_there h.state h name (class_named h.program name) (λ c. against h v c then) (λ c. by_class v c then (λ fits. by_when h.state fits (go h (v ∷ rest)) (raise h "java/lang/ClassCastException") tt tt))
+
+  cast : (name : List ℕ) (operands : List Value) → Stays (check_cast h name operands)
+  cast name [] = by_there h.state h name (class_named h.program name) (λ c. illegal h) (λ c. tt)
+  cast name (Null ∷ rest) = tt
+  cast name (Top ∷ rest) = cast_of name Top rest
+  cast name (Int n ∷ rest) = cast_of name (Int n) rest
+  cast name (Long n ∷ rest) = cast_of name (Long n) rest
+  cast name (Ref r ∷ rest) = cast_of name (Ref r) rest
+  cast name (Text t ∷ rest) = cast_of name (Text t) rest
+
+  told_of : (name : List ℕ) (v : Value) (rest : List Value) → Stays (with_class h name (λ c. against h v c (λ fits. push h (int_of_bool fits) rest)))
+  told_of name v rest =
+      let then : Bool → Outcome = λ fits. push h (int_of_bool fits) rest in
+      by_there h.state h name (class_named h.program name) (λ c. against h v c then) (λ c. by_class v c then (λ fits. pushed (int_of_bool fits) rest))
+
+  told : (name : List ℕ) (operands : List Value) → Stays (instance_of h name operands)
+  told name [] = by_there h.state h name (class_named h.program name) (λ c. illegal h) (λ c. tt)
+  told name (Null ∷ rest) = pushed (int_of_bool false) rest
+  told name (Top ∷ rest) = told_of name Top rest
+  told name (Int n ∷ rest) = told_of name (Int n) rest
+  told name (Long n ∷ rest) = told_of name (Long n) rest
+  told name (Ref r ∷ rest) = told_of name (Ref r) rest
+  told name (Text t ∷ rest) = told_of name (Text t) rest
+
+  -- ---- arrays
+
+  of_length : (class : ℕ) (operands : List Value) → Stays (new_array h class operands)
+  of_length class (Int n ∷ rest) =
+      let array : Outcome = push_new h (array_of h.program class (natural n)) rest in
+      let bounded : Outcome = when (nat_lt length_bound (natural n)) (raise h "java/lang/OutOfMemoryError") array in
+      by_when h.state (negative n) (raise h "java/lang/NegativeArraySizeException") bounded tt (by_when h.state (nat_lt length_bound (natural n)) (raise h "java/lang/OutOfMemoryError") array tt tt)
+  of_length class _ = tt
+
+  of_primitives : (number : ℕ) → Stays (new_primitives h number)
+  of_primitives number =
+      let element = item_or elements_of_numbers (number - 4) int_element in
+      let array : Outcome = new_array h (array_class h.program 1 element) h.state.top.operands in
+      by_when h.state ((element == float_element) || (element == double_element)) (unsupported h float_word (codes "-")) array tt (of_length (array_class h.program 1 element) h.state.top.operands)
+
+  of_components : (i : ℕ) → Stays (new_references h i)
+  of_components i =
+      let then : ℕ → Outcome = λ c. new_array h (array_over h.program c) h.state.top.operands in
+      by_there h.state h (class_name h.pool i) (class_named h.program (class_name h.pool i)) then (λ c. of_length (array_over h.program c) h.state.top.operands)
+
+  of_lengths : (class : ℕ) (o : Option (List ℤ × List Value)) → Stays (new_grid_of h class o)
+  of_lengths class None = tt
+  of_lengths class (Some ([], rest)) = tt
+  of_lengths class (Some (n ∷ more, rest)) =
+      let lengths = n ∷ more in
+      let ns = map natural lengths in
+      let large = list_any (nat_lt length_bound) ns || nat_lt length_bound (grid_cells ns) in
+      let bounded : Outcome = when large (raise h "java/lang/OutOfMemoryError") (push_grid h class ns rest) in
+      by_when h.state (list_any negative lengths) (raise h "java/lang/NegativeArraySizeException") bounded tt (by_when h.state large (raise h "java/lang/OutOfMemoryError") (push_grid h class ns rest) tt tt)
+
+  of_grid : (i d : ℕ) → Stays (new_grid h i d)
+  of_grid i d =
+      let lengths = lengths_off d [] h.state.top.operands in
+      by_there h.state h (class_name h.pool i) (class_named h.program (class_name h.pool i)) (λ c. new_grid_of h c lengths) (λ c. of_lengths c lengths)
+
+  by_index : (r : ℕ) (i : ℤ) (rest : Outcome) → Stays rest → Stays (at_index h r i rest)
+  by_index r i rest f = by_when h.state (is_within i (object_at h.state r).size) rest (raise_with h "java/lang/ArrayIndexOutOfBoundsException" (signed_decimal i)) f tt
+
+  element_loaded : (e : Element) (operands : List Value) → Stays (load_element h e operands)
+  element_loaded e (Int i ∷ a ∷ rest) =
+      let value : ℕ → Outcome = λ r. go h (cell_at h.state r (natural i) ∷ rest) in
+      let then : ℕ → Outcome = λ r. at_index h r i (value r) in
+      by_when h.state (is_object h (is_array_of h.program e) a && has_room h (width_of_sort (element_sort e)) rest) (non_null h a then) (illegal h) (by_non_null h.state h a then (λ r. by_index r i (value r) tt)) tt
+  element_loaded e _ = tt
+
+  element_stored : (e : Element) (operands : List Value) → Stays (store_element h e operands)
+  element_stored e (v ∷ Int i ∷ a ∷ rest) =
+      let keeps : ℕ → Outcome = λ r. Go (past h (with_cell h.state r (natural i) (value_kept e v)) rest) in
+      let value : ℕ → Outcome = λ r. when (may_store h e r v) (keeps r) (raise h "java/lang/ArrayStoreException") in
+      let then : ℕ → Outcome = λ r. at_index h r i (value r) in
+      by_when h.state (is_of (element_sort e) v && is_object h (is_array_of h.program e) a) (non_null h a then) (illegal h) (by_non_null h.state h a then (λ r. by_index r i (value r) (by_when h.state (may_store h e r v) (keeps r) (raise h "java/lang/ArrayStoreException") tt tt))) tt
+  element_stored e _ = tt
+
+  measured : (operands : List Value) → Stays (array_length h operands)
+  measured [] = tt
+  measured (a ∷ rest) =
+      let then : ℕ → Outcome = λ r. go h (Int (pos (object_at h.state r).size) ∷ rest) in
+      by_when h.state (is_object h (is_array h.program) a && has_room h 1 rest) (non_null h a then) (illegal h) (by_non_null h.state h a then (λ r. tt)) tt
+
+  -- ---- calls on objects
 
   entered : (m : ℕ) (code : Option Code) (values rest : List Value) → Stays (enter h m code values rest)
   entered m None values rest = by_when h.state ((method_at h.program m).native == 0) (unsupported h native_word (method_text h.program (method_at h.program m))) (Native m h.state) tt refl
@@ -257,37 +405,46 @@ module _ (h : Here) where
   arguments_stay None next f = tt
   arguments_stay (Some (values, rest)) next f = f values rest
 
-  instance_stays : (m : Member) (named resolved : ℕ) → Stays (call_instance h mode.Virtual m named resolved)
-  instance_stays m named resolved = arguments_stay (arguments_off (signature m.descriptor).arguments h.state.top.operands) (λ values below. on_receiver h m named below (dispatch h mode.Virtual m named resolved values)) (λ values below. on_receiver_stays m named below (dispatch h mode.Virtual m named resolved values) (λ r rest. dispatched values r rest))
+  instance_stays : (mode : Mode) (m : Member) (named resolved : ℕ) → Stays (call_instance h mode m named resolved)
+  instance_stays mode m named resolved = arguments_stay (arguments_off (signature m.descriptor).arguments h.state.top.operands) (λ values below. on_receiver h m named below (dispatch h mode m named resolved values)) (λ values below. on_receiver_stays m named below (dispatch h mode m named resolved values) (λ r rest. dispatched values r rest))
     where
-      dispatched : (values : List Value) (r : ℕ) (rest : List Value) → Stays (dispatch h mode.Virtual m named resolved values r rest)
+      dispatched : (values : List Value) (r : ℕ) (rest : List Value) → Stays (dispatch h mode m named resolved values r rest)
       dispatched values r rest =
           let receiver = (object_at h.state r).class in
-          let which = selection h mode.Virtual m named resolved receiver in
+          let which = selection h mode m named resolved receiver in
           by_when h.state (m.by_interface && not (assignable h.program receiver named)) (wrong_kind h) (carry_out h (Ref r ∷ values) rest which) tt (selected_stays (Ref r ∷ values) rest which)
 
-  method_stays : (m : Member) (named : ℕ) (o : Option ℕ) → Stays (if_method h mode.Virtual m named o)
-  method_stays m named None = tt
-  method_stays m named (Some resolved) = by_when h.state (has STATIC (method_at h.program resolved).flags) (wrong_kind h) (call_instance h mode.Virtual m named resolved) tt (instance_stays m named resolved)
+  resolved_stays : (mode : Mode) → calls_object mode ≡ true → (m : Member) (named : ℕ) (o : Option ℕ) → Stays (if_method h mode m named o)
+  resolved_stays mode k m named None = tt
+  resolved_stays mode.Virtual k m named (Some resolved) = by_when h.state (has STATIC (method_at h.program resolved).flags) (wrong_kind h) (call_instance h mode.Virtual m named resolved) tt (instance_stays mode.Virtual m named resolved)
+  resolved_stays mode.Special k m named (Some resolved) = by_when h.state (has STATIC (method_at h.program resolved).flags) (wrong_kind h) (call_instance h mode.Special m named resolved) tt (instance_stays mode.Special m named resolved)
+  resolved_stays mode.Static k m named (Some resolved) = cc k
+  resolved_stays mode.Interface k m named (Some resolved) = cc k
 
-  on_class_stays : (m : Member) (named : ℕ) → Stays (on_class h mode.Virtual m named)
-  on_class_stays m named = by_clone (is_array_clone h.program named m.name m.descriptor)
+  cloned : (mode : Mode) → calls_object mode ≡ true → (m : Member) (named : ℕ) → Stays (clone_array h mode m named)
+  cloned mode.Virtual k m named = on_receiver_stays m named h.state.top.operands (λ r rest. push_new h (object_at h.state r) rest) (λ r rest. tt)
+  cloned mode.Special k m named = on_receiver_stays m named h.state.top.operands (λ r rest. push_new h (object_at h.state r) rest) (λ r rest. tt)
+  cloned mode.Static k m named = cc k
+  cloned mode.Interface k m named = cc k
+
+  on_class_stays : (mode : Mode) → calls_object mode ≡ true → (m : Member) (named : ℕ) → Stays (on_class h mode m named)
+  on_class_stays mode k m named = by_clone (is_array_clone h.program named m.name m.descriptor)
     where
-      by_clone : (b : Bool) → Stays (elim b [ true ↦ clone_array h mode.Virtual m named | false ↦ if_method h mode.Virtual m named (resolve_method h.program named m.name m.descriptor) ])
-      by_clone true = on_receiver_stays m named h.state.top.operands (λ r rest. push_new h (object_at h.state r) rest) (λ r rest. tt)
-      by_clone false = method_stays m named (resolve_method h.program named m.name m.descriptor)
+      by_clone : (b : Bool) → Stays (elim b [ true ↦ clone_array h mode m named | false ↦ if_method h mode m named (resolve_method h.program named m.name m.descriptor) ])
+      by_clone true = cloned mode k m named
+      by_clone false = resolved_stays mode k m named (resolve_method h.program named m.name m.descriptor)
 
-  invoked : (i : ℕ) → Stays (invoke h mode.Virtual i)
-  invoked i =
+  invoked : (mode : Mode) → calls_object mode ≡ true → (i : ℕ) → Stays (invoke h mode i)
+  invoked mode k i =
       let m = member h.pool i in
-      let then : ℕ → Outcome = λ named. when (same_bool m.by_interface (is_interface h.program named)) (on_class h mode.Virtual m named) (wrong_kind h) in
-      by_there h.state h m.class (class_named h.program m.class) then (λ named. by_when h.state (same_bool m.by_interface (is_interface h.program named)) (on_class h mode.Virtual m named) (wrong_kind h) (on_class_stays m named) tt)
+      let then : ℕ → Outcome = λ named. when (same_bool m.by_interface (is_interface h.program named)) (on_class h mode m named) (wrong_kind h) in
+      by_there h.state h m.class (class_named h.program m.class) then (λ named. by_when h.state (same_bool m.by_interface (is_interface h.program named)) (on_class h mode m named) (wrong_kind h) (on_class_stays mode k m named) tt)
 
-  virtual_stays : (mode : Mode) (i : ℕ) → is_virtual mode && is_println (member h.pool i) ≡ true → Stays (invoke h mode i)
-  virtual_stays mode.Virtual i e = invoked i
-  virtual_stays mode.Special i e = cc e
-  virtual_stays mode.Static i e = cc e
-  virtual_stays mode.Interface i e = cc e
+  call_stays : (mode : Mode) (i : ℕ) → ((is_virtual mode && is_println (member h.pool i)) || (is_special mode && is_object_init (member h.pool i))) ≡ true → Stays (invoke h mode i)
+  call_stays mode.Virtual i e = invoked mode.Virtual refl i
+  call_stays mode.Special i e = invoked mode.Special refl i
+  call_stays mode.Static i e = cc e
+  call_stays mode.Interface i e = cc e
 
   -- ---- each operation that is built
 
@@ -322,6 +479,19 @@ module _ (h : Here) where
       by_when h.state (agrees sort (signature (method_at h.program h.state.top.method).descriptor).result) (return_value h value) (illegal h) (returned value) tt
   row_stays (operation.GetStatic i) e = got i
   row_stays (operation.PutStatic i) e = put i
-  row_stays (operation.Invoke mode i) e = virtual_stays mode i e
+  row_stays (operation.GetField i) e = of_get i
+  row_stays (operation.PutField i) e = of_put i
+  row_stays (operation.New i) e = of_new i
+  row_stays (operation.CheckCast i) e = cast (class_name h.pool i) h.state.top.operands
+  row_stays (operation.InstanceOf i) e = told (class_name h.pool i) h.state.top.operands
+  row_stays operation.Monitor e = monitored h.state.top.operands
+  row_stays (operation.IfSame wanted offset) e = of_references wanted offset h.state.top.operands
+  row_stays (operation.NewPrimitives number) e = of_primitives number
+  row_stays (operation.NewReferences i) e = of_components i
+  row_stays (operation.NewGrid i d) e = of_grid i d
+  row_stays (operation.LoadElement e) k = element_loaded e h.state.top.operands
+  row_stays (operation.StoreElement e) k = element_stored e h.state.top.operands
+  row_stays operation.Length e = measured h.state.top.operands
+  row_stays (operation.Invoke mode i) e = call_stays mode i e
   row_stays (operation.Refuse word) e = tt
   row_stays _ e = cc e

@@ -1,10 +1,10 @@
 -- What is refused after native methods and beginnings were carried out comes from attempts that aren't built.
 use Rattle.std.proofs.Common.{◌≡◌, ℕ, Bool, true, false, List, [], ◌∷◌, ◌++◌, refl, sym, subst, inl, inr}
-use Rattle.std.specs.Prelude.{◌==◌, ◌⊎◌, ◌&&◌, bytes_eq, codes, not, Option, Some, None}
+use Rattle.std.specs.Prelude.{◌==◌, ◌⊎◌, ◌&&◌, ◌||◌, bytes_eq, codes, not, Option, Some, None}
 use Rattle.std.proofs.lemmas.Bool.Decides.{nat_tests}
 use Rattle.std.proofs.Common.{arith}
 use Rattle.vx_class.specs.Members.{STATIC}
-use Rattle.vx_families.specs.Built.{is_built, is_built_at, is_built_outcome, is_single, println_int}
+use Rattle.vx_families.specs.Built.{is_built, is_built_at, is_built_outcome, is_init_method, is_println_method, is_single, object_init, println_int}
 use Rattle.vx_java.specs.Calls.{arguments_off, if_arguments}
 use Rattle.vx_java.specs.Checks.{is_instance_of}
 use Rattle.vx_java.specs.Machine.{Begin, Ended, Go, Here, Native, Outcome, Raise, State, Throw, Value, Write, illegal, when}
@@ -19,7 +19,7 @@ use Rattle.vx_link.specs.declared.program.LinkedMethod.{LinkedMethod}
 use Rattle.vx_link.specs.declared.program.Program.{Program}
 use Rattle.vx_attempt.specs.Carrying.{is_refused}
 
--- ---- println of an int comes to no native method
+-- ---- println of an int and Object's <init> come to no native method
 
 abbrev is_native : Outcome → Bool
 is_native (Native m s) = true
@@ -44,19 +44,24 @@ print_no_native spell line_end h (Ref r ∷ v ∷ []) rest = cases (spell h v)
     cases None = refl
     cases (Some units) = refl
 
-println_no_native : (n : ℕ) (h : Here) (values rest : List Value) → n ≡ 49 → is_native (native_of n h values rest) ≡ false
-println_no_native n h values rest e = subst (λ k. is_native (native_of k h values rest) ≡ false) (sym e) (print_no_native spell_int (10 ∷ []) h values rest)
+-- the number of println of an int, or of Object's <init>
+abbrev is_number : ℕ → Type 0
+is_number n = (n ≡ 49) ⊎ (n ≡ 1)
 
-apply_no_native : (h : Here) (m : LinkedMethod) (receiver arguments rest : List Value) → m.native ≡ 49 → is_native (apply h m receiver arguments rest) ≡ false
+number_no_native : (n : ℕ) (h : Here) (values rest : List Value) → is_number n → is_native (native_of n h values rest) ≡ false
+number_no_native n h values rest (inl e) = subst (λ k. is_native (native_of k h values rest) ≡ false) (sym e) (print_no_native spell_int (10 ∷ []) h values rest)
+number_no_native n h values rest (inr e) = subst (λ k. is_native (native_of k h values rest) ≡ false) (sym e) refl
+
+apply_no_native : (h : Here) (m : LinkedMethod) (receiver arguments rest : List Value) → is_number m.native → is_native (apply h m receiver arguments rest) ≡ false
 apply_no_native h m receiver arguments rest e =
     let s = signature m.descriptor in
-    when_no_native (are_wanted h m.descriptor s.arguments arguments && room_for h s.result rest) (native_of m.native h (receiver ++ as_read s.arguments arguments) rest) (illegal h) (println_no_native m.native h (receiver ++ as_read s.arguments arguments) rest e) refl
+    when_no_native (are_wanted h m.descriptor s.arguments arguments && room_for h s.result rest) (native_of m.native h (receiver ++ as_read s.arguments arguments) rest) (illegal h) (number_no_native m.native h (receiver ++ as_read s.arguments arguments) rest e) refl
 
-apply_to_no_native : (h : Here) (m : LinkedMethod) (arguments below : List Value) → m.native ≡ 49 → is_native (apply_to h m arguments below) ≡ false
+apply_to_no_native : (h : Here) (m : LinkedMethod) (arguments below : List Value) → is_number m.native → is_native (apply_to h m arguments below) ≡ false
 apply_to_no_native h m arguments [] e = refl
 apply_to_no_native h m arguments (o ∷ rest) e = when_no_native (is_instance_of h m.class.0 o) (apply h m (o ∷ []) arguments rest) (illegal h) (apply_no_native h m (o ∷ []) arguments rest e) refl
 
-carried_no_native : (h : Here) (m : LinkedMethod) → m.native ≡ 49 → is_native (carried_out h m) ≡ false
+carried_no_native : (h : Here) (m : LinkedMethod) → is_number m.native → is_native (carried_out h m) ≡ false
 carried_no_native h m e = cases (arguments_off (signature m.descriptor).arguments h.state.top.operands)
   where
     cases : (o : Option (List Value × List Value)) → is_native (if_arguments h o (λ arguments below. when (has STATIC m.flags) (apply h m [] arguments below) (apply_to h m arguments below))) ≡ false
@@ -65,19 +70,27 @@ carried_no_native h m e = cases (arguments_off (signature m.descriptor).argument
 
 -- ---- what isn't built
 
-same_number : (n : ℕ) → (n == println_int) ≡ true → n ≡ 49
-same_number n h = grind (arith, nat_tests)
+same_number : (n k : ℕ) → (n == k) ≡ true → n ≡ k
+same_number n k h = grind (arith, nat_tests)
+
+built_number : (m : LinkedMethod) → (is_println_method m || is_init_method m) ≡ true → is_number m.native
+built_number m h = cases (m.native == println_int) (bytes_eq m.descriptor (codes "(I)V")) (m.native == object_init) (bytes_eq m.descriptor (codes "()V")) refl refl h
+  where
+    cases : (a b c d : Bool) → (m.native == println_int) ≡ a → (m.native == object_init) ≡ c → ((a && b) || (c && d)) ≡ true → is_number m.native
+    cases true b c d e f h = inl (same_number m.native println_int e)
+    cases false b true d e f h = inr (same_number m.native object_init f)
+    cases false b false d e f h = cc h
 
 native_unbuilt : (p : Program) (o : Outcome) → is_native (outcome_carried_out p o) ≡ true → is_built_outcome p o ≡ false
 native_unbuilt p (Go s) h = cc h
 native_unbuilt p (Raise class message s) h = cc h
 native_unbuilt p (Throw r s) h = cc h
 native_unbuilt p (Begin class s) h = refl
-native_unbuilt p (Native m s) h = cases ((method_at p m).native == println_int) (bytes_eq (method_at p m).descriptor (codes "(I)V")) refl
+native_unbuilt p (Native m s) h = cases (is_println_method (method_at p m) || is_init_method (method_at p m)) refl
   where
-    cases : (a b : Bool) → ((method_at p m).native == println_int) ≡ a → (a && b) ≡ false
-    cases true b e = cc (h, carried_no_native _ (method_at p m) (same_number (method_at p m).native e))
-    cases false b e = refl
+    cases : (b : Bool) → (is_println_method (method_at p m) || is_init_method (method_at p m)) ≡ b → b ≡ false
+    cases true e = cc (h, carried_no_native _ (method_at p m) (built_number (method_at p m) e))
+    cases false e = refl
 native_unbuilt p (Write stream units s) h = cc h
 native_unbuilt p (Ended end) h = cc h
 

@@ -2,8 +2,10 @@
 use Rattle.std.specs.Prelude.{Bool}
 use Rattle.vx_arith.specs.Family.{is_of_numbers}
 use Rattle.vx_attempt.specs.declared.family.Family.{Family}
-use Rattle.vx_attempt.specs.declared.family.Family.TheVariants.{Calls, Forms, Locals, Numbers, Returns, Statics}
+use Rattle.vx_attempt.specs.declared.family.Family.TheVariants.{Arrays, Calls, Constructors, Forms, Locals, Numbers, Objects, Returns, Statics}
+use Rattle.vx_arrays.specs.Family.{is_of_arrays}
 use Rattle.vx_fields.specs.Statics.{is_of_statics}
+use Rattle.vx_objects.specs.Family.{is_init_call, is_of_objects}
 use Rattle.vx_stack.specs.Forms.{is_form}
 use Rattle.vx_invoke.specs.Named.{is_built_call}
 use Rattle.vx_java.specs.declared.operation.Operation.{Operation}
@@ -18,4 +20,7 @@ is_of Locals pool operation = is_of_locals operation
 is_of Forms pool operation = is_form operation
 is_of Returns pool operation = is_return operation
 is_of Statics pool operation = is_of_statics operation
+is_of Objects pool operation = is_of_objects operation
+is_of Arrays pool operation = is_of_arrays operation
 is_of Calls pool operation = is_built_call pool operation
+is_of Constructors pool operation = is_init_call pool operation

@@ -7,7 +7,7 @@ ghost use Rattle.vx_java.specs.Row.{row};
 ghost use Rattle.vx_link.specs.Parts.{method_at};
 ghost use Rattle.vx_families.specs.Attempts.{IsAttemptBy, IsGiven, MeetsUnbuilt};
 ghost use Rattle.vx_families.specs.Built.{is_built_operation};
-ghost use Rattle.vx_invoke.specs.Named.{pool_of};
+ghost use Rattle.vx_families.specs.Entering.{pool_of};
 ghost use Rattle.vx_standing.specs.Attempted.{IsAttempted, IsUnbuiltThere, MayAttempt};
 ghost use Rattle.vx_attempt.specs.Families.{is_of};
 
@@ -79,6 +79,15 @@ fn by_family<S: Space>(
             let made = vx_fields::attempt(alloc, site, space, heap, operation, group)?;
             Ok(made)
         }
+        Family::Objects => {
+            let made = vx_objects::attempt(alloc, site, space, heap, operation, group)?;
+            Ok(made)
+        }
+        Family::Arrays => {
+            let made = vx_arrays::attempt(alloc, site, space, heap, operation, group)?;
+            Ok(made)
+        }
+        Family::Constructors => vx_objects::call_init(alloc, site, space, heap, operation, group),
         Family::Calls => vx_invoke::attempt(alloc, site, space, heap, operation, group),
     }
 }

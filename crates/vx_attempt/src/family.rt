@@ -3,12 +3,13 @@
 ghost use Rattle.std.specs.Prelude.{◌≡◌, IfSome, IsNone, false, true};
 ghost use Rattle.vx_link.specs.Names.{member};
 ghost use Rattle.vx_link.specs.Parts.{class_at};
-ghost use Rattle.vx_families.specs.Built.{is_built_operation, is_println, is_virtual};
+ghost use Rattle.vx_families.specs.Built.{is_built_operation, is_println, is_special, is_virtual};
 ghost use Rattle.vx_attempt.specs.Families.{is_of};
 
-use vx_fields::named_member;
 use vx_java::{Mode, Operation};
 use vx_link::Program;
+use vx_objects::is_object_init;
+use vx_references::named_member;
 use vx_value::ClassId;
 
 /// A family of instructions.
@@ -23,7 +24,18 @@ pub enum Family {
     Returns,
     /// Static fields.
     Statics,
+    Objects,
+    Arrays,
+    /// Of a method that prints.
     Calls,
+    /// Of Object's `<init>`.
+    Constructors,
+}
+
+fn is_special(mode: Mode) -> bool
+    ensures { result ≡ is_special mode }
+{
+    matches!(mode, Mode::Special)
 }
 
 fn is_virtual(mode: Mode) -> bool
@@ -43,11 +55,19 @@ fn names_println(program: &Program, class: ClassId, entry: u16) -> bool
         && !named.by_interface
 }
 
-/// Whether a call is built.
-fn is_built_call(program: &Program, class: ClassId, mode: Mode, entry: u16) -> bool
-    ensures { result ≡ is_built_operation (class_at program.now class.0).pool (Operation.Invoke mode entry) }
+/// The family of a call, if it is built.
+fn family_of_call(program: &Program, class: ClassId, mode: Mode, entry: u16) -> Option<Family>
+    ensures family { IfSome result (λ family. is_of family (class_at program.now class.0).pool (Operation.Invoke mode entry) ≡ true) }
+    ensures built { IfSome result (λ _. is_built_operation (class_at program.now class.0).pool (Operation.Invoke mode entry) ≡ true) }
+    ensures unbuilt { IsNone result → is_built_operation (class_at program.now class.0).pool (Operation.Invoke mode entry) ≡ false }
 {
-    is_virtual(mode) && names_println(program, class, entry)
+    if is_virtual(mode) && names_println(program, class, entry) {
+        return Some(Family::Calls);
+    }
+    if is_special(mode) && is_object_init(program, class, entry) {
+        return Some(Family::Constructors);
+    }
+    None
 }
 
 /// The family of an operation in a method of a class, or `None` where the operation isn't built.
@@ -85,23 +105,20 @@ pub fn family_of(program: &Program, class: ClassId, operation: Operation) -> Opt
         | Operation::Refuse(_) => Some(Family::Numbers),
         Operation::Return(_) => Some(Family::Returns),
         Operation::GetStatic(_) | Operation::PutStatic(_) => Some(Family::Statics),
-        Operation::Invoke(mode, entry) if is_built_call(program, class, mode, entry) => {
-            Some(Family::Calls)
-        }
-        Operation::Invoke(_, _)
-        | Operation::LoadElement(_)
-        | Operation::StoreElement(_)
-        | Operation::IfSame(_, _)
+        Operation::New(_)
         | Operation::GetField(_)
         | Operation::PutField(_)
-        | Operation::New(_)
-        | Operation::NewPrimitives(_)
+        | Operation::CheckCast(_)
+        | Operation::InstanceOf(_)
+        | Operation::Monitor
+        | Operation::IfSame(_, _) => Some(Family::Objects),
+        Operation::NewPrimitives(_)
         | Operation::NewReferences(_)
         | Operation::NewGrid(_, _)
-        | Operation::Length
-        | Operation::Throw
-        | Operation::Monitor
-        | Operation::CheckCast(_)
-        | Operation::InstanceOf(_) => None,
+        | Operation::LoadElement(_)
+        | Operation::StoreElement(_)
+        | Operation::Length => Some(Family::Arrays),
+        Operation::Invoke(mode, entry) => family_of_call(program, class, mode, entry),
+        Operation::Throw => None,
     }
 }

@@ -2,7 +2,7 @@
 
 ghost use Rattle.std.specs.Prelude.{◌≡◌, ◌∷◌, [], Err, IfOk};
 ghost use Rattle.vx_space.specs.Sets.{Extends};
-ghost use Rattle.vx_families.specs.Built.{is_println_method};
+ghost use Rattle.vx_families.specs.Built.{is_init_method, is_println_method};
 ghost use Rattle.vx_java.specs.Step.{outcome_carried_out};
 ghost use Rattle.vx_link.specs.Parts.{method_at};
 ghost use Rattle.vx_outcome.specs.declared.outcome.Outcome.TheVariants.{Begin, Native};
@@ -14,6 +14,7 @@ use vx_group::{Callers, Group};
 use vx_group_states::Site;
 use vx_heap::Heap;
 use vx_link::Program;
+use vx_objects::object_init;
 use vx_outcome::{Outcome, Outcomes};
 use vx_space::Space;
 use vx_text::native;
@@ -22,12 +23,25 @@ use vx_value::{ClassId, MethodId};
 /// The number of the native method `println` of an int.
 const PRINTLN_INT: u32 = 49;
 
+/// The number of the native method `<init>` of Object.
+const OBJECT_INIT: u32 = 1;
+
 fn is_println(program: &Program, method: MethodId) -> bool
     ensures { result ≡ is_println_method (method_at program.now method.0) }
 {
     match program.method(method) {
         Some(method) => method.native == PRINTLN_INT
             && method.descriptor.bytes() == b"(I)V".as_slice(),
+        None => false,
+    }
+}
+
+fn is_init(program: &Program, method: MethodId) -> bool
+    ensures { result ≡ is_init_method (method_at program.now method.0) }
+{
+    match program.method(method) {
+        Some(method) => method.native == OBJECT_INIT
+            && method.descriptor.bytes() == b"()V".as_slice(),
         None => false,
     }
 }
@@ -50,11 +64,15 @@ fn native_carried_out<S: Space>(
     if space.is_never(group.path()) {
         return Ok(Outcomes::new(alloc));
     }
-    if !is_println(site.program, method) {
-        return Err(AttemptFault::NotYet);
+    if is_println(site.program, method) {
+        let printed = native(alloc, site, space, heap, group, method)?;
+        return Ok(printed);
     }
-    let printed = native(alloc, site, space, heap, group, method)?;
-    Ok(printed)
+    if is_init(site.program, method) {
+        let initialised = object_init(alloc, site, space, heap, group, method)?;
+        return Ok(initialised);
+    }
+    Err(AttemptFault::NotYet)
 }
 
 /// The outcome of a beginning: `NotYet` where some run comes to it.

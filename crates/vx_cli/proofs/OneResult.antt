@@ -12,7 +12,7 @@ use Rattle.vx_report_reader.proofs.Verdicts.{report_same}
 use Rattle.vx_reporting.proofs.OneText.{one_text}
 use Rattle.vx_reporting.specs.Reported.{IsReported}
 use Rattle.vx_cli.specs.Causes.{AreClasses, HasOneResult, IsAgreeing, IsProjection, IsReport, IsResult, IsShown, IsTold}
-use Rattle.vx_cli.specs.Command.{Agree, Asm, Command, Project, Run, Tell}
+use Rattle.vx_cli.specs.Command.{Agree, Asm, Command, Project, Run, Show, Tell}
 use Rattle.vx_cli.specs.Ends.{Ends}
 use Rattle.vx_cli.specs.Job.{names_of, program_in}
 use Rattle.vx_cli.specs.PlanOf.{plan_of}
@@ -59,6 +59,7 @@ one_result held (Project path word) one other p h k = one_projection held path w
 one_result held (Tell telling path) one other p h k = one_telling held telling path one other p h k
 one_result held (Agree path against) one other p h k = one_agreeing held path against one other h k
 one_result held (Asm path) one other p h k = same_value one other _ h.is_text k.is_text
+one_result held (Show page) one other p h k = h ∙ sym k
 
 -- a call that is done has written each text that its command asks for, of which there is one
 pub done_only : (old new : FilesState) (out out' : SinkState) (command : Command) (status : Status) → Ends old new out out' (plan_of command) status → (held : Held) (text : List ℕ) → HasOneResult command → old.held ≡ Some held → status ≡ Done

@@ -11,6 +11,8 @@ mod last_key;
 #[cfg(test)]
 mod least_key;
 pub mod long_run;
+#[cfg(test)]
+mod object_cases;
 mod programs;
 #[cfg(test)]
 mod runs;

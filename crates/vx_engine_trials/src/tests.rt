@@ -1,5 +1,6 @@
 use crate::cases::{CASES, Case, DIFFERENT_VALUES};
 use crate::last_key::LastKey;
+use crate::object_cases::OBJECT_CASES;
 use crate::runs::{agree, report_of};
 use std::alloc::Global;
 use std::process::Abort;
@@ -42,6 +43,20 @@ fn what_runs_come_to_depends_on_no_order(rt: HostRuntime) -> Result<(), Fail> {
             "{:?}",
             case.report
         );
+    }
+    Ok(())
+}
+
+/// Whether the first keys and the last keys give reports that say the same as that of a case.
+fn is_said(rt: &impl Abort, alloc: Global, case: &Case) -> Result<bool, Fail> {
+    let first = report_of(rt, alloc, case, &mut LeastKey)?;
+    Ok(agree(alloc, first.as_slice(), case.report)? && is_same_with_last_keys(rt, alloc, case)?)
+}
+
+#[test]
+fn objects_and_arrays_are_those_of_each_configuration(rt: HostRuntime) -> Result<(), Fail> {
+    for case in OBJECT_CASES {
+        assert!(rt; is_said(&rt, rt.alloc(), &case)?, "{:?}", case.report);
     }
     Ok(())
 }

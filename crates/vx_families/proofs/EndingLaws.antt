@@ -4,12 +4,16 @@ use Rattle.std.specs.Prelude.{None}
 use Rattle.vx_space.specs.Sets.{Sets}
 use Rattle.vx_group.specs.Group.{GroupView, path_of}
 use Rattle.vx_group.proofs.GroupLaws.{IsGroupIn-group, IsGroup-path_known}
-use Rattle.vx_java.specs.Machine.{place_at, unsupported_in}
+use Rattle.vx_java.specs.Machine.{place_at, unsupported, unsupported_in}
 use Rattle.vx_java.specs.Machine.{Outcome as PlainOutcome, Ended, Raise}
+use Rattle.vx_java.specs.Operation.{class_word}
+use Rattle.vx_link.specs.Names.{class_name}
 use Rattle.vx_link.specs.declared.program.Program.{Program}
 use Rattle.vx_outcome.specs.declared.outcome.Outcome.{Outcome}
 use Rattle.vx_outcome.specs.declared.outcome.Outcome.TheVariants as shared
-use Rattle.vx_group_states.specs.Sites.{Gives, GivesAt}
+use Rattle.vx_group_states.specs.Sites.{Gives, GivesAt, here}
+use Rattle.vx_group_states.specs.declared.site.Site.{Site}
+use Rattle.vx_families.specs.Entering.{pool_of}
 use Rattle.vx_group_states.specs.Stands.{CameTo, state_at}
 use Rattle.vx_group_states.proofs.OutcomeStates.{CameTo-one}
 use Rattle.vx_group_states.proofs.PartLaws.{raised-gives}
@@ -27,3 +31,9 @@ unsupported-gives {S = S} {I = I} p sets group word what condition place start i
     let P : List (Outcome S I) → Type 0 = λ xs. CameTo p sets sets heap tree group comes (sets.test (path_of group)) xs in
     let end : items ≡ shared.Ended (path_of group) (Unsupported word what place) ∷ [] = made ∙ (λ i. none i ++ shared.Ended (same i) (Unsupported word what place) ∷ []) in
     subst P (sym end) (CameTo-one p sets sets heap tree group comes (sets.test (path_of group)) (shared.Ended (path_of group) (Unsupported word what place)) (IsGroup-path_known sets group (IsGroupIn-group sets tree group s.is_group)) (λ c. refl) (λ c t. ap (λ text. Ended (Unsupported word what text)) e))
+
+-- a class isn't there that an entry of the pool names, of the class whose method runs
+pub no_class-gives : {S I : Type 0} (site : Site) (sets : Sets I) (group : GroupView S I) (index : ℕ) (what : List ℕ) (outcomes : List (Outcome S I)) → what ≡ class_name (pool_of site group) index → Gives site.program.now (λ s. unsupported_in site.program.now s class_word what) sets sets group outcomes → Gives site.program.now (λ s. unsupported (here site s) class_word (class_name (here site s).pool index)) sets sets group outcomes
+no_class-gives {S = S} {I = I} site sets group index what outcomes e gives heap tree h s =
+    let P : List ℕ → Type 0 = λ text. CameTo site.program.now sets sets heap tree group (λ c. unsupported_in site.program.now (state_at sets heap tree group c) class_word text) (sets.test (path_of group)) outcomes in
+    subst P e (gives heap tree h s)

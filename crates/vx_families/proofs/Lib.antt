@@ -4,3 +4,6 @@ pub mod AttemptLaws
 pub mod EndingLaws
 pub mod Pushes
 pub mod SlotSorts
+pub mod Entries
+pub mod Answered
+pub mod Tops

@@ -1,10 +1,8 @@
 -- A heap to whose table texts were added: what stands in groups over it, and what families are given of it.
-use Rattle.std.proofs.Common.{◌≡◌, ℕ, ◌<◌, zero, suc, Bool, true, List, [], ◌∷◌, refl, sym, ◌∙◌, ap, subst, map, length, arith}
+use Rattle.std.proofs.Common.{◌≡◌, ℕ, Bool, true, List, [], ◌∷◌, refl, sym, ◌∙◌, ap, subst, map, length}
 use Rattle.std.proofs.lemmas.Bool.{lt-ltb, ltb-true}
-use Rattle.std.proofs.lemmas.Option.{slice_get_within}
-use Rattle.std.specs.Prelude.{Option, Some, slice_get, unwrap_or}
+use Rattle.std.specs.Prelude.{Option, Some}
 use Rattle.std.specs.List.{list_all}
-use Rattle.vx_list.specs.Places.{item_or}
 use Rattle.vx_value.specs.declared.slot.Slot.{Slot}
 use Rattle.vx_value.specs.declared.slot.Slot.TheVariants.{Top, Int, Long, Null, Ref, Text}
 use Rattle.vx_value.specs.Texts.{Extends as TextsExtend}
@@ -14,6 +12,7 @@ use Rattle.vx_group.specs.declared.callers.Caller.{Caller}
 use Rattle.vx_group.specs.Callers.{callers_of, frames_at}
 use Rattle.vx_group.specs.Group.{GroupView, path_of, stack_of}
 use Rattle.vx_heap.specs.Heap.{HeapView, IsHeap, IsHeapFor, IsTextPut, are_held, globals_at, is_held, value_of}
+use Rattle.vx_heap.proofs.Growing.{Grows-more_texts}
 use Rattle.vx_heap.proofs.MoreTexts.{KeepsPlain-texts}
 use Rattle.vx_java.specs.Machine.{Text as TextValue}
 use Rattle.vx_link.specs.declared.program.Program.{Program}
@@ -140,21 +139,7 @@ IsHeapFor-texts {S = S} {I = I} p before after m v =
     let P : HeapView S I → Type 0 = λ heap. IsHeapFor p heap in
     subst P (sym m.same) (record { static_count = v.static_count; init_count = v.init_count; literals = v.literals; resolved = v.resolved; words = v.words; enough = v.enough; first = v.first })
 
-item_there : {A : Type 0} (xs : List A) (n : ℕ) (x d : A) → n < length xs → item_or xs n d ≡ x → slice_get xs n ≡ Some x
-item_there [] n x d h e = absurd (omega arith)
-item_there (y ∷ ys) zero x d h e = ap Some e
-item_there (y ∷ ys) (suc n) x d h e = item_there ys n x d (omega arith) e
-
-item_given : {A : Type 0} (xs : List A) (n : ℕ) (x d : A) → slice_get xs n ≡ Some x → item_or xs n d ≡ x
-item_given xs n x d h = ap (λ o. unwrap_or o d) h
-
 pub Grows-texts : {S I : Type 0} (before after : HeapView S I) → HasMoreTexts before after → Grows before after
 Grows-texts {S = S} {I = I} before after m =
     let P : HeapView S I → Type 0 = λ heap. Grows before heap in
-    subst P (sym m.same) (record {
-      allowed = refl;
-      objects = λ i o h. (o, h, refl);
-      texts = λ n text h.
-          let there = m.earlier n (slice_get_within before.texts n text h) in
-          item_there after.texts n text [] there.known (there.text ∙ item_given before.texts n text [] h);
-    })
+    subst P (sym m.same) (Grows-more_texts before after.texts m.earlier)

@@ -1,14 +1,14 @@
--- What of the machine is built so far: one frame, the instructions of numbers, locals, the operand stack, jumps and static fields, the return, and println of an int. A run that comes to anything else is refused by name.
-use Rattle.std.specs.Prelude.{Bool, true, false, List, [], ◌∷◌, ◌&&◌, ◌==◌, not, Option, Some, None, ℕ, bytes_eq, codes}
+-- What of the machine is built so far: one frame, the instructions of numbers, locals, the operand stack, jumps, fields, objects and arrays, the return, println of an int, and Object's <init>. A run that comes to anything else is refused by name.
+use Rattle.std.specs.Prelude.{Bool, true, false, List, [], ◌∷◌, ◌&&◌, ◌||◌, ◌==◌, not, Option, Some, None, ℕ, bytes_eq, codes}
 use Rattle.vx_class.specs.declared.class_file.Code.{Code}
 use Rattle.vx_java.specs.Machine.{Outcome, State, Go, Raise, Throw, Begin, Native, Write, Ended, current_class}
 use Rattle.vx_java.specs.Operation.{operation_of}
 use Rattle.vx_java.specs.Row.{row}
 use Rattle.vx_java.specs.Step.{outcome_carried_out}
 use Rattle.vx_java.specs.declared.operation.Mode.{Mode}
-use Rattle.vx_java.specs.declared.operation.Mode.TheVariants.{Virtual}
+use Rattle.vx_java.specs.declared.operation.Mode.TheVariants.{Special, Virtual}
 use Rattle.vx_java.specs.declared.operation.Operation.{Operation}
-use Rattle.vx_java.specs.declared.operation.Operation.TheVariants.{CheckCast, GetField, IfSame, InstanceOf, Invoke, Length, LoadElement, Monitor, New, NewGrid, NewPrimitives, NewReferences, PutField, StoreElement}
+use Rattle.vx_java.specs.declared.operation.Operation.TheVariants.{Invoke}
 use Rattle.vx_java.specs.declared.operation.Operation.TheVariants.{Throw as ThrowOperation}
 use Rattle.vx_link.specs.Names.{Member, member}
 use Rattle.vx_link.specs.Parts.{class_at, method_at}
@@ -59,25 +59,29 @@ abbrev pub is_println : Member → Bool
 is_println m =
     bytes_eq m.class (codes "java/io/PrintStream") && bytes_eq m.name (codes "println") && bytes_eq m.descriptor (codes "(I)V") && not m.by_interface
 
+-- Object's <init>, by the number that its native method has, and its descriptor
+abbrev pub object_init : ℕ
+object_init = 1
+
+abbrev pub is_init_method : LinkedMethod → Bool
+is_init_method m = (m.native == object_init) && bytes_eq m.descriptor (codes "()V")
+
+abbrev pub is_special : Mode → Bool
+is_special Special = true
+is_special _ = false
+
+-- an instruction names it
+abbrev pub is_object_init : Member → Bool
+is_object_init m =
+    bytes_eq m.class (codes "java/lang/Object") && bytes_eq m.name (codes "<init>") && bytes_eq m.descriptor (codes "()V") && not m.by_interface
+
 -- ---- instructions
 
 -- an operation, by the pool of its class
 abbrev pub is_built_operation : Pool → Operation → Bool
-is_built_operation pool (LoadElement element) = false
-is_built_operation pool (StoreElement element) = false
-is_built_operation pool (IfSame wanted offset) = false
-is_built_operation pool (GetField i) = false
-is_built_operation pool (PutField i) = false
-is_built_operation pool (Invoke mode i) = is_virtual mode && is_println (member pool i)
-is_built_operation pool (New i) = false
-is_built_operation pool (NewPrimitives code) = false
-is_built_operation pool (NewReferences i) = false
-is_built_operation pool (NewGrid i dimensions) = false
-is_built_operation pool Length = false
+is_built_operation pool (Invoke mode i) =
+    (is_virtual mode && is_println (member pool i)) || (is_special mode && is_object_init (member pool i))
 is_built_operation pool ThrowOperation = false
-is_built_operation pool Monitor = false
-is_built_operation pool (CheckCast i) = false
-is_built_operation pool (InstanceOf i) = false
 is_built_operation pool _ = true
 
 -- at the end of the code there is none
@@ -100,7 +104,7 @@ is_built_outcome p (Go s) = is_single s
 is_built_outcome p (Raise class message s) = is_single s && catches_nothing p s
 is_built_outcome p (Throw r s) = false
 is_built_outcome p (Begin c s) = false
-is_built_outcome p (Native m s) = is_println_method (method_at p m)
+is_built_outcome p (Native m s) = is_println_method (method_at p m) || is_init_method (method_at p m)
 is_built_outcome p (Write stream units s) = is_single s
 is_built_outcome p (Ended e) = true
 

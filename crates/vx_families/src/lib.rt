@@ -4,12 +4,14 @@
 
 pub mod endings;
 pub mod fault;
+pub mod missing;
 pub mod pushing;
 pub mod sorts;
 pub mod words;
 
 pub use endings::{core_class, raise, unsupported};
 pub use fault::AttemptFault;
+pub use missing::no_class;
 pub use pushing::push_answers;
 pub use sorts::slot_is_of;
 pub use words::{CLASS_WORD, CONSTANT_WORD, FIELD_WORD, FLOAT_WORD, METHOD_WORD, NATIVE_WORD};

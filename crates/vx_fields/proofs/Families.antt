@@ -7,7 +7,7 @@ use Rattle.vx_group.specs.Group.{GroupView, path_of}
 use Rattle.vx_group.specs.declared.callers.Caller.{Caller}
 use Rattle.vx_heap.specs.Heap.{HeapView}
 use Rattle.vx_java.specs.Checks.{same_bool, sort_of}
-use Rattle.vx_java.specs.Fields.{Found as FoundField, put_value}
+use Rattle.vx_java.specs.Fields.{Found as FoundField, put_value, with_field}
 use Rattle.vx_java.specs.Machine.{Here, Outcome, State}
 use Rattle.vx_java.specs.declared.operation.Operation.{Operation}
 use Rattle.vx_java.specs.declared.operation.Operation.TheVariants.{GetStatic, PutStatic}
@@ -65,9 +65,9 @@ pool_class site group = (method_at site.program.now group.top.method.0).class.0
 -- ---- a field that is found
 
 -- what is said of the pool that was looked at
-pub reference_at : {S I : Type 0} (site : Site) (group : GroupView S I) (top : Frame S I) (class : ClassId) (index : ℕ) (reference : FieldReference) → top ≡ group.top → class ≡ (method_at site.program.now top.method.0).class → IsFieldReference site.program.now (class_at site.program.now class.0).pool index true reference → IsFieldReference site.program.now (class_at site.program.now (pool_class site group)).pool index true reference
-reference_at site group top class index reference e k f =
-    let P : ClassId → Type 0 = λ x. IsFieldReference site.program.now (class_at site.program.now x.0).pool index true reference in
+pub reference_at : {S I : Type 0} {static : Bool} (site : Site) (group : GroupView S I) (top : Frame S I) (class : ClassId) (index : ℕ) (reference : FieldReference) → top ≡ group.top → class ≡ (method_at site.program.now top.method.0).class → IsFieldReference site.program.now (class_at site.program.now class.0).pool index static reference → IsFieldReference site.program.now (class_at site.program.now (pool_class site group)).pool index static reference
+reference_at {static = static} site group top class index reference e k f =
+    let P : ClassId → Type 0 = λ x. IsFieldReference site.program.now (class_at site.program.now x.0).pool index static reference in
     subst P (k ∙ ap (λ (t : Frame _ _). (method_at site.program.now t.method.0).class) e) f
 
 pub names_at : {S I : Type 0} (site : Site) (group : GroupView S I) (top : Frame S I) (class : ClassId) (index : ℕ) (m : Member) → top ≡ group.top → class ≡ (method_at site.program.now top.method.0).class → m ≡ member (class_at site.program.now class.0).pool index → m ≡ member (class_at site.program.now (pool_class site group)).pool index
@@ -91,15 +91,17 @@ module _ {S I : Type 0} (site : Site) (group : GroupView S I) (index : ℕ) (ref
       second true b h = h
       second false b h = cc
 
-  pub got-by : (s0 s1 : Sets I) (before after : HeapView S I) (outcomes : List (SharedOutcome S I)) → AttemptsBy site (λ s. got (record { named = named.0; field = field.0; type = type }) (here site s)) s0 s1 before after group outcomes → IsAttemptBy site (GetStatic index) s0 s1 before after group outcomes
-  got-by s0 s1 before after outcomes a = AttemptsBy-same site _ _ s0 s1 before after group outcomes (λ tree c.
-      let h = here site (state_at s0 before tree group c) in
-      sym (f.decides h (λ x. got x h) ∙ ap (λ r. by_reference h (member h.pool index) r (λ x. got x h)) found)) a
+-- what an instruction says of the field
+pub found-by : {S I : Type 0} {static : Bool} (site : Site) (group : GroupView S I) (index : ℕ) (reference : FieldReference) (named : ClassId) (field : FieldId) (type : JavaType) → IsFieldReference site.program.now (class_at site.program.now (pool_class site group)).pool index static reference → reference ≡ Found named field type → (says : Here → FoundField → Outcome) (s0 s1 : Sets I) (before after : HeapView S I) (outcomes : List (SharedOutcome S I)) → AttemptsBy site (λ s. says (here site s) (record { named = named.0; field = field.0; type = type })) s0 s1 before after group outcomes → AttemptsBy site (λ s. with_field (here site s) index static (says (here site s))) s0 s1 before after group outcomes
+found-by site group index reference named field type f found says s0 s1 before after outcomes a = AttemptsBy-same site _ _ s0 s1 before after group outcomes (λ tree c.
+    let h = here site (state_at s0 before tree group c) in
+    sym (f.decides h (says h) ∙ ap (λ r. by_reference h (member h.pool index) r (says h)) found)) a
 
-  pub put-by : (s0 s1 : Sets I) (before after : HeapView S I) (outcomes : List (SharedOutcome S I)) → AttemptsBy site (λ s. put_value (here site s) (record { named = named.0; field = field.0; type = type }) s.top.operands) s0 s1 before after group outcomes → IsAttemptBy site (PutStatic index) s0 s1 before after group outcomes
-  put-by s0 s1 before after outcomes a = AttemptsBy-same site _ _ s0 s1 before after group outcomes (λ tree c.
-      let h = here site (state_at s0 before tree group c) in
-      sym (f.decides h (λ x. put_value h x h.state.top.operands) ∙ ap (λ r. by_reference h (member h.pool index) r (λ x. put_value h x h.state.top.operands)) found)) a
+pub got-by : {S I : Type 0} (site : Site) (group : GroupView S I) (index : ℕ) (reference : FieldReference) (named : ClassId) (field : FieldId) (type : JavaType) → IsFieldReference site.program.now (class_at site.program.now (pool_class site group)).pool index true reference → reference ≡ Found named field type → (s0 s1 : Sets I) (before after : HeapView S I) (outcomes : List (SharedOutcome S I)) → AttemptsBy site (λ s. got (record { named = named.0; field = field.0; type = type }) (here site s)) s0 s1 before after group outcomes → IsAttemptBy site (GetStatic index) s0 s1 before after group outcomes
+got-by site group index reference named field type f found = found-by site group index reference named field type f found (λ h x. got x h)
+
+pub put-by : {S I : Type 0} (site : Site) (group : GroupView S I) (index : ℕ) (reference : FieldReference) (named : ClassId) (field : FieldId) (type : JavaType) → IsFieldReference site.program.now (class_at site.program.now (pool_class site group)).pool index true reference → reference ≡ Found named field type → (s0 s1 : Sets I) (before after : HeapView S I) (outcomes : List (SharedOutcome S I)) → AttemptsBy site (λ s. put_value (here site s) (record { named = named.0; field = field.0; type = type }) s.top.operands) s0 s1 before after group outcomes → IsAttemptBy site (PutStatic index) s0 s1 before after group outcomes
+put-by site group index reference named field type f found = found-by site group index reference named field type f found (λ h x. put_value h x h.state.top.operands)
 
 -- ---- a field that isn't
 
@@ -119,17 +121,14 @@ without h m NoClass a b e = refl
 without h m NoField a b e = refl
 without h m Disagrees a b e = refl
 
-module _ {S I : Type 0} (site : Site) (sets : Sets I) (heap : HeapView S I) (group : GroupView S I) (index : ℕ) (reference : FieldReference) (m : Member) (outcomes : List (SharedOutcome S I)) (r : IsRunning site sets heap group) (f : IsFieldReference site.program.now (class_at site.program.now (pool_class site group)).pool index true reference) (missing : is_found reference ≡ false) (names : m ≡ member (class_at site.program.now (pool_class site group)).pool index) (gives : (rest : FoundField → Outcome) → Gives site.program.now (λ s. by_reference (here site s) m reference rest) sets sets group outcomes) where
+module _ {S I : Type 0} {static : Bool} (site : Site) (sets : Sets I) (heap : HeapView S I) (group : GroupView S I) (index : ℕ) (reference : FieldReference) (m : Member) (outcomes : List (SharedOutcome S I)) (r : IsRunning site sets heap group) (f : IsFieldReference site.program.now (class_at site.program.now (pool_class site group)).pool index static reference) (missing : is_found reference ≡ false) (names : m ≡ member (class_at site.program.now (pool_class site group)).pool index) (gives : (rest : FoundField → Outcome) → Gives site.program.now (λ s. by_reference (here site s) m reference rest) sets sets group outcomes) where
   nothing : FoundField → Outcome
   nothing x = Rattle.vx_java.specs.Machine.Begin 0 (record { heap = []; statics = []; inits = []; top = record { kind = Rattle.vx_value.specs.declared.key.Kind.TheVariants.Call; method = 0; position = 0; locals = []; operands = [] }; callers = [] })
 
-  by_row : (says : Here → FoundField → Outcome) (tree : List (Option (Caller S I))) (c : List Bool) → by_reference (here site (state_at sets heap tree group c)) m reference nothing ≡ Rattle.vx_java.specs.Fields.with_field (here site (state_at sets heap tree group c)) index true (says (here site (state_at sets heap tree group c)))
+  by_row : (says : Here → FoundField → Outcome) (tree : List (Option (Caller S I))) (c : List Bool) → by_reference (here site (state_at sets heap tree group c)) m reference nothing ≡ with_field (here site (state_at sets heap tree group c)) index static (says (here site (state_at sets heap tree group c)))
   by_row says tree c =
       let h = here site (state_at sets heap tree group c) in
       without h m reference nothing (says h) missing ∙ ap (λ k. by_reference h k reference (says h)) names ∙ sym (f.decides h (says h))
 
-  pub missing-get : IsAttemptBy site (GetStatic index) sets sets heap heap group outcomes
-  missing-get = AttemptsBy-stays site _ heap group (λ s. by_reference (here site s) m reference nothing) outcomes r.is_heap r.is_for r.is_group (Extends-refl sets) (λ tree s c t. by_row (λ h x. got x h) tree c) (gives nothing)
-
-  pub missing-put : IsAttemptBy site (PutStatic index) sets sets heap heap group outcomes
-  missing-put = AttemptsBy-stays site _ heap group (λ s. by_reference (here site s) m reference nothing) outcomes r.is_heap r.is_for r.is_group (Extends-refl sets) (λ tree s c t. by_row (λ h x. put_value h x h.state.top.operands) tree c) (gives nothing)
+  pub missing-by : (says : Here → FoundField → Outcome) → AttemptsBy site (λ s. with_field (here site s) index static (says (here site s))) sets sets heap heap group outcomes
+  missing-by says = AttemptsBy-stays site _ heap group (λ s. by_reference (here site s) m reference nothing) outcomes r.is_heap r.is_for r.is_group (Extends-refl sets) (λ tree s c t. by_row says tree c) (gives nothing)

@@ -1,3 +1,4 @@
+pub mod Sizes
 pub mod Tops
 pub mod Pools
 pub mod Moving

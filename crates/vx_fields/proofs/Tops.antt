@@ -72,10 +72,14 @@ module _ {S I : Type 0} (sets : Sets I) (group : GroupView S I) (x : Conditional
       there None h = cc
       there (Some slot) h = refl
 
+  -- where it passes a test
+  pub IsSet-where : {later : Sets I} (R : Slot → Bool → Type 0) (q : Slot → Bool) (answers : Conditional Bool S I) (set : I) → ((slot : Slot) (b : Bool) → R slot b → b ≡ q slot) → IsCondLifting bool_cmp later R (cond_at sets x) answers → IsSet later set (λ c. is_yes (cond_at later answers c)) → IsSet later set (λ c. sets.test (path_of group) c && q (slot_at sets x c))
+  IsSet-where {later = later} R q answers set law l s = IsSet-asked sets sets later R q (path_of group) (λ c. slot_at sets x c) x answers set law (λ c. inside_only (cond_at sets x c) (sets.test (path_of group) c) (slot_at sets x c) (cond_at-covers slot_cmp sets x top_is_cond c ∙ ap (λ i. sets.test i c) top_scope) (top_there c)) l s
+
   -- where it fits
   pub IsSet-fitting : {later : Sets I} (R : Slot → Bool → Type 0) (sort : Option Sort) (answers : Conditional Bool S I) (set : I) → Extends sets later → ((slot : Slot) (b : Bool) → R slot b → b ≡ slot_fits sort slot) → IsCondLifting bool_cmp later R (cond_at sets x) answers → IsSet later set (λ c. is_yes (cond_at later answers c)) → IsSet later set (λ c. sets.test (path_of group) c && top_fits sort (operands_at sets group.top.stack c))
   IsSet-fitting {later = later} R sort answers set e law l s =
-      let asked = IsSet-asked sets sets later R (slot_fits sort) (path_of group) (λ c. slot_at sets x c) x answers set law (λ c. inside_only (cond_at sets x c) (sets.test (path_of group) c) (slot_at sets x c) (cond_at-covers slot_cmp sets x top_is_cond c ∙ ap (λ i. sets.test i c) top_scope) (top_there c)) l s in
+      let asked = IsSet-where R (slot_fits sort) answers set law l s in
       record { known = asked.known; test = λ c. asked.test c ∙ ap (λ slots. sets.test (path_of group) c && top_fits sort slots) (sym (top_operands sets group.top.stack x c some at)) }
 
   -- as it is stored inside a path

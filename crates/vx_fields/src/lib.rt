@@ -3,6 +3,7 @@
 
 mod operands;
 pub mod statics;
-mod unresolved;
+pub mod unresolved;
 
-pub use statics::{attempt, named_member};
+pub use operands::{fits, narrowed, second_operand, top_operand, width_of};
+pub use statics::{attempt, field_named};

@@ -27,7 +27,7 @@ use vx_space::{Space, SpaceFault};
 use vx_value::{Narrow, Slot};
 
 /// How many words a value of a type takes on the operand stack; a float or a double is never one.
-fn width_of(field_type: JavaType) -> u64
+pub fn width_of(field_type: JavaType) -> u64
     ensures { result ≡ width_of_type field_type }
 {
     match sort_of(field_type) {
@@ -45,7 +45,7 @@ fn has_room(size: u64, width: u64, room: u16) -> bool
 }
 
 /// Whether a slot is of the sort of a type.
-fn fits(field_type: JavaType, slot: Slot) -> bool
+pub fn fits(field_type: JavaType, slot: Slot) -> bool
     ensures { result ≡ slot_fits (sort_of field_type) slot }
 {
     match sort_of(field_type) {
@@ -71,7 +71,7 @@ fn narrow_of(field_type: JavaType) -> Option<Narrow>
 }
 
 /// The slot that a store to a field of a type puts there (JVMS 6.5 putstatic).
-fn narrowed(field_type: JavaType, slot: Slot) -> Slot
+pub fn narrowed(field_type: JavaType, slot: Slot) -> Slot
     ensures { result ≡ narrowed_slot (narrow_of_type field_type) slot }
 {
     match (narrow_of(field_type), slot) {
@@ -103,12 +103,21 @@ pub(crate) fn where_room<S: Space>(
 }
 
 /// The operand on top.
-fn top_operand<S: Space>(group: &Group<S>) -> &Cond<Slot, S>
+pub fn top_operand<S: Space>(group: &Group<S>) -> &Cond<Slot, S>
     requires { 0 < length group.now.top.stack.conds }
     ensures { Some result.now ≡ slice_get group.now.top.stack.conds (length group.now.top.stack.conds - 1) }
 {
     let stack = &group.top_frame().stack;
     stack.get(stack.len() - 1)
+}
+
+/// The operand below the one on top.
+pub fn second_operand<S: Space>(group: &Group<S>) -> &Cond<Slot, S>
+    requires { 1 < length group.now.top.stack.conds }
+    ensures { Some result.now ≡ slice_get group.now.top.stack.conds (length group.now.top.stack.conds - 2) }
+{
+    let stack = &group.top_frame().stack;
+    stack.get(stack.len() - 2)
 }
 
 /// The configurations of a group, which has an operand, in which the operand on top is of the sort of a type.

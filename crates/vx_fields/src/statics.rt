@@ -9,8 +9,6 @@ ghost use Rattle.vx_java.specs.Checks.{sort_of};
 ghost use Rattle.vx_java.specs.Fields.{put_value};
 ghost use Rattle.vx_java.specs.FirstObjects.{narrowed_value};
 ghost use Rattle.vx_java.specs.Machine.{Go, Top, at_position, go};
-ghost use Rattle.vx_java.specs.Named.{in_bytes};
-ghost use Rattle.vx_link.specs.Names.{member};
 ghost use Rattle.vx_link.specs.Parts.{class_at, field_at, is_static_field};
 ghost use Rattle.vx_list.specs.Places.{item_or};
 ghost use Rattle.vx_space.specs.Sets.{Extends, IsKnown};
@@ -31,12 +29,12 @@ use vx_desc::{JavaType, is_clinit};
 use vx_group::Group;
 use vx_group_states::{Site, illegal};
 use vx_heap::Heap;
+use vx_java::Operation;
 use vx_java::parts::{class_of_method, name_of_method};
-use vx_java::{MemberReference, Operation, member};
 use vx_link::Program;
 use vx_outcome::Outcomes;
 use vx_ready::{Readiness, make_ready, stop_others};
-use vx_references::{FieldReference, field_reference};
+use vx_references::{FieldReference, field_reference, named_member};
 use vx_space::{Space, SpaceFault};
 use vx_value::{ClassId, FieldId, MethodId};
 
@@ -283,36 +281,22 @@ fn put_fitting<S: Space>(
     Ok(outcomes)
 }
 
-/// The static field that an entry of the pool of a class names.
-fn static_field<S: Space>(
+/// The field that an entry of the pool of a class names, for an instruction of static fields or of those of objects.
+pub fn field_named<S: Space>(
     program: &Program,
     heap: &Heap<S>,
     class: ClassId,
     index: u16,
+    is_static: bool,
 ) -> FieldReference
     requires bounded { IsBounded program.now }
     requires for_program { IsHeapFor program.now heap.now }
-    ensures { IsFieldReference program.now (class_at program.now class.0).pool index true result }
+    ensures { IsFieldReference program.now (class_at program.now class.0).pool index is_static result }
 {
     let owner = heap.owner(program, class, index);
     match program.class(class) {
-        Some(class) => field_reference(program, &class.pool, index, owner, true),
+        Some(class) => field_reference(program, &class.pool, index, owner, is_static),
         None => FieldReference::NoType,
-    }
-}
-
-/// The member that an entry of the pool of a class names (JVMS 4.4.2).
-pub fn named_member(program: &Program, class: ClassId, index: u16) -> MemberReference<'_>
-    ensures { in_bytes result ≡ member (class_at program.now class.0).pool index }
-{
-    match program.class(class) {
-        Some(class) => member(&class.pool, index),
-        None => MemberReference {
-            class: &[],
-            name: &[],
-            descriptor: &[],
-            by_interface: false,
-        },
     }
 }
 
@@ -330,7 +314,7 @@ fn get_static<S: Space>(
     ensures ok { IfOk result (λ r. IsAttemptBy site.now (Operation.GetStatic index) (S.sets space.old) (S.sets space.new) heap.old heap.new group r.items.items) }
 {
     let class = class_of_method(site.program, group.top_frame().method);
-    match static_field(site.program, heap, class, index) {
+    match field_named(site.program, heap, class, index, true) {
         FieldReference::Found {
             field,
             field_type,
@@ -361,7 +345,7 @@ fn put_static<S: Space>(
     ensures ok { IfOk result (λ r. IsAttemptBy site.now (Operation.PutStatic index) (S.sets space.old) (S.sets space.new) heap.old heap.new group r.items.items) }
 {
     let class = class_of_method(site.program, group.top_frame().method);
-    match static_field(site.program, heap, class, index) {
+    match field_named(site.program, heap, class, index, true) {
         FieldReference::Found {
             field,
             field_type,

@@ -68,7 +68,7 @@ fn ended<S: Space>(
 }
 
 /// All runs of a group end or raise, as the reference says whose field isn't found.
-pub(crate) fn unresolved<S: Space>(
+pub fn unresolved<S: Space>(
     alloc: Global,
     site: &Site,
     group: Group<S>,

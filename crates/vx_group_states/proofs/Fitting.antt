@@ -31,7 +31,7 @@ pub slots_size-append : (xs ys : List Slot) → slots_size (xs ++ ys) ≡ slots_
 slots_size-append [] ys = omega arith
 slots_size-append (x ∷ xs) ys = omega (arith, slots_size-append xs ys)
 
-slots_size-reverse : (xs : List Slot) → slots_size (reverse xs) ≡ slots_size xs
+pub slots_size-reverse : (xs : List Slot) → slots_size (reverse xs) ≡ slots_size xs
 slots_size-reverse [] = refl
 slots_size-reverse (x ∷ xs) = ap slots_size (reverse-cons x xs) ∙ slots_size-append (reverse xs) (x ∷ []) ∙ omega (arith, slots_size-reverse xs)
   where
@@ -73,19 +73,21 @@ slots_size-most (x ∷ xs) = omega (arith, most x, slots_size-most xs)
 
 -- ---- the sizes of a stack at each configuration
 
--- what the loop keeps: the size of the operands so far
-pub record IsSized {S I : Type 0} (start sets : Sets I) (row : Conditionals Slot S I) (i : ℕ) (total : Conditional ℕ S I) : Type 0 where
+-- what the loop keeps: the size of the operands so far, beside so many words
+pub record IsSized {S I : Type 0} (start sets : Sets I) (row : Conditionals Slot S I) (base i : ℕ) (total : Conditional ℕ S I) : Type 0 where
   pub extends : Extends start sets
   pub is_cond : IsCond nat_cmp sets total
   pub scope : total.scope ≡ row.scope
-  pub at : (c : List Bool) → start.test row.scope c ≡ true → cond_at sets total c ≡ Some (slots_size (take i (slots_at start row c)))
+  pub at : (c : List Bool) → start.test row.scope c ≡ true → cond_at sets total c ≡ Some (base + slots_size (take i (slots_at start row c)))
 
-pub IsSized-start : {S I : Type 0} (sets : Sets I) (row : Conditionals Slot S I) (total : Conditional ℕ S I) (scope : I) → scope ≡ row.scope → total.scope ≡ scope → IsCondOf nat_cmp sets (value_within sets scope (λ _. Some 0)) total → IsSized sets sets row 0 total
-IsSized-start {S = S} {I = I} sets row total scope e s v = record {
+pub IsSized-start : {S I : Type 0} (sets : Sets I) (row : Conditionals Slot S I) (base : ℕ) (total : Conditional ℕ S I) (scope : I) → scope ≡ row.scope → total.scope ≡ scope → IsCondOf nat_cmp sets (value_within sets scope (λ _. Some base)) total → IsSized sets sets row base 0 total
+IsSized-start {S = S} {I = I} sets row base total scope e s v = record {
   extends = Extends-refl sets;
   is_cond = IsCond-of nat_cmp sets _ total v;
   scope = s ∙ e;
-  at = λ c t. cond_at-of nat_cmp sets _ total c v ∙ inside (sets.test scope c) (ap (λ i. sets.test i c) e ∙ t);
+  at = λ c t.
+      let none : base ≡ base + 0 = omega arith in
+      cond_at-of nat_cmp sets _ total c v ∙ inside (sets.test scope c) (ap (λ i. sets.test i c) e ∙ t) ∙ ap Some none;
 }
   where
     inside : {T : Type 0} {v : T} (b : Bool) → b ≡ true → (if b then Some v else None) ≡ Some v
@@ -120,9 +122,9 @@ few_words [] i = omega (arith, none i)
 few_words (x ∷ xs) zero = omega arith
 few_words (x ∷ xs) (suc i) = omega (arith, most x, few_words xs i)
 
-pub IsSized-step : {S I : Type 0} {s0 s1 s2 : Sets I} (R : ℕ → Slot → ℕ → Type 0) (row : Conditionals Slot S I) (i : ℕ) (cond : Conditional Slot S I) (total made : Conditional ℕ S I) → ((n : ℕ) (s : Slot) (r : ℕ) → R n s r → n + 2 < 2 ^ 64 → r ≡ n + slot_width s) → IsRow slot_cmp s0 row → length row.conds < 2 ^ 32 → Some cond ≡ slice_get row.conds i → IsSized s0 s1 row i total → Extends s1 s2 → IsCondLifting2 nat_cmp s2 R (cond_at s1 total) (cond_at s1 cond) made → made.scope ≡ total.scope → IsSized s0 s2 row (i + 1) made
+pub IsSized-step : {S I : Type 0} {s0 s1 s2 : Sets I} (R : ℕ → Slot → ℕ → Type 0) (row : Conditionals Slot S I) (base i : ℕ) (cond : Conditional Slot S I) (total made : Conditional ℕ S I) → ((n : ℕ) (s : Slot) (r : ℕ) → R n s r → n + 2 < 2 ^ 64 → r ≡ n + slot_width s) → IsRow slot_cmp s0 row → length row.conds < 2 ^ 32 → base < 2 ^ 32 → Some cond ≡ slice_get row.conds i → IsSized s0 s1 row base i total → Extends s1 s2 → IsCondLifting2 nat_cmp s2 R (cond_at s1 total) (cond_at s1 cond) made → made.scope ≡ total.scope → IsSized s0 s2 row base (i + 1) made
 unfolding IsCondLifting2
-IsSized-step {S = S} {I = I} {s0 = s0} {s1 = s1} {s2 = s2} R row i cond total made law v few at g e l s =
+IsSized-step {S = S} {I = I} {s0 = s0} {s1 = s1} {s2 = s2} R row base i cond total made law v few low at g e l s =
     let there = IsRow-get slot_cmp s0 row i cond v at in
     record {
       extends = Extends-trans g.extends e;
@@ -133,12 +135,18 @@ IsSized-step {S = S} {I = I} {s0 = s0} {s1 = s1} {s2 = s2} R row i cond total ma
           let same : cond_at s1 cond c ≡ cond_at s0 cond c = cond_at-extends slot_cmp g.extends cond there.0 c in
           let in_scope : is_some (cond_at s1 cond c) ≡ true = ap is_some same ∙ cond_at-covers slot_cmp s0 cond there.0 c ∙ ap (λ j. s0.test j c) there.1 ∙ t in
           let short : length slots ≡ length row.conds = simp length-map in
-          let bound : slots_size (take i slots) + 2 < 2 ^ 64 = omega (arith, few_words slots i, short, few) in
-          let size = lifted R (cond_at s1 total c) (cond_at s2 made c) (cond_at s1 cond c) (slots_size (take i slots)) law (g.at c t) in_scope bound (l.at c) in
-          size ∙ ap Some (ap (λ o. slots_size (take i slots) + slot_width (or_top o)) same ∙ sym (one_more slots i (slot_at s0 cond c) (slots_at-get s0 row i cond c at)));
+          let bound : (base + slots_size (take i slots)) + 2 < 2 ^ 64 = omega (arith, few_words slots i, short, few, low) in
+          let size = lifted R (cond_at s1 total c) (cond_at s2 made c) (cond_at s1 cond c) (base + slots_size (take i slots)) law (g.at c t) in_scope bound (l.at c) in
+          let more : slots_size (take (i + 1) slots) ≡ slots_size (take i slots) + slot_width (or_top (cond_at s1 cond c)) = one_more slots i (slot_at s0 cond c) (slots_at-get s0 row i cond c at) ∙ ap (λ o. slots_size (take i slots) + slot_width (or_top o)) (sym same) in
+          let sum : (base + slots_size (take i slots)) + slot_width (or_top (cond_at s1 cond c)) ≡ base + slots_size (take (i + 1) slots) = omega (arith, more) in
+          size ∙ ap Some sum;
     }
 
-pub IsSized-end : {S I : Type 0} {s0 s1 : Sets I} (row : Conditionals Slot S I) (i : ℕ) (total : Conditional ℕ S I) → IsSized s0 s1 row i total → length row.conds ≤ i → (c : List Bool) → s0.test row.scope c ≡ true → cond_at s1 total c ≡ Some (slots_size (slots_at s0 row c))
-IsSized-end {s0 = s0} row i total g l c t =
+pub IsSized-end : {S I : Type 0} {s0 s1 : Sets I} (row : Conditionals Slot S I) (base i : ℕ) (total : Conditional ℕ S I) → IsSized s0 s1 row base i total → length row.conds ≤ i → (c : List Bool) → s0.test row.scope c ≡ true → cond_at s1 total c ≡ Some (base + slots_size (slots_at s0 row c))
+IsSized-end {s0 = s0} row base i total g l c t =
     let short : length (slots_at s0 row c) ≡ length row.conds = simp length-map in
-    g.at c t ∙ ap (λ xs. Some (slots_size xs)) (take_all i (slots_at s0 row c) (omega (arith, short)))
+    g.at c t ∙ ap (λ xs. Some (base + slots_size xs)) (take_all i (slots_at s0 row c) (omega (arith, short)))
+
+-- beside no words
+pub beside_none : (size : Option ℕ) (n : ℕ) → size ≡ Some (0 + n) → size ≡ Some n
+beside_none size n h = let same : 0 + n ≡ n = omega arith in h ∙ ap Some same

@@ -92,7 +92,7 @@ lessened true false None v = refl
 lessened true false (Some w) v = refl
 lessened false d o v = refl
 
-widened : {T : Type 0} (d : Bool) (o : Option T) (v : T) → (is_some o || d) ≡ is_some (if d then Some v else o)
+pub widened : {T : Type 0} (d : Bool) (o : Option T) (v : T) → (is_some o || d) ≡ is_some (if d then Some v else o)
 widened true None v = refl
 widened true (Some w) v = refl
 widened false None v = refl

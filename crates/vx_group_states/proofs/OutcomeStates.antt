@@ -92,7 +92,7 @@ condition_known p old new heap tree before (shared.Native group method) h = grou
 condition_known p old new heap tree before (shared.Write group stream text) h = group_known p old new heap tree before group h.0
 condition_known p old new heap tree before (shared.Ended condition end) h = h
 
-IsThrown-extends : {S I : Type 0} {old new : Sets I} → Extends old new → (heap : HeapView S I) → IsHeap old heap → (group : GroupView S I) (thrown : Conditional Slot S I) → old.is_known (path_of group) ≡ true → IsThrown old heap group thrown → IsThrown new heap group thrown
+pub IsThrown-extends : {S I : Type 0} {old new : Sets I} → Extends old new → (heap : HeapView S I) → IsHeap old heap → (group : GroupView S I) (thrown : Conditional Slot S I) → old.is_known (path_of group) ≡ true → IsThrown old heap group thrown → IsThrown new heap group thrown
 IsThrown-extends {old = old} {new = new} e heap v group thrown k h =
     let path : (c : List Bool) → new.test (path_of group) c ≡ true → old.test (path_of group) c ≡ true = λ c t. sym (e.test (path_of group) c k) ∙ t in
     let same : (c : List Bool) → slot_at new thrown c ≡ slot_at old thrown c = λ c. ap or_top (cond_at-extends slot_cmp e thrown h.is_cond c) in
@@ -219,7 +219,7 @@ IsOutcome-through {before = before} {earlier = earlier} p s0 s1 s2 heap tree gro
 IsOutcome-through {before = before} {earlier = earlier} p s0 s1 s2 heap tree group middle (shared.Write after stream text) f h = (Continues-trans p s0 s1 s2 heap before tree earlier group middle after f h.0, h.1)
 IsOutcome-through p s0 s1 s2 heap tree group middle (shared.Ended condition end) f h = h
 
-AreOutcomes-through : {S I : Type 0} {before : HeapView S I} {earlier : List (Option (Caller S I))} (p : Program) (s0 s1 s2 : Sets I) (heap : HeapView S I) (tree : List (Option (Caller S I))) (group middle : GroupView S I) (xs : List (Outcome S I)) → Continues p s0 s1 before earlier group middle → AreOutcomes p s1 s2 heap tree middle xs → AreOutcomes p s0 s2 heap tree group xs
+pub AreOutcomes-through : {S I : Type 0} {before : HeapView S I} {earlier : List (Option (Caller S I))} (p : Program) (s0 s1 s2 : Sets I) (heap : HeapView S I) (tree : List (Option (Caller S I))) (group middle : GroupView S I) (xs : List (Outcome S I)) → Continues p s0 s1 before earlier group middle → AreOutcomes p s1 s2 heap tree middle xs → AreOutcomes p s0 s2 heap tree group xs
 AreOutcomes-through p s0 s1 s2 heap tree group middle [] f h = tt
 AreOutcomes-through p s0 s1 s2 heap tree group middle (x ∷ xs) f h = (IsOutcome-through p s0 s1 s2 heap tree group middle x f h.0, AreOutcomes-through p s0 s1 s2 heap tree group middle xs f h.1)
 

@@ -13,7 +13,7 @@ use Rattle.vx_group.specs.declared.callers.Caller.{Caller}
 use Rattle.vx_group.specs.Callers.{Keeps, callers_of, frames_at}
 use Rattle.vx_group.specs.Group.{GroupView, IsGroupIn, attempts_at, path_of, shapes_of, stack_of}
 use Rattle.vx_heap.specs.Heap.{Globals, HeapView, IsHeap, are_held, globals_at, is_held, name_at, value_of}
-use Rattle.vx_heap.specs.declared.object.HeapObject.{HeapObject}
+pub use Rattle.vx_heap.specs.Changing.{Grows}
 use Rattle.vx_outcome.specs.Outcome.{Divide, condition_of}
 use Rattle.vx_outcome.specs.declared.outcome.Outcome.{Outcome}
 use Rattle.vx_outcome.specs.declared.outcome.Outcome.TheVariants as shared
@@ -139,12 +139,6 @@ pub record CameTo {S I : Type 0} (p : Program) (old new : Sets I) (heap : HeapVi
 -- The outcomes of a whole group where heap and tree stay: at each configuration of the path comes what this function of the plain state says.
 abbrev pub Yields : {S I : Type 0} → Program → (State → PlainOutcome) → Sets I → Sets I → HeapView S I → List (Option (Caller S I)) → GroupView S I → List (Outcome S I) → Type 0
 Yields p says old new heap tree group outcomes = CameTo p old new heap tree group (λ c. says (state_at old heap tree group c)) (old.test (path_of group)) outcomes
-
--- the later heap has the objects and the texts of the earlier one under their numbers
-pub record Grows {S I : Type 0} (before after : HeapView S I) : Type 0 where
-  pub allowed : after.allowed ≡ before.allowed
-  pub objects : (i : ℕ) (o : HeapObject S I) → slice_get before.objects i ≡ Some o → (later : HeapObject S I) × (slice_get after.objects i ≡ Some later) × (later.presence ≡ o.presence)
-  pub texts : (n : ℕ) (text : List ℕ) → slice_get before.texts n ≡ Some text → slice_get after.texts n ≡ Some text
 
 -- An attempt of a group: at each configuration of its path comes what this function of the plain state says, and at each other one the plain heap stays.
 pub record Attempts {S I : Type 0} (p : Program) (says : State → PlainOutcome) (old new : Sets I) (before after : HeapView S I) (tree later : List (Option (Caller S I))) (group : GroupView S I) (outcomes : List (Outcome S I)) : Type 0 where

@@ -13,5 +13,5 @@ pub use answer::Answer;
 pub use answering::carry_out;
 pub use endings::{illegal, pass};
 pub use passing::pass_where;
-pub use settling::{settle, stack_size};
+pub use settling::{settle, stack_size, width};
 pub use site::Site;

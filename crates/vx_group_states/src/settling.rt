@@ -23,7 +23,7 @@ use vx_space::{Space, SpaceFault};
 use vx_value::Slot;
 
 /// How many words a slot takes on the operand stack: a long two, any other one (JVMS 2.6.2).
-fn width(slot: Slot) -> u64
+pub fn width(slot: Slot) -> u64
     ensures { result ≡ slot_width slot }
 {
     match slot {

@@ -1,5 +1,5 @@
 -- What runs begin with, lifted to the configurations that run, is the first heap.
-use Rattle.std.proofs.Common.{◌≡◌, ℕ, zero, suc, ◌+◌, ◌-◌, ◌≤◌, Bool, true, false, List, [], ◌∷◌, ◌++◌, ◌&&◌, refl, sym, ◌∙◌, ap, map, length, subst, if◌then◌else◌, arith}
+use Rattle.std.proofs.Common.{◌≡◌, ℕ, zero, suc, ◌+◌, ◌-◌, ◌≤◌, Bool, true, false, List, [], ◌∷◌, ◌++◌, ◌&&◌, refl, sym, ◌∙◌, ap, map, length, if◌then◌else◌, arith}
 use Rattle.std.specs.Prelude.{Option, Some, None, pos, replicate, unwrap_or, ℤ, negsuc, ◌-ℤ◌}
 use Rattle.std.specs.List.{AllZip, list_all}
 use Rattle.std.specs.declared.cmp.Ordering.{Ordering}
@@ -14,8 +14,8 @@ use Rattle.vx_value.specs.Texts.{Extends}
 use Rattle.vx_space.specs.Config.{value_of as option_at}
 use Rattle.vx_space.specs.Sets.{Sets}
 use Rattle.vx_cond.specs.Cond.{Conditional, cond_at}
-use Rattle.vx_cond.specs.Row.{AreConds, IsRow, conds_at}
-use Rattle.vx_cond.specs.Slots.{or_top, slot_at, slots_at}
+use Rattle.vx_cond.specs.Row.{AreConds}
+use Rattle.vx_cond.specs.Slots.{slot_at}
 use Rattle.vx_initial_heap.specs.First.{IsFirst, IsFirstObject, IsFirstStatic, IsOptionOf, cells_in, empty_text, is_among, is_cell_among, is_static_among, static_in, value_in}
 use Rattle.vx_initial_heap.specs.declared.first.First.{First}
 use Rattle.vx_initial_heap.specs.declared.objects.FirstObject.{FirstObject}
@@ -30,11 +30,14 @@ use Rattle.vx_link.specs.declared.program.LinkedField.{LinkedField}
 use Rattle.vx_link.specs.declared.program.Program.{Program}
 use Rattle.vx_references.specs.Named.{class_table}
 use Rattle.vx_value.specs.declared.ids.ClassId.{ClassId}
+use Rattle.vx_heap.specs.Cells.{cells_at}
+use Rattle.vx_heap.specs.declared.cell_list.Cell.{Cell}
 use Rattle.vx_heap.specs.declared.object.HeapObject.{HeapObject}
 use Rattle.vx_heap.specs.First.{IsFirstHeap}
-use Rattle.vx_heap.specs.Heap.{AreEverywhere, AreObjects, HeapView, IsHeap, IsObject, are_held, has_option, has_options, inits_at, is_held, object_of, objects_at, statics_at, value_of}
+use Rattle.vx_heap.specs.Heap.{AreEverywhere, AreObjects, HeapView, IsHeap, IsObject, are_held, has_option, has_options, inits_at, is_held, object_holds, object_of, objects_at, statics_at, value_of}
 use Rattle.vx_heap.specs.Lifted.{AreLifted, AreSame, AreStatics, IsLifted, IsSame, IsStatic, IsThroughout, option_of, options_known, slots_of, static_slot}
 use Rattle.vx_heap.proofs.Places.{and_true, both_true}
+use Rattle.vx_heap.proofs.PlainCells.{AreCells-plain, cells_at-plain, held_plain, holds_anyway, value_plain}
 use Rattle.vx_heap.proofs.Present.{AreEverywhere-take, all_there, held_throughout, slot_inside, value_there}
 
 -- ---- lists that belong together
@@ -116,47 +119,40 @@ same_conds cmp sets scope value (x ∷ xs) (y ∷ ys) h = (h.0.is_cond, h.0.scop
 -- ---- objects
 
 module _ {S I : Type 0} (sets : Sets I) (allowed : I) (known : sets.is_known allowed ≡ true) where
-  is_object : (o : FirstObject) (h : HeapObject S I) → IsLifted sets allowed o h → IsObject sets h
-  unfolding IsRow
+  is_object : (o : FirstObject) (h : HeapObject S I) → IsLifted allowed o h → IsObject sets h
   is_object o h l = record {
-    cells = record {
-      scope_known = rw l.cells.scope_is known;
-      conds = subst (λ scope. AreConds slot_cmp sets scope h.cells.conds) (sym l.cells.scope_is) (same_conds slot_cmp sets allowed (λ slot c. slot) (slots_of o.cell) h.cells.conds l.cells.conds);
-    };
-    scope = l.cells.scope_is ∙ sym l.presence_is;
+    known = rw l.presence_is known;
+    cells = rw l.cells_are (AreCells-plain S sets h.presence (slots_of o.cell));
+    short = rw l.length_is (omega arith);
   }
 
-  are_objects : (os : List FirstObject) (hs : List (HeapObject S I)) → AreLifted sets allowed os hs → AreObjects sets hs
+  are_objects : (os : List FirstObject) (hs : List (HeapObject S I)) → AreLifted allowed os hs → AreObjects sets hs
   are_objects [] [] l = tt
   are_objects [] (h ∷ hs) l = absurd l
   are_objects (o ∷ os) [] l = absurd l
   are_objects (o ∷ os) (h ∷ hs) l = (is_object o h l.0, are_objects os hs l.1)
 
-  everywhere : (os : List FirstObject) (hs : List (HeapObject S I)) → AreLifted sets allowed os hs → AreEverywhere allowed hs
+  everywhere : (os : List FirstObject) (hs : List (HeapObject S I)) → AreLifted allowed os hs → AreEverywhere allowed hs
   everywhere [] [] l = tt
   everywhere [] (h ∷ hs) l = absurd l
   everywhere (o ∷ os) [] l = absurd l
   everywhere (o ∷ os) (h ∷ hs) l = (l.0.presence_is, everywhere os hs l.1)
 
 module _ {S I : Type 0} (sets : Sets I) (heap : HeapView S I) (all : AreEverywhere heap.allowed heap.objects) where
-  cells_hold : (c : List Bool) (cell : Option Slot) (conds : List (Conditional Slot S I)) → AreSame slot_cmp sets heap.allowed (slots_of cell) conds → is_cell_among (length heap.texts) cell ≡ true → are_held sets heap c (map or_top (conds_at sets conds c)) ≡ true
-  cells_hold c None [] h m = refl
-  cells_hold c None (x ∷ xs) h m = absurd h
-  cells_hold c (Some slot) [] h m = absurd h
-  cells_hold c (Some slot) (x ∷ []) h m = and_true (is_held sets heap c (slot_at sets x c)) true (held_throughout sets heap all 0 (omega arith) (λ _. slot) x c h.0 m) refl
-  cells_hold c (Some slot) (x ∷ y ∷ ys) h m = absurd h.1
+  cells_hold : (c : List Bool) (cell : Option Slot) → is_cell_among (length heap.texts) cell ≡ true → are_held sets heap c (slots_of cell) ≡ true
+  cells_hold c None m = refl
+  cells_hold c (Some slot) m = and_true (is_held sets heap c slot) true (held_plain sets heap c slot m) refl
 
   module _ (c : List Bool) (t : sets.test heap.allowed c ≡ true) where
-    cells_are : (cell : Option Slot) (conds : List (Conditional Slot S I)) → AreSame slot_cmp sets heap.allowed (slots_of cell) conds → is_cell_among (length heap.texts) cell ≡ true → map (value_of sets heap c) (map or_top (conds_at sets conds c)) ≡ cells_in heap.texts cell
-    cells_are None [] h m = refl
-    cells_are None (x ∷ xs) h m = absurd h
-    cells_are (Some slot) [] h m = absurd h
-    cells_are (Some slot) (x ∷ []) h m = ap (λ v. v ∷ []) (ap (value_of sets heap c) (slot_inside sets heap.allowed (λ _. slot) x c h.0 t) ∙ value_there sets heap.allowed c t heap all 0 (omega arith) slot m)
-    cells_are (Some slot) (x ∷ y ∷ ys) h m = absurd h.1
+    cells_are : (cell : Option Slot) → is_cell_among (length heap.texts) cell ≡ true → map (value_of sets heap c) (slots_of cell) ≡ cells_in heap.texts cell
+    cells_are None m = refl
+    cells_are (Some slot) m = ap (λ v. v ∷ []) (value_plain sets heap c slot m)
 
-    object_is : (p : Program) (x : FirstFor) (h : HeapObject S I) → Linked (IsFirstObject p heap.texts) (IsLifted sets heap.allowed) x h → object_of sets heap c h ≡ object_of_first p x
+    object_is : (p : Program) (x : FirstFor) (h : HeapObject S I) → Linked (IsFirstObject p heap.texts) (IsLifted heap.allowed) x h → object_of sets heap c h ≡ object_of_first p x
     object_is p x h l =
-        (λ i. record { class = (l.right.class_is i).0; size = l.right.length_is i; cells = cells_are l.middle.cell h.cells.conds l.right.cells.conds l.left.held i }) ∙ l.left.same
+        let slots : cells_at sets h.cells c ≡ slots_of l.middle.cell = ap (λ (cells : List (Cell S I)). cells_at sets cells c) l.right.cells_are ∙ cells_at-plain S sets c (slots_of l.middle.cell) in
+        let cells = ap (map (value_of sets heap c)) slots ∙ cells_are l.middle.cell l.left.held in
+        (λ i. record { class = (l.right.class_is i).0; size = l.right.length_is i; cells = cells i }) ∙ l.left.same
 
     -- ---- statics
 
@@ -179,8 +175,10 @@ module _ {S I : Type 0} (sets : Sets I) (heap : HeapView S I) (all : AreEverywhe
       let among : is_among (suc (first_words p)) 1 slot ≡ true = static_slot_among (suc (first_words p)) c l.middle l.left.held in
       held_throughout sets heap all (suc (first_words p)) enough (static_slot l.middle) cond c l.right (among_more (suc (first_words p)) empty_text heap.texts more slot among)
 
-  object_holds : (p : Program) (c : List Bool) (x : FirstFor) (h : HeapObject S I) → Linked (IsFirstObject p heap.texts) (IsLifted sets heap.allowed) x h → are_held sets heap c (slots_at sets h.cells c) ≡ true
-  object_holds p c x h l = cells_hold c l.middle.cell h.cells.conds l.right.cells.conds l.left.held
+  first_holds : (p : Program) (c : List Bool) (x : FirstFor) (h : HeapObject S I) → Linked (IsFirstObject p heap.texts) (IsLifted heap.allowed) x h → object_holds sets heap c h ≡ true
+  first_holds p c x h l =
+      let slots : cells_at sets h.cells c ≡ slots_of l.middle.cell = ap (λ (cells : List (Cell S I)). cells_at sets cells c) l.right.cells_are ∙ cells_at-plain S sets c (slots_of l.middle.cell) in
+      holds_anyway (sets.test h.presence c) (are_held sets heap c (cells_at sets h.cells c)) (ap (are_held sets heap c) slots ∙ cells_hold c l.middle.cell l.left.held)
 
 -- ---- how many there are
 
@@ -204,15 +202,15 @@ lifted_heap allowed first table objects statics inits = record { objects = objec
 
 pub lifted_is_first : {S I : Type 0} (p : Program) (sets : Sets I) (allowed : I) (first : First) (table : List (List (Option ClassId))) (objects : List (HeapObject S I)) (statics : List (Conditional Slot S I)) (inits : List (Conditional InitState S I))
     → table ≡ class_table p → sets.is_known allowed ≡ true → core_count ≤ length p.classes → IsFirst p first
-    → AreLifted sets allowed first.objects.items objects → AreStatics sets allowed first.statics.items statics → AreSame init_state_cmp sets allowed first.inits.items inits
+    → AreLifted allowed first.objects.items objects → AreStatics sets allowed first.statics.items statics → AreSame init_state_cmp sets allowed first.inits.items inits
     → IsFirstHeap p sets allowed (lifted_heap allowed first table objects statics inits)
 unfolding IsHeap
 lifted_is_first {S = S} {I = I} p sets allowed first table objects statics inits resolved known core f os ss is =
     let heap : HeapView S I = lifted_heap allowed first table objects statics inits in
     let all : AreEverywhere allowed objects = everywhere sets allowed known first.objects.items objects os in
-    let firsts = linked (IsFirstObject p first.texts.texts) (IsLifted sets allowed) (first_objects p) first.objects.items objects f.objects os in
+    let firsts = linked (IsFirstObject p first.texts.texts) (IsLifted allowed) (first_objects p) first.objects.items objects f.objects os in
     let fields = linked (IsFirstStatic p) (IsStatic sets allowed) p.fields first.statics.items statics f.statics ss in
-    let count : length objects ≡ suc (first_words p) = zip_length (Linked (IsFirstObject p first.texts.texts) (IsLifted sets allowed)) (first_objects p) objects firsts ∙ first_count p in
+    let count : length objects ≡ suc (first_words p) = zip_length (Linked (IsFirstObject p first.texts.texts) (IsLifted allowed)) (first_objects p) objects firsts ∙ first_count p in
     let enough : suc (first_words p) ≤ length objects = omega (arith, count) in
     record {
       is_heap = record {
@@ -220,7 +218,7 @@ lifted_is_first {S = S} {I = I} p sets allowed first table objects statics inits
         objects = are_objects sets allowed known first.objects.items objects os;
         statics = same_conds slot_cmp sets allowed static_slot first.statics.items statics ss;
         inits = same_conds init_state_cmp sets allowed (λ state c. state) first.inits.items inits is;
-        objects_held = λ c. zip_all (Linked (IsFirstObject p first.texts.texts) (IsLifted sets allowed)) (λ o. are_held sets heap c (slots_at sets o.cells c)) (object_holds sets heap all p c) (first_objects p) objects firsts;
+        objects_held = λ c. zip_all (Linked (IsFirstObject p first.texts.texts) (IsLifted allowed)) (object_holds sets heap c) (first_holds sets heap all p c) (first_objects p) objects firsts;
         statics_held = λ c.
             all_map (is_held sets heap c) (λ cond. slot_at sets cond c) statics
             ∙ zip_all (Linked (IsFirstStatic p) (IsStatic sets allowed)) (λ cond. is_held sets heap c (slot_at sets cond c)) (static_holds sets heap all p f.texts enough c) p.fields statics fields;
@@ -238,7 +236,7 @@ lifted_is_first {S = S} {I = I} p sets allowed first table objects statics inits
       at = λ c t.
           let here : objects_at sets heap c ≡ map (object_of_first p) (first_objects p) =
           ap (map (object_of sets heap c)) (all_there sets allowed c t objects all)
-          ∙ zip_maps (Linked (IsFirstObject p first.texts.texts) (IsLifted sets allowed)) (object_of_first p) (object_of sets heap c) (object_is sets heap all c t p) (first_objects p) objects firsts in
+          ∙ zip_maps (Linked (IsFirstObject p first.texts.texts) (IsLifted allowed)) (object_of_first p) (object_of sets heap c) (object_is sets heap all c t p) (first_objects p) objects firsts in
           let values : statics_at sets heap c ≡ map (first_static p c) p.fields = zip_maps (Linked (IsFirstStatic p) (IsStatic sets allowed)) (first_static p c) (λ cond. value_of sets heap c (slot_at sets cond c)) (static_is sets heap all c t p f.texts enough) p.fields statics fields in
           let states : inits_at sets heap c ≡ first_inits p = zip_maps (IsSame init_state_cmp sets allowed) (λ state. state) (λ cond. unwrap_or (cond_at sets cond c) Done) (init_is sets heap all c t) first.inits.items inits is ∙ map_same first.inits.items ∙ f.inits in
           λ i. record { objects = here i; statics = values i; inits = states i };

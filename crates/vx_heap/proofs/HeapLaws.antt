@@ -1,6 +1,6 @@
 -- Laws of heaps, for callers: what stays where a space is extended, or where the ids held keep their sets.
-use Rattle.std.proofs.Common.{◌≡◌, ℕ, zero, suc, Bool, List, [], ◌∷◌, ◌++◌, ◌&&◌, refl, sym, ◌∙◌, ap, map}
-use Rattle.std.specs.Prelude.{slice_get}
+use Rattle.std.proofs.Common.{◌≡◌, ℕ, zero, suc, Bool, List, [], ◌∷◌, ◌++◌, ◌&&◌, refl, ◌∙◌, ap, map}
+use Rattle.std.specs.Prelude.{slice_get, true, if◌then◌else◌}
 use Rattle.std.specs.List.{flat_map, list_all}
 use Rattle.vx_value.specs.declared.slot.Slot.{Slot}
 use Rattle.vx_value.specs.declared.slot.Slot.TheVariants.{Top, Int, Long, Null, Ref, Text}
@@ -8,13 +8,16 @@ use Rattle.vx_value.specs.Slot.{slot_cmp, init_state_cmp}
 use Rattle.vx_space.specs.Sets.{Sets, AreKept, AreKnown, Extends}
 use Rattle.vx_cond.specs.Cond.{Conditional, cond_ids}
 use Rattle.vx_cond.specs.Row.{IsRow}
-use Rattle.vx_cond.specs.Slots.{or_top, slot_at, slots_at}
+use Rattle.vx_cond.specs.Slots.{or_top, slot_at}
 use Rattle.vx_cond.specs.Keeping.{cond_at-kept, AreKept-append_left, AreKept-append_right}
-use Rattle.vx_cond.proofs.RowLaws.{IsRow-kept}
+use Rattle.vx_cond.proofs.RowLaws.{IsCond-kept, IsRow-kept}
+use Rattle.vx_heap.specs.Cells.{AreCells, IsCell, cell_ids, cells_at}
+use Rattle.vx_heap.specs.declared.cell_list.Cell.{Cell}
+use Rattle.vx_heap.specs.declared.cell_list.Cell.TheVariants.{Differs, Plain}
 use Rattle.vx_heap.specs.declared.object.HeapObject.{HeapObject}
-use Rattle.vx_heap.specs.Heap.{AreObjects, HeapView, IsHeap, are_held, globals_at, heap_ids, is_held, is_object_held, name_at, object_ids, value_of}
-use Rattle.vx_heap.specs.Keeping.{globals_at-kept, inits_kept, name_at-kept, objects_kept, slots_at-kept, statics_kept, value_of-kept}
-use Rattle.vx_heap.proofs.Known.{AreKept-extends, AreKnown-append, conds_known, row_known}
+use Rattle.vx_heap.specs.Heap.{AreObjects, HeapView, IsHeap, are_held, globals_at, heap_ids, is_held, is_object_held, name_at, object_holds, object_ids, value_of}
+use Rattle.vx_heap.specs.Keeping.{cells_at-kept, globals_at-kept, inits_kept, name_at-kept, objects_kept, statics_kept, value_of-kept}
+use Rattle.vx_heap.proofs.Known.{AreKept-extends, AreKnown-append, cond_known, conds_known}
 
 list_all-same : {A : Type 0} (p q : A → Bool) → ((x : A) → p x ≡ q x) → (xs : List A) → list_all p xs ≡ list_all q xs
 list_all-same p q h [] = refl
@@ -38,10 +41,15 @@ is_held-kept old new heap c k (Text n) = refl
 are_held-kept : {S I : Type 0} (old new : Sets I) (heap : HeapView S I) (c : List Bool) → AreKept old new (heap_ids heap) → (slots : List Slot) → are_held new heap c slots ≡ are_held old heap c slots
 are_held-kept old new heap c k slots = list_all-same (is_held new heap c) (is_held old heap c) (is_held-kept old new heap c k) slots
 
-objects_hold-kept : {S I : Type 0} (old new : Sets I) (heap : HeapView S I) (c : List Bool) → AreKept old new (heap_ids heap) → (os : List (HeapObject S I)) → AreKept old new (flat_map object_ids os) → list_all (λ o. are_held new heap c (slots_at new o.cells c)) os ≡ list_all (λ o. are_held old heap c (slots_at old o.cells c)) os
+object_holds-kept : {S I : Type 0} (old new : Sets I) (heap : HeapView S I) (c : List Bool) → AreKept old new (heap_ids heap) → (o : HeapObject S I) → AreKept old new (object_ids o) → object_holds new heap c o ≡ object_holds old heap c o
+object_holds-kept old new heap c k o ko =
+    let slots = are_held-kept old new heap c k (cells_at new o.cells c) ∙ ap (λ slots. are_held old heap c slots) (cells_at-kept old new o.cells c ko.1) in
+    (λ i. if ko.0.test c i then slots i else true)
+
+objects_hold-kept : {S I : Type 0} (old new : Sets I) (heap : HeapView S I) (c : List Bool) → AreKept old new (heap_ids heap) → (os : List (HeapObject S I)) → AreKept old new (flat_map object_ids os) → list_all (object_holds new heap c) os ≡ list_all (object_holds old heap c) os
 objects_hold-kept old new heap c k [] ks = refl
 objects_hold-kept old new heap c k (o ∷ os) ks =
-    let here = are_held-kept old new heap c k (slots_at new o.cells c) ∙ ap (λ slots. are_held old heap c slots) (slots_at-kept old new o c (AreKept-append_left old new (object_ids o) (flat_map object_ids os) ks)) in
+    let here = object_holds-kept old new heap c k o (AreKept-append_left old new (object_ids o) (flat_map object_ids os) ks) in
     let rest = objects_hold-kept old new heap c k os (AreKept-append_right old new (object_ids o) (flat_map object_ids os) ks) in
     λ i. here i && rest i
 
@@ -52,12 +60,24 @@ static_slots-kept old new c (x ∷ xs) ks =
     let rest = static_slots-kept old new c xs (AreKept-append_right old new (cond_ids x) (flat_map cond_ids xs) ks) in
     λ i. here i ∷ rest i
 
+IsCell-kept : {S I : Type 0} (old new : Sets I) → new.never ≡ old.never → (presence : I) (x : Cell S I) → AreKept old new (cell_ids x) → IsCell old presence x → IsCell new presence x
+IsCell-kept old new n presence (Plain slot) k h = tt
+IsCell-kept old new n presence (Differs cond) k h = (IsCond-kept slot_cmp n cond.value k h.0, h.1)
+
+AreCells-kept : {S I : Type 0} (old new : Sets I) → new.never ≡ old.never → (presence : I) (xs : List (Cell S I)) → AreKept old new (flat_map cell_ids xs) → AreCells old presence xs → AreCells new presence xs
+AreCells-kept old new n presence [] k h = tt
+AreCells-kept old new n presence (x ∷ xs) k h = (
+  IsCell-kept old new n presence x (AreKept-append_left old new (cell_ids x) (flat_map cell_ids xs) k) h.0,
+  AreCells-kept old new n presence xs (AreKept-append_right old new (cell_ids x) (flat_map cell_ids xs) k) h.1,
+)
+
 AreObjects-kept : {S I : Type 0} (old new : Sets I) → new.never ≡ old.never → (os : List (HeapObject S I)) → AreKept old new (flat_map object_ids os) → AreObjects old os → AreObjects new os
 AreObjects-kept old new n [] ks h = tt
-AreObjects-kept old new n (o ∷ os) ks h = (
-  record { cells = IsRow-kept slot_cmp n o.cells (AreKept-append_left old new (object_ids o) (flat_map object_ids os) ks).1 h.0.cells; scope = h.0.scope },
-  AreObjects-kept old new n os (AreKept-append_right old new (object_ids o) (flat_map object_ids os) ks) h.1,
-)
+AreObjects-kept old new n (o ∷ os) ks h =
+    let here = AreKept-append_left old new (object_ids o) (flat_map object_ids os) ks in (
+      record { known = here.0.known; cells = AreCells-kept old new n o.presence o.cells here.1 h.0.cells; short = h.0.short },
+      AreObjects-kept old new n os (AreKept-append_right old new (object_ids o) (flat_map object_ids os) ks) h.1,
+    )
 
 -- a heap stays one where the ids that it holds keep their sets
 pub IsHeap-kept : {S I : Type 0} {old new : Sets I} → new.never ≡ old.never → (heap : HeapView S I) → AreKept old new (heap_ids heap) → IsHeap old heap → IsHeap new heap
@@ -73,11 +93,25 @@ IsHeap-kept {old = old} {new = new} n heap k v = record {
 
 -- ---- known ids
 
+cell_known : {S I : Type 0} (sets : Sets I) (presence : I) (x : Cell S I) → IsCell sets presence x → AreKnown sets (cell_ids x)
+cell_known sets presence (Plain slot) h = tt
+cell_known sets presence (Differs cond) h = cond_known slot_cmp sets cond.value h.0
+
+pub cells_known : {S I : Type 0} (sets : Sets I) (presence : I) (xs : List (Cell S I)) → AreCells sets presence xs → AreKnown sets (flat_map cell_ids xs)
+cells_known sets presence [] h = tt
+cells_known sets presence (x ∷ xs) h = AreKnown-append sets (cell_ids x) (flat_map cell_ids xs) (cell_known sets presence x h.0) (cells_known sets presence xs h.1)
+
+-- the cells of an object over a later space
+pub AreCells-extends : {S I : Type 0} {old new : Sets I} → Extends old new → (presence : I) (xs : List (Cell S I)) → AreCells old presence xs → AreCells new presence xs
+AreCells-extends {old = old} {new = new} e presence xs h = AreCells-kept old new e.never presence xs (AreKept-extends e (flat_map cell_ids xs) (cells_known old presence xs h)) h
+
+pub cells_at-extends : {S I : Type 0} {old new : Sets I} → Extends old new → (presence : I) (xs : List (Cell S I)) → AreCells old presence xs → (c : List Bool) → cells_at new xs c ≡ cells_at old xs c
+cells_at-extends {old = old} {new = new} e presence xs h c = cells_at-kept old new xs c (AreKept-extends e (flat_map cell_ids xs) (cells_known old presence xs h))
+
 objects_known : {S I : Type 0} (sets : Sets I) (os : List (HeapObject S I)) → AreObjects sets os → AreKnown sets (flat_map object_ids os)
 objects_known sets [] h = tt
 objects_known sets (o ∷ os) h =
-    let cells = row_known slot_cmp sets o.cells h.0.cells in
-    AreKnown-append sets (object_ids o) (flat_map object_ids os) (ap sets.is_known (sym h.0.scope) ∙ cells.0, cells) (objects_known sets os h.1)
+    AreKnown-append sets (object_ids o) (flat_map object_ids os) (h.0.known, cells_known sets o.presence o.cells h.0.cells) (objects_known sets os h.1)
 
 -- the ids that a heap holds are known
 pub heap_known : {S I : Type 0} (sets : Sets I) (heap : HeapView S I) → IsHeap sets heap → AreKnown sets (heap_ids heap)

@@ -8,3 +8,9 @@ pub mod Throughout
 pub mod Present
 pub mod FirstHeap
 pub mod Table
+pub mod PlainCells
+pub mod CellWrites
+pub mod Growing
+pub mod Making
+pub mod CellChanges
+pub mod Beginnings

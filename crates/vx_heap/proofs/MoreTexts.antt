@@ -7,10 +7,11 @@ use Rattle.vx_value.specs.declared.slot.Slot.TheVariants.{Top, Int, Long, Null, 
 use Rattle.vx_value.specs.Texts.{Extends}
 use Rattle.vx_space.specs.Sets.{Sets}
 use Rattle.vx_cond.specs.Cond.{Conditional}
-use Rattle.vx_cond.specs.Slots.{slot_at, slots_at}
+use Rattle.vx_cond.specs.Slots.{slot_at}
 use Rattle.vx_java.specs.Machine.{Text as TextValue}
+use Rattle.vx_heap.specs.Cells.{cells_at}
 use Rattle.vx_heap.specs.declared.object.HeapObject.{HeapObject}
-use Rattle.vx_heap.specs.Heap.{HeapView, IsHeap, KeepsPlain, are_held, globals_at, is_held, object_of, value_of}
+use Rattle.vx_heap.specs.Heap.{HeapView, IsHeap, KeepsPlain, are_held, globals_at, is_held, object_holds, object_of, value_of}
 use Rattle.vx_heap.proofs.Places.{both_true, and_true}
 
 module _ {S I : Type 0} (heap : HeapView S I) (texts : List (List ℕ)) (more : Extends heap.texts texts) (sets : Sets I) (c : List Bool) where
@@ -42,21 +43,27 @@ module _ {S I : Type 0} (heap : HeapView S I) (texts : List (List ℕ)) (more : 
       let parts = both_true (is_held sets heap c slot) (are_held sets heap c slots) h in
       λ i. value_more slot parts.0 i ∷ values_more slots parts.1 i
 
-  objects_hold_more : (os : List (HeapObject S I)) → list_all (λ o. are_held sets heap c (slots_at sets o.cells c)) os ≡ true → list_all (λ o. are_held sets (record heap { texts = texts }) c (slots_at sets o.cells c)) os ≡ true
+  object_holds_more : (b : Bool) (slots : List Slot) → (if b then are_held sets heap c slots else true) ≡ true → (if b then are_held sets (record heap { texts = texts }) c slots else true) ≡ true
+  object_holds_more true slots h = are_held_more slots h
+  object_holds_more false slots h = refl
+
+  objects_hold_more : (os : List (HeapObject S I)) → list_all (object_holds sets heap c) os ≡ true → list_all (object_holds sets (record heap { texts = texts }) c) os ≡ true
   objects_hold_more [] h = refl
   objects_hold_more (o ∷ os) h =
-      let parts = both_true (are_held sets heap c (slots_at sets o.cells c)) (list_all (λ p. are_held sets heap c (slots_at sets p.cells c)) os) h in
-      and_true (are_held sets (record heap { texts = texts }) c (slots_at sets o.cells c)) (list_all (λ p. are_held sets (record heap { texts = texts }) c (slots_at sets p.cells c)) os) (are_held_more (slots_at sets o.cells c) parts.0) (objects_hold_more os parts.1)
+      let parts = both_true (object_holds sets heap c o) (list_all (object_holds sets heap c) os) h in
+      and_true (object_holds sets (record heap { texts = texts }) c o) (list_all (object_holds sets (record heap { texts = texts }) c) os) (object_holds_more (sets.test o.presence c) (cells_at sets o.cells c) parts.0) (objects_hold_more os parts.1)
 
-  objects_more : (os : List (HeapObject S I)) → list_all (λ o. are_held sets heap c (slots_at sets o.cells c)) os ≡ true → map (object_of sets (record heap { texts = texts }) c) (filter (λ o. sets.test o.presence c) os) ≡ map (object_of sets heap c) (filter (λ o. sets.test o.presence c) os)
+  objects_more : (os : List (HeapObject S I)) → list_all (object_holds sets heap c) os ≡ true → map (object_of sets (record heap { texts = texts }) c) (filter (λ o. sets.test o.presence c) os) ≡ map (object_of sets heap c) (filter (λ o. sets.test o.presence c) os)
   objects_more [] h = refl
   objects_more (o ∷ os) h =
-      let parts = both_true (are_held sets heap c (slots_at sets o.cells c)) (list_all (λ p. are_held sets heap c (slots_at sets p.cells c)) os) h in
-      cases (sets.test o.presence c) (filter (λ p. sets.test p.presence c) os) (values_more (slots_at sets o.cells c) parts.0) (objects_more os parts.1)
+      let parts = both_true (object_holds sets heap c o) (list_all (object_holds sets heap c) os) h in
+      cases (sets.test o.presence c) (filter (λ p. sets.test p.presence c) os) parts.0 (objects_more os parts.1)
     where
-      cases : (b : Bool) (ps : List (HeapObject S I)) → map (value_of sets (record heap { texts = texts }) c) (slots_at sets o.cells c) ≡ map (value_of sets heap c) (slots_at sets o.cells c) → map (object_of sets (record heap { texts = texts }) c) ps ≡ map (object_of sets heap c) ps → map (object_of sets (record heap { texts = texts }) c) (if b then o ∷ ps else ps) ≡ map (object_of sets heap c) (if b then o ∷ ps else ps)
-      cases true ps e r = λ i. record { class = o.class.0; size = o.length; cells = e i } ∷ r i
-      cases false ps e r = r
+      cases : (b : Bool) (ps : List (HeapObject S I)) → (if b then are_held sets heap c (cells_at sets o.cells c) else true) ≡ true → map (object_of sets (record heap { texts = texts }) c) ps ≡ map (object_of sets heap c) ps → map (object_of sets (record heap { texts = texts }) c) (if b then o ∷ ps else ps) ≡ map (object_of sets heap c) (if b then o ∷ ps else ps)
+      cases true ps t e =
+          let cells = values_more (cells_at sets o.cells c) t in
+          λ i. record { class = o.class.0; size = o.length; cells = cells i } ∷ e i
+      cases false ps t e = e
 
   statics_more : (xs : List (Conditional Slot S I)) → are_held sets heap c (map (λ cond. slot_at sets cond c) xs) ≡ true → map (λ cond. value_of sets (record heap { texts = texts }) c (slot_at sets cond c)) xs ≡ map (λ cond. value_of sets heap c (slot_at sets cond c)) xs
   statics_more [] h = refl

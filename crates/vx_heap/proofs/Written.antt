@@ -34,11 +34,15 @@ pub within_there : {T : Type 0} (b : Bool) (o : Option T) → b ≡ true → (if
 within_there true o h = refl
 within_there false o h = cc
 
+pub some_within : {T : Type 0} (b : Bool) (x : T) → is_some (if b then Some x else None) ≡ b
+some_within true x = refl
+some_within false x = refl
+
 within_scope : {T : Type 0} (b : Bool) (o : Option T) → (b ≡ true → is_some o ≡ true) → is_some (if b then o else None) ≡ b
 within_scope true o h = h refl
 within_scope false o h = refl
 
-either_scope : {T : Type 0} (a b : Option T) (inner outer : Bool) → is_some a ≡ inner → is_some b ≡ outer → (inner ≡ true → outer ≡ true) → is_some (option_or a b) ≡ outer
+pub either_scope : {T : Type 0} (a b : Option T) (inner outer : Bool) → is_some a ≡ inner → is_some b ≡ outer → (inner ≡ true → outer ≡ true) → is_some (option_or a b) ≡ outer
 either_scope None b inner outer h k i = k
 either_scope (Some x) b inner outer h k i = sym (i (sym h))
 

@@ -1,5 +1,5 @@
 -- The shared heap: objects, statics and initialisation states that depend on the configuration, and what stands at one configuration.
-use Rattle.std.specs.Prelude.{◌≡◌, ℕ, ◌<◌, Bool, true, false, List, [], ◌∷◌, ◌++◌, length, map, take, filter, flat_map, Option, Some, None, option_map, slice_get, slice_set, unwrap_or, nat_lt, zero, suc}
+use Rattle.std.specs.Prelude.{◌≡◌, ℕ, ◌<◌, ◌≤◌, Bool, true, false, List, [], ◌∷◌, ◌++◌, length, map, take, filter, flat_map, Option, Some, None, option_map, slice_get, slice_set, unwrap_or, if◌then◌else◌, nat_lt, zero, suc}
 use Rattle.std.specs.List.{list_all}
 use Rattle.vx_value.specs.declared.slot.Slot.{Slot}
 use Rattle.vx_value.specs.declared.slot.Slot.TheVariants.{Top, Int, Long, Null, Ref, Text}
@@ -10,15 +10,16 @@ use Rattle.vx_value.specs.Texts.{text_at, IsNumber, Extends as TextsExtend}
 use Rattle.vx_list.specs.Places.{item_or}
 use Rattle.vx_space.specs.Sets.{Sets}
 use Rattle.vx_cond.specs.Cond.{Conditional, IsCond, cond_at, cond_ids}
-use Rattle.vx_cond.specs.Row.{AreConds, IsRow, row_ids}
-use Rattle.vx_cond.specs.Slots.{slot_at, slots_at}
+use Rattle.vx_cond.specs.Row.{AreConds}
+use Rattle.vx_cond.specs.Slots.{slot_at}
 use Rattle.vx_java.specs.FirstObjects.{first_words, literal_object}
-use Rattle.vx_java.specs.Machine.{Value, Object, no_object}
+use Rattle.vx_java.specs.Machine.{Value, Object, length_bound, no_object}
 use Rattle.vx_java.specs.Machine.{Top as TopValue, Int as IntValue, Long as LongValue, Null as NullValue, Ref as RefValue, Text as TextValue}
 use Rattle.vx_link.specs.declared.program.LinkedField.{LinkedField}
 use Rattle.vx_link.specs.declared.program.Program.{Program}
 use Rattle.vx_references.specs.Named.{class_table}
 use Rattle.vx_value.specs.declared.ids.ClassId.{ClassId}
+use Rattle.vx_heap.specs.Cells.{AreCells, cell_ids, cells_at}
 use Rattle.vx_heap.specs.declared.object.HeapObject.{HeapObject}
 
 -- a `Heap` as contracts see it: the objects in the order in which they were made, a value per field and an initialisation state per class, the texts by their numbers, the set of all configurations that run, the objects of the literals by class and pool entry, the class that each entry names in the program, and the array for main
@@ -56,7 +57,7 @@ value_of sets heap c (Text n) = TextValue (text_at heap.texts n)
 -- ---- what stands at a configuration
 
 abbrev pub object_of : {S I : Type 0} → Sets I → HeapView S I → List Bool → HeapObject S I → Object
-object_of sets heap c o = record { class = o.class.0; size = o.length; cells = map (value_of sets heap c) (slots_at sets o.cells c) }
+object_of sets heap c o = record { class = o.class.0; size = o.length; cells = map (value_of sets heap c) (cells_at sets o.cells c) }
 
 -- the objects that are present, in order
 abbrev pub objects_at : {S I : Type 0} → Sets I → HeapView S I → List Bool → List Object
@@ -92,18 +93,21 @@ is_held sets heap c _ = true
 abbrev pub are_held : {S I : Type 0} → Sets I → HeapView S I → List Bool → List Slot → Bool
 are_held sets heap c slots = list_all (is_held sets heap c) slots
 
--- an object: its cells are a row whose scope is its presence
 pub record IsObject {S I : Type 0} (sets : Sets I) (o : HeapObject S I) : Type 0 where
-  pub cells : IsRow slot_cmp sets o.cells
-  pub scope : o.cells.scope ≡ o.presence
+  pub known : sets.is_known o.presence ≡ true
+  pub cells : AreCells sets o.presence o.cells
+  pub short : o.length ≤ length_bound
 
 abbrev pub AreObjects : {S I : Type 0} → Sets I → List (HeapObject S I) → Type 0
 AreObjects sets [] = Unit {0}
 AreObjects sets (o ∷ os) = IsObject sets o × AreObjects sets os
 
--- the cells of each object name what is there
+-- the cells of each object that is there name what is there
+abbrev pub object_holds : {S I : Type 0} → Sets I → HeapView S I → List Bool → HeapObject S I → Bool
+object_holds sets heap c o = if sets.test o.presence c then are_held sets heap c (cells_at sets o.cells c) else true
+
 abbrev pub objects_hold : {S I : Type 0} → Sets I → HeapView S I → List Bool → Bool
-objects_hold sets heap c = list_all (λ o. are_held sets heap c (slots_at sets o.cells c)) heap.objects
+objects_hold sets heap c = list_all (object_holds sets heap c) heap.objects
 
 abbrev pub statics_hold : {S I : Type 0} → Sets I → HeapView S I → List Bool → Bool
 statics_hold sets heap c = are_held sets heap c (map (λ cond. slot_at sets cond c) heap.statics)
@@ -124,7 +128,7 @@ IsHeap sets heap = HeapFacts sets heap
 -- ---- the ids held
 
 abbrev pub object_ids : {S I : Type 0} → HeapObject S I → List I
-object_ids o = o.presence ∷ row_ids o.cells
+object_ids o = o.presence ∷ flat_map cell_ids o.cells
 
 abbrev pub heap_ids : {S I : Type 0} → HeapView S I → List I
 heap_ids heap = heap.allowed ∷ (flat_map object_ids heap.objects ++ (flat_map cond_ids heap.statics ++ flat_map cond_ids heap.inits))
@@ -154,7 +158,7 @@ pub record IsHeapFor {S I : Type 0} (p : Program) (heap : HeapView S I) : Type 0
 
 -- the object of a reference, the conditional value of a field, and the state of a class
 abbrev pub no_heap_object : {S I : Type 0} → I → HeapObject S I
-no_heap_object scope = record { class = record { 0 = 0 }; length = 0; presence = scope; cells = record { scope = scope; conds = [] } }
+no_heap_object scope = record { class = record { 0 = 0 }; length = 0; presence = scope; cells = [] }
 
 abbrev pub object_in : {S I : Type 0} → HeapView S I → ℕ → HeapObject S I
 object_in heap reference = item_or heap.objects reference (no_heap_object heap.allowed)

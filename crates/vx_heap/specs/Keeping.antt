@@ -8,9 +8,12 @@ use Rattle.vx_value.specs.declared.slot.InitState.{InitState}
 use Rattle.vx_value.specs.declared.slot.InitState.TheVariants.{Done}
 use Rattle.vx_space.specs.Sets.{Sets, AreKept}
 use Rattle.vx_cond.specs.Cond.{Conditional, cond_at, cond_ids}
-use Rattle.vx_cond.specs.Slots.{or_top, slot_at, slots_at}
-use Rattle.vx_cond.specs.Keeping.{cond_at-kept, row_at-kept, AreKept-append_left, AreKept-append_right}
+use Rattle.vx_cond.specs.Slots.{or_top, slot_at}
+use Rattle.vx_cond.specs.Keeping.{cond_at-kept, AreKept-append_left, AreKept-append_right}
 use Rattle.vx_java.specs.Machine.{Ref as RefValue}
+use Rattle.vx_heap.specs.Cells.{cell_ids, cell_slot, cells_at}
+use Rattle.vx_heap.specs.declared.cell_list.Cell.{Cell}
+use Rattle.vx_heap.specs.declared.cell_list.Cell.TheVariants.{Differs, Plain}
 use Rattle.vx_heap.specs.declared.object.HeapObject.{HeapObject}
 use Rattle.vx_heap.specs.Heap.{HeapView, globals_at, heap_ids, name_at, object_ids, object_of, value_of}
 
@@ -49,12 +52,20 @@ value_of-kept old new heap c k Null = refl
 value_of-kept old new heap c k (Ref i) = ap RefValue (name_at-kept old new heap.objects c (objects_kept old new heap k) i)
 value_of-kept old new heap c k (Text n) = refl
 
-pub slots_at-kept : {S I : Type 0} (old new : Sets I) (o : HeapObject S I) (c : List Bool) → AreKept old new (object_ids o) → slots_at new o.cells c ≡ slots_at old o.cells c
-slots_at-kept old new o c k = ap (λ values. map or_top values) (row_at-kept old new o.cells c k.1)
+pub cell_slot-kept : {S I : Type 0} (old new : Sets I) (cell : Cell S I) (c : List Bool) → AreKept old new (cell_ids cell) → cell_slot new c cell ≡ cell_slot old c cell
+cell_slot-kept old new (Plain slot) c k = refl
+cell_slot-kept old new (Differs cond) c k = ap or_top (cond_at-kept old new cond.value c k)
+
+pub cells_at-kept : {S I : Type 0} (old new : Sets I) (cells : List (Cell S I)) (c : List Bool) → AreKept old new (flat_map cell_ids cells) → cells_at new cells c ≡ cells_at old cells c
+cells_at-kept old new [] c k = refl
+cells_at-kept old new (x ∷ xs) c k =
+    let here = cell_slot-kept old new x c (AreKept-append_left old new (cell_ids x) (flat_map cell_ids xs) k) in
+    let rest = cells_at-kept old new xs c (AreKept-append_right old new (cell_ids x) (flat_map cell_ids xs) k) in
+    λ i. here i ∷ rest i
 
 object_of-kept : {S I : Type 0} (old new : Sets I) (heap : HeapView S I) (c : List Bool) → AreKept old new (heap_ids heap) → (o : HeapObject S I) → AreKept old new (object_ids o) → object_of new heap c o ≡ object_of old heap c o
 object_of-kept old new heap c k o ko =
-    let cells = map-same (value_of new heap c) (value_of old heap c) (value_of-kept old new heap c k) (slots_at new o.cells c) ∙ ap (λ slots. map (value_of old heap c) slots) (slots_at-kept old new o c ko) in
+    let cells = map-same (value_of new heap c) (value_of old heap c) (value_of-kept old new heap c k) (cells_at new o.cells c) ∙ ap (λ slots. map (value_of old heap c) slots) (cells_at-kept old new o.cells c ko.1) in
     λ i. record { class = o.class.0; size = o.length; cells = cells i }
 
 objects_at-kept : {S I : Type 0} (old new : Sets I) (heap : HeapView S I) (c : List Bool) → AreKept old new (heap_ids heap) → (os : List (HeapObject S I)) → AreKept old new (flat_map object_ids os) → map (object_of new heap c) (filter (λ o. new.test o.presence c) os) ≡ map (object_of old heap c) (filter (λ o. old.test o.presence c) os)

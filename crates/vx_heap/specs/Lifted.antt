@@ -1,5 +1,5 @@
 -- What every run begins with, in the configurations that run.
-use Rattle.std.specs.Prelude.{◌≡◌, Bool, List, None, Option, Some, [], if◌then◌else◌, pos, ℕ, ◌∷◌}
+use Rattle.std.specs.Prelude.{◌≡◌, Bool, List, None, Option, Some, [], if◌then◌else◌, map, pos, ℕ, ◌∷◌}
 use Rattle.std.specs.List.{AllZip, list_all}
 use Rattle.std.specs.declared.cmp.Ordering.{Ordering}
 use Rattle.vx_value.specs.declared.slot.Slot.{Slot}
@@ -8,10 +8,10 @@ use Rattle.vx_value.specs.Slot.{slot_cmp}
 use Rattle.vx_space.specs.Config.{value_of}
 use Rattle.vx_space.specs.Sets.{Sets}
 use Rattle.vx_cond.specs.Cond.{Conditional, IsCond, cond_at}
-use Rattle.vx_cond.specs.Row.{Conditionals}
 use Rattle.vx_initial_heap.specs.declared.objects.FirstObject.{FirstObject}
 use Rattle.vx_initial_heap.specs.declared.statics.FirstStatic.{FirstStatic}
 use Rattle.vx_initial_heap.specs.declared.statics.FirstStatic.TheVariants.{OfOption, Same}
+use Rattle.vx_heap.specs.declared.cell_list.Cell.TheVariants.{Plain}
 use Rattle.vx_heap.specs.declared.object.HeapObject.{HeapObject}
 use Rattle.vx_heap.specs.Heap.{has_option}
 
@@ -34,20 +34,15 @@ abbrev pub slots_of : Option Slot → List Slot
 slots_of None = []
 slots_of (Some slot) = slot ∷ []
 
--- the cells of a first object, in a row
-pub record IsCells {S I : Type 0} (sets : Sets I) (scope : I) (cell : Option Slot) (row : Conditionals Slot S I) : Type 0 where
-  pub scope_is : row.scope ≡ scope
-  pub conds : AreSame slot_cmp sets scope (slots_of cell) row.conds
-
--- a first object that is there in the scope
-pub record IsLifted {S I : Type 0} (sets : Sets I) (scope : I) (o : FirstObject) (object : HeapObject S I) : Type 0 where
+-- a first object that is there in the scope, with its cell the same everywhere
+pub record IsLifted {S I : Type 0} (scope : I) (o : FirstObject) (object : HeapObject S I) : Type 0 where
   pub class_is : object.class ≡ o.class
   pub length_is : object.length ≡ 0
   pub presence_is : object.presence ≡ scope
-  pub cells : IsCells sets scope o.cell object.cells
+  pub cells_are : object.cells ≡ map Plain (slots_of o.cell)
 
-abbrev pub AreLifted : {S I : Type 0} → Sets I → I → List FirstObject → List (HeapObject S I) → Type 0
-AreLifted sets scope os objects = AllZip (IsLifted sets scope) os objects
+abbrev pub AreLifted : {S I : Type 0} → I → List FirstObject → List (HeapObject S I) → Type 0
+AreLifted scope os objects = AllZip (IsLifted scope) os objects
 
 -- ---- statics
 

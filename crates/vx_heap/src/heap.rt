@@ -1,21 +1,26 @@
 //! The heap, its statics and its initialisation states.
 
-ghost use Rattle.std.specs.Prelude.{◌≡◌, ◌++◌, ◌<◌, ◌≤◌, ◌≤ℤ◌, negsuc, pos, [], length, IfOk, OnOk, OnErr, List, Bool, true, option_map, slice_set, if◌then◌else◌};
+ghost use Rattle.std.specs.Prelude.{◌≡◌, ◌++◌, ◌∷◌, ◌<◌, ◌≤◌, ◌≤ℤ◌, negsuc, pos, [], length, IfOk, OnOk, OnErr, List, Bool, true, option_map, slice_set, if◌then◌else◌};
 ghost use Rattle.vx_space.specs.Sets.{IsKnown, Extends};
 ghost use Rattle.std.specs.List.{flat_map};
 ghost use Rattle.vx_cond.specs.Cond.{IsCond, IsInside, cond_ids};
 ghost use Rattle.vx_value.specs.Slot.{slot_cmp, init_state_cmp};
-ghost use Rattle.vx_java.specs.FirstObjects.{first_boolean, first_integer};
+ghost use Rattle.vx_initial_heap.specs.First.{is_among, value_in};
+ghost use Rattle.vx_java.specs.FirstObjects.{first_boolean, first_integer, new_object};
 ghost use Rattle.vx_java.specs.Ids.{HasClassNumbers, as_class};
+ghost use Rattle.vx_java.specs.Machine.{length_bound};
 ghost use Rattle.vx_link.specs.ClassNames.{class_named};
 ghost use Rattle.vx_link.specs.CoreFiles.{core_count};
 ghost use Rattle.vx_link.specs.Names.{class_name, member};
 ghost use Rattle.vx_link.specs.Parts.{class_at};
 ghost use Rattle.vx_list.specs.Places.{item_or};
+ghost use Rattle.vx_heap.specs.Changing.{IsValueHeld, IsCellWritten, MakesObject, filled, of_text};
 ghost use Rattle.vx_heap.specs.First.{IsFirstHeap};
 ghost use Rattle.vx_heap.specs.Heap.{IsHeap, IsHeapFor, IsCellRead, IsStaticRead, IsStaticWritten, IsInitWritten, IsTextPut, KeepsPlain, class_at_slot, has_options, heap_ids, init_of, is_held, literal_at, object_ids, object_in, resolved_in, static_of};
 ghost use Rattle.vx_cond.specs.Slots.{slot_at};
 
+use crate::cell_list::CellList;
+use crate::defaults::new_slots;
 use crate::lifted::{lifted_objects, same_values, static_values};
 use crate::object::HeapObject;
 use std::alloc::{AllocError, Global};
@@ -68,7 +73,7 @@ impl<S: Space> Heap<S> {
     {
         let first = First::of(alloc, program)?;
         let statics = static_values(alloc, space, &first.statics, allowed)?;
-        let objects = lifted_objects(alloc, space, &first.objects, allowed)?;
+        let objects = lifted_objects(alloc, &first.objects, allowed)?;
         let inits = same_values(alloc, space, &first.inits, allowed)?;
         let resolved = class_table(alloc, program)?;
         let First {
@@ -117,20 +122,14 @@ impl<S: Space> Heap<S> {
         }
     }
 
-    /// The number of elements of an array, and 0 for another object.
+    /// The number of elements of an array, and 0 for another object or where there is none of this number.
     pub fn length_of(&self, reference: u64) -> u32
-        requires { reference < length self.now.objects }
         ensures { result ≡ (object_in self.now reference).length }
     {
-        self.objects[reference as usize].length
-    }
-
-    /// The number of cells of an object.
-    pub fn cell_count(&self, reference: u64) -> usize
-        requires { reference < length self.now.objects }
-        ensures { result ≡ length (object_in self.now reference).cells.conds }
-    {
-        self.objects[reference as usize].cells.len()
+        match self.objects.get(reference as usize) {
+            Some(object) => object.length,
+            None => 0,
+        }
     }
 
     /// The configurations in which an object is there.
@@ -203,7 +202,7 @@ impl<S: Space> Heap<S> {
         self.words
     }
 
-    /// The value of a cell inside a path, which is inside the presence of the object.
+    /// The value of a cell inside a path, which is inside the presence of the object. A cell that isn't there is `Top`.
     pub fn read_cell(
         &self,
         space: &mut S,
@@ -213,15 +212,113 @@ impl<S: Space> Heap<S> {
     ) -> Result<Cond<Slot, S>, SpaceFault>
         requires heap { IsHeap (S.sets space.old) self.now }
         requires reference { reference < length self.now.objects }
-        requires cell { cell < length (object_in self.now reference).cells.conds }
         requires known { IsKnown (S.sets space.old) path }
         requires inside { IsInside (S.sets space.old) path (object_in self.now reference).presence }
         ensures extends { Extends (S.sets space.old) (S.sets space.new) }
         ensures ok { IfOk result (IsCellRead (S.sets space.old) (S.sets space.new) self.now reference cell path) }
     {
-        let cells = &self.object(reference).cells;
-        let value = cells.get(cell as usize).restrict(space, path)?;
+        let object = self.object(reference);
+        let value = object.cells.read(space, cell, path, object.presence)?;
         Ok(value)
+    }
+
+    /// Writes a cell in the scope of the value, which is inside the presence of the object. Where there is no such cell,
+    /// nothing changes. After want of memory the heap is as it was.
+    pub fn write_cell(
+        &mut self,
+        space: &mut S,
+        reference: u64,
+        cell: u32,
+        value: &Cond<Slot, S>,
+    ) -> Result<(), SpaceFault>
+        requires heap { IsHeap (S.sets space.old) self.old }
+        requires reference { reference < length self.old.objects }
+        requires value { IsCond slot_cmp (S.sets space.old) value.now }
+        requires inside { IsInside (S.sets space.old) value.now.scope (object_in self.old reference).presence }
+        requires held { IsValueHeld (S.sets space.old) self.old value.now }
+        ensures extends { Extends (S.sets space.old) (S.sets space.new) }
+        ensures ok { OnOk result (IsCellWritten (S.sets space.old) (S.sets space.new) self.old reference cell value.now self.new) }
+        ensures err { OnErr result (self.new ≡ self.old) }
+    {
+        let object = &mut self.objects[reference as usize];
+        object.cells.write(space, cell, object.presence, value)
+    }
+
+    /// Makes an object behind the others, in the configurations in which it is to be there.
+    fn append(
+        &mut self,
+        class: ClassId,
+        size: u32,
+        presence: S::Id,
+        cells: CellList<S>,
+    ) -> Result<u64, AllocError>
+        ensures made { IfOk result (λ reference. reference ≡ length self.old.objects) }
+        ensures ok { OnOk result (self.new ≡ record self.old { objects = self.old.objects ++ record { class = class; length = size; presence = presence; cells = cells } ∷ [] }) }
+        ensures err { OnErr result (self.new ≡ self.old) }
+    {
+        let reference = self.objects.len() as u64;
+        self.objects.push(HeapObject {
+            class,
+            length: size,
+            presence,
+            cells,
+        })?;
+        Ok(reference)
+    }
+
+    /// Makes an object of a class in the configurations of a path, with the cells that it begins with (JVMS 2.3, 2.4, 6.5
+    /// new). After want of memory the heap is given up.
+    pub fn alloc_object(
+        &mut self,
+        alloc: Global,
+        program: &Program,
+        class: ClassId,
+        path: S::Id,
+    ) -> Result<u64, AllocError>
+        ensures { IfOk result (MakesObject self.old path (new_object program.now class.0) self.new) }
+    {
+        let empty = self.put_text(&[])?;
+        let slots = new_slots(alloc, program, class, empty)?;
+        let cells = CellList::of(alloc, &slots)?;
+        let reference = self.append(class, 0, path, cells)?;
+        Ok(reference)
+    }
+
+    /// Makes an array in the configurations of a path, each element with one value, which names nothing. It takes 24 bytes
+    /// for an element. After want of memory the heap is as it was.
+    pub fn alloc_array(
+        &mut self,
+        alloc: Global,
+        class: ClassId,
+        count: u32,
+        element: Slot,
+        path: S::Id,
+    ) -> Result<u64, AllocError>
+        requires count { count ≤ length_bound }
+        requires element { is_among 0 0 element ≡ true }
+        ensures ok { IfOk result (MakesObject self.old path (filled class.0 count (value_in [] element)) self.new) }
+        ensures err { OnErr result (self.new ≡ self.old) }
+    {
+        let cells = CellList::filled(alloc, element, count)?;
+        let reference = self.append(class, count, path, cells)?;
+        Ok(reference)
+    }
+
+    /// Makes an object of the class of strings in the configurations of a path, with this text (JVMS 5.1). After want of
+    /// memory the heap is given up.
+    pub fn alloc_text(
+        &mut self,
+        alloc: Global,
+        class: ClassId,
+        units: &[u16],
+        path: S::Id,
+    ) -> Result<u64, AllocError>
+        ensures { IfOk result (MakesObject self.old path (of_text class.0 units.now) self.new) }
+    {
+        let text = self.put_text(units)?;
+        let cells = CellList::of(alloc, &[Slot::Text(text)])?;
+        let reference = self.append(class, 0, path, cells)?;
+        Ok(reference)
     }
 
     fn static_at(&self, field: FieldId) -> &Cond<Slot, S>

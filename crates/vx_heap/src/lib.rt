@@ -2,6 +2,8 @@
 //! configuration, and the table of texts.
 #![tactic(auto)]
 
+pub mod cell_list;
+mod defaults;
 pub mod heap;
 mod lifted;
 pub mod object;

@@ -1,14 +1,16 @@
 //! What every run begins with, lifted to the configurations that run.
 
-ghost use Rattle.std.specs.Prelude.{◌≡◌, ◌<◌, true, IfOk};
+ghost use Rattle.std.specs.Prelude.{◌≡◌, ◌<◌, true, IfOk, map};
 ghost use Rattle.vx_space.specs.Sets.{IsKnown, Extends};
 ghost use Rattle.vx_value.specs.Slot.{slot_cmp};
 ghost use Rattle.vx_heap.specs.Heap.{has_option};
-ghost use Rattle.vx_heap.specs.Lifted.{option_of, option_slot, options_known, AreLifted, AreSame, AreStatics, IsCells, IsLifted, IsSame, IsStatic, IsThroughout};
+ghost use Rattle.vx_heap.specs.declared.cell_list.Cell.TheVariants.{Plain};
+ghost use Rattle.vx_heap.specs.Lifted.{option_of, option_slot, options_known, AreLifted, AreSame, AreStatics, IsLifted, IsSame, IsStatic, IsThroughout, slots_of};
 
+use crate::cell_list::CellList;
 use crate::object::HeapObject;
 use std::alloc::{AllocError, Global};
-use vx_cond::{Cond, Row};
+use vx_cond::Cond;
 use vx_initial_heap::{FirstObject, FirstStatic};
 use vx_space::{Space, SpaceFault};
 use vx_value::{Exact, Slot};
@@ -44,34 +46,24 @@ pub fn same_values<T: Exact, S: Space>(
     Ok(conds)
 }
 
-fn cells<S: Space>(
-    alloc: Global,
-    space: &S,
-    cell: Option<Slot>,
-    scope: S::Id,
-) -> Result<Row<Slot, S>, AllocError>
-    requires { IsKnown (S.sets space.now) scope }
-    ensures { IfOk result (IsCells (S.sets space.now) scope cell) }
+fn cells<S: Space>(alloc: Global, cell: Option<Slot>) -> Result<CellList<S>, AllocError>
+    ensures { IfOk result (λ cells. cells ≡ map Plain (slots_of cell)) }
 {
-    let mut row = Row::new(alloc, scope);
-    let Some(slot) = cell else {
-        return Ok(row);
-    };
-    row.push(same(alloc, space, slot, scope)?)?;
-    Ok(row)
+    match cell {
+        Some(slot) => CellList::of(alloc, &[slot]),
+        None => CellList::of(alloc, &[]),
+    }
 }
 
 /// A first object that is there in a scope.
 fn lifted<S: Space>(
     alloc: Global,
-    space: &S,
     object: FirstObject,
     scope: S::Id,
 ) -> Result<HeapObject<S>, AllocError>
-    requires { IsKnown (S.sets space.now) scope }
-    ensures { IfOk result (IsLifted (S.sets space.now) scope object) }
+    ensures { IfOk result (IsLifted scope object) }
 {
-    let cells = cells(alloc, space, object.cell, scope)?;
+    let cells = cells(alloc, object.cell)?;
     Ok(HeapObject {
         class: object.class,
         length: 0,
@@ -83,16 +75,14 @@ fn lifted<S: Space>(
 /// The first objects, which are there in a scope.
 pub fn lifted_objects<S: Space>(
     alloc: Global,
-    space: &S,
     objects: &[FirstObject],
     scope: S::Id,
 ) -> Result<Vec<HeapObject<S>>, AllocError>
-    requires { IsKnown (S.sets space.now) scope }
-    ensures { IfOk result (λ made. AreLifted (S.sets space.now) scope objects.now made.items) }
+    ensures { IfOk result (λ made. AreLifted scope objects.now made.items) }
 {
     let mut made = Vec::new(alloc);
     for object in objects {
-        made.push(lifted(alloc, space, *object, scope)?)?;
+        made.push(lifted(alloc, *object, scope)?)?;
     }
     Ok(made)
 }

@@ -3,7 +3,7 @@
 #![tactic(auto)]
 
 pub mod core_classes;
-mod defaults;
+pub mod defaults;
 pub mod first;
 mod inits;
 pub mod literal;
@@ -13,6 +13,7 @@ pub mod statics;
 mod units;
 
 pub use core_classes::CoreClasses;
+pub use defaults::default_of;
 pub use first::First;
 pub use inits::first_inits;
 pub use objects::FirstObject;

@@ -18,8 +18,9 @@ use Rattle.vx_link.specs.Parts.{method_at}
 use Rattle.vx_space.specs.Sets.{Sets}
 use Rattle.vx_value.specs.declared.slot.Slot.{Slot}
 use Rattle.vx_value.specs.declared.slot.Slot.TheVariants.{Top, Int, Long, Null, Ref, Text}
-use Rattle.vx_invoke.specs.Called.{IsEntry, accepts, by_selected, call_of, called, is_enter, receiver_of}
-use Rattle.vx_references.specs.Calls.{println}
+use Rattle.vx_families.specs.Entering.{IsEntry}
+use Rattle.vx_invoke.specs.Called.{accepts, by_selected, call_of, called, is_enter, receiver_of}
+use Rattle.vx_invoke.specs.Println.{println}
 use Rattle.vx_invoke.specs.declared.call.Call.{Call}
 use Rattle.vx_invoke.specs.declared.call.Call.TheVariants as call
 use Rattle.vx_invoke.specs.declared.call.Receiver.TheVariants as receiver
@@ -110,7 +111,7 @@ entered_is : (h : Here) (m : ℕ) (values rest : List Value) (code : Option Code
 entered_is h m values rest None = without_code h m values rest ((method_at h.program m).native == 0) refl
 entered_is h m values rest (Some code) = refl
 
-selected_is : (h : Here) (values rest : List Value) (s : Selected) → carry_out h values rest s ≡ called h values rest (by_selected h.program s)
+pub selected_is : (h : Here) (values rest : List Value) (s : Selected) → carry_out h values rest s ≡ called h values rest (by_selected h.program s)
 selected_is h values rest (selected.Method m) = entered_is h m.0 values rest (method_at h.program m.0).code
 selected_is h values rest selected.Abstract = refl
 selected_is h values rest selected.Conflict = refl

@@ -15,7 +15,7 @@ use Rattle.vx_group.specs.declared.callers.Caller.{Caller}
 use Rattle.vx_group.specs.Group.{GroupView, IsGroup, IsPartOf, path_of}
 use Rattle.vx_group.proofs.GroupLaws.{IsGroup-extends, IsGroup-path_known, IsGroup-top}
 use Rattle.vx_heap.specs.declared.object.HeapObject.{HeapObject}
-use Rattle.vx_heap.specs.Heap.{HeapView, are_held, is_held, name_at, no_heap_object, object_in, object_of as plain_object, value_of}
+use Rattle.vx_heap.specs.Heap.{HeapView, IsHeap, are_held, is_held, name_at, no_heap_object, object_in, object_of as plain_object, value_of}
 use Rattle.vx_heap.proofs.Cells.{named}
 use Rattle.vx_heap.proofs.HeapLaws.{IsHeap-extends}
 use Rattle.vx_heap.proofs.Places.{at_place}
@@ -42,9 +42,10 @@ use Rattle.vx_value.specs.declared.ids.MethodId.{MethodId}
 use Rattle.vx_value.specs.declared.slot.Slot.{Slot}
 use Rattle.vx_value.specs.declared.slot.Slot.TheVariants.{Top, Ref}
 use Rattle.vx_value.specs.Slot.{slot_cmp}
-use Rattle.vx_invoke.specs.Called.{AreReceivers, HasReceiver, IsCalling, IsEntry, IsRunning, SomeEnters, call_of, called, is_enter, operand_at, receiver_at, receiver_of}
-use Rattle.vx_references.specs.Calls.{IsMethodReference, by_reference, println, referenced}
-use Rattle.vx_references.specs.declared.calls.MethodReference.{MethodReference}
+use Rattle.vx_families.specs.Entering.{IsEntry, SomeEnters}
+use Rattle.vx_invoke.specs.Called.{AreReceivers, HasReceiver, IsCalling, IsRunning, call_of, called, is_enter, operand_at, receiver_at, receiver_of}
+use Rattle.vx_invoke.specs.Println.{IsMethodReference, by_reference, println, referenced}
+use Rattle.vx_invoke.specs.declared.println.MethodReference.{MethodReference}
 use Rattle.vx_invoke.specs.Receivers.{receiver_cmp}
 use Rattle.vx_invoke.specs.declared.call.Call.{Call}
 use Rattle.vx_invoke.specs.declared.call.Call.TheVariants as call
@@ -113,7 +114,7 @@ object_there site sets heap tree group named resolved reference k r c t =
     ∙ ap (λ class. called h (RefValue (name_at sets heap.objects c reference) ∷ IntValue (argument_of (operand_at sets group 0 c)) ∷ []) (map (value_of sets heap c) rest) (call_of site.program.now named resolved class)) (class_there site sets heap tree group reference k r c t)
 
 -- a call that enters nothing doesn't ask for the values
-same_values : (h : _) (values more rest below : List Value) (k : Call) → is_enter k ≡ false → called h values rest k ≡ called h more below k
+pub same_values : (h : _) (values more rest below : List Value) (k : Call) → is_enter k ≡ false → called h values rest k ≡ called h more below k
 same_values h values more rest below (call.Illegal) e = refl
 same_values h values more rest below (call.Abstract) e = refl
 same_values h values more rest below (call.Conflict) e = refl
@@ -232,23 +233,23 @@ HasReceiver-is sets group r other e h = record { at = λ c t. h.at c t ∙ e }
 
 -- ---- what some part enters, told of the whole group
 
-pub SomeEnters-part : {S I : Type 0} (site : Site) {s0 s1 : Sets I} (heap : HeapView S I) (set : List Bool → Bool) (group part : GroupView S I) (says : State → PlainOutcome) → Extends s0 s1 → IsRunning site s0 heap group → ((c : List Bool) → set c ≡ true → s0.test (path_of group) c ≡ true) → IsPartOf s0 s1 set group part → SomeEnters site s1 heap part says → SomeEnters site s0 heap group says
-SomeEnters-part site {s0 = s0} {s1 = s1} heap set group part says e k inside q some tree s =
+pub SomeEnters-part : {S I : Type 0} (site : Site) {s0 s1 : Sets I} (heap : HeapView S I) (set : List Bool → Bool) (group part : GroupView S I) (says : State → PlainOutcome) → Extends s0 s1 → IsHeap s0 heap → ((c : List Bool) → set c ≡ true → s0.test (path_of group) c ≡ true) → IsPartOf s0 s1 set group part → SomeEnters site s1 heap part says → SomeEnters site s0 heap group says
+SomeEnters-part site {s0 = s0} {s1 = s1} heap set group part says e v inside q some tree s =
     let p = site.program.now in
-    let found = some tree (StandsIn-part p tree e heap k.is_heap set group part inside s q) in
+    let found = some tree (StandsIn-part p tree e heap v set group part inside s q) in
     let c = found.0 in
     let there : set c ≡ true = sym (part_path s0 s1 set group part q c) ∙ found.1 in
     let P : State → Type 0 = λ state. IsEntry (here site state) (says state) in
-    (c, inside c there, subst P (state_at-part p tree e heap k.is_heap set group part s q c there) found.2)
+    (c, inside c there, subst P (state_at-part p tree e heap v set group part s q c there) found.2)
 
 -- over a later space
-pub SomeEnters-later : {S I : Type 0} (site : Site) {s0 s1 : Sets I} (heap : HeapView S I) (group : GroupView S I) (says : State → PlainOutcome) → Extends s0 s1 → IsRunning site s0 heap group → SomeEnters site s1 heap group says → SomeEnters site s0 heap group says
-SomeEnters-later site {s0 = s0} {s1 = s1} heap group says e k some tree s =
+pub SomeEnters-later : {S I : Type 0} (site : Site) {s0 s1 : Sets I} (heap : HeapView S I) (group : GroupView S I) (says : State → PlainOutcome) → Extends s0 s1 → IsHeap s0 heap → IsGroup s0 group → SomeEnters site s1 heap group says → SomeEnters site s0 heap group says
+SomeEnters-later site {s0 = s0} {s1 = s1} heap group says e v w some tree s =
     let p = site.program.now in
-    let found = some tree (StandsIn-extends p tree e heap k.is_heap group s) in
+    let found = some tree (StandsIn-extends p tree e heap v group s) in
     let c = found.0 in
     let P : State → Type 0 = λ state. IsEntry (here site state) (says state) in
-    (c, sym (e.test (path_of group) c (IsGroup-path_known s0 group k.is_group)) ∙ found.1, subst P (state_at-extends tree e heap k.is_heap group s.is_group c) found.2)
+    (c, sym (e.test (path_of group) c (IsGroup-path_known s0 group w)) ∙ found.1, subst P (state_at-extends tree e heap v group s.is_group c) found.2)
 
 -- by another function that says the same of each state
 pub SomeEnters-as : {S I : Type 0} (site : Site) (sets : Sets I) (heap : HeapView S I) (group : GroupView S I) (there says : State → PlainOutcome) → ((s : State) → there s ≡ says s) → SomeEnters site sets heap group there → SomeEnters site sets heap group says

@@ -1,14 +1,13 @@
 -- What the call comes to at a configuration, by its operands and by the class of the receiver (JVMS 6.5 invokevirtual).
-use Rattle.std.specs.Prelude.{◌≡◌, ◌<◌, ◌==◌, ℕ, Bool, true, false, List, length, Option, Some, if◌then◌else◌, is_some, nat_lt}
+use Rattle.std.specs.Prelude.{◌≡◌, ◌<◌, ◌==◌, ℕ, Bool, true, false, List, length, Some, if◌then◌else◌, is_some}
 use Rattle.vx_cond.specs.declared.cond.Leaf.{Leaf}
 use Rattle.vx_cond.specs.Leaves.{AreLeaves, value_at}
+use Rattle.vx_families.specs.Entering.{entering}
 use Rattle.vx_frame.specs.Frame.{frame_at}
-use Rattle.vx_group.specs.declared.callers.Caller.{Caller}
 use Rattle.vx_group.specs.Group.{GroupView, IsGroup, path_of}
 use Rattle.vx_heap.specs.Heap.{HeapView, IsHeap}
-use Rattle.vx_java.specs.Calls.{state_in_callee}
 use Rattle.vx_java.specs.Ids.{HasClassNumbers}
-use Rattle.vx_java.specs.Machine.{Here, Outcome, State, Value, Go, Native as NativeOutcome, depth, frame_bound, illegal, method_text, raise, unsupported, when}
+use Rattle.vx_java.specs.Machine.{Here, Outcome, Value, Native as NativeOutcome, illegal, method_text, raise, unsupported}
 use Rattle.vx_java.specs.Operation.{native_word}
 use Rattle.vx_java.specs.Selection.{select}
 use Rattle.vx_java.specs.declared.selected.Selected.{Selected}
@@ -19,8 +18,8 @@ use Rattle.vx_link.specs.Parts.{method_at}
 use Rattle.vx_link.specs.declared.program.Program.{Program}
 use Rattle.vx_list.specs.Places.{item_or}
 use Rattle.vx_space.specs.Sets.{Sets}
-use Rattle.vx_group_states.specs.Sites.{Cover, here}
-use Rattle.vx_group_states.specs.Stands.{StandsIn, frame_held, state_at}
+use Rattle.vx_group_states.specs.Sites.{Cover}
+use Rattle.vx_group_states.specs.Stands.{frame_held}
 use Rattle.vx_group_states.specs.declared.site.Site.{Site}
 use Rattle.vx_value.specs.declared.slot.Slot.{Slot}
 use Rattle.vx_value.specs.declared.slot.Slot.TheVariants as slot
@@ -56,10 +55,6 @@ by_selected p selected.Conflict = call.Conflict
 abbrev pub call_of : Program → (named resolved class : ℕ) → Call
 call_of p named resolved class = if accepts p named class then by_selected p (select p class resolved) else call.Illegal
 
--- a frame of the method with these values, unless there are too many frames
-abbrev pub entering : Here → ℕ → (values rest : List Value) → Outcome
-entering h m values rest = when (nat_lt (depth h.state) frame_bound) (Go (state_in_callee h m values rest)) (raise h "java/lang/StackOverflowError")
-
 -- what a call comes to with the receiver and the argument, over the operands under them
 abbrev pub called : Here → (values rest : List Value) → Call → Outcome
 called h values rest call.Illegal = illegal h
@@ -81,19 +76,6 @@ operand_at sets group i c = item_or (frame_at sets group.top c).operands i slot.
 
 abbrev pub receiver_at : {S I : Type 0} → Sets I → GroupView S I → List Bool → Receiver
 receiver_at sets group c = receiver_of (operand_at sets group 0 c) (operand_at sets group 1 c)
-
--- a state enters a method by an outcome
-pub record IsEntry (h : Here) (o : Outcome) : Type 0 where
-  pub method : ℕ
-  pub values : List Value
-  pub rest : List Value
-  pub is : o ≡ entering h method values rest
-
--- some run of a group enters a method
-abbrev pub SomeEnters : {S I : Type 0} → Site → Sets I → HeapView S I → GroupView S I → (State → Outcome) → Type 0
-SomeEnters {S = S} {I = I} site sets heap group says =
-    (tree : List (Option (Caller S I))) → StandsIn site.program.now sets heap tree group
-    → (c : List Bool) × (sets.test (path_of group) c ≡ true) × IsEntry (here site (state_at sets heap tree group c)) (says (state_at sets heap tree group c))
 
 -- a group that runs over a heap
 pub record IsRunning {S I : Type 0} (site : Site) (sets : Sets I) (heap : HeapView S I) (group : GroupView S I) : Type 0 where

@@ -1,3 +1,4 @@
 pub mod Named
 pub mod Called
 pub mod Receivers
+pub mod Println

@@ -55,7 +55,7 @@ pub(crate) fn receiver_of(argument: Slot, receiver: Slot) -> Receiver
 }
 
 /// Whether an object of a class may be the receiver where a class is named: any array where that is an array class.
-fn accepts(program: &Program, named: ClassId, class: ClassId) -> bool
+pub fn accepts(program: &Program, named: ClassId, class: ClassId) -> bool
     ensures { result ≡ accepts program.now named.0 class.0 }
 {
     if is_array(program, named) {
@@ -82,7 +82,8 @@ fn native_number(program: &Program, method: MethodId) -> u32
     }
 }
 
-fn entered(program: &Program, method: MethodId) -> Call
+/// What a selected method comes to, by what it has.
+pub fn entered(program: &Program, method: MethodId) -> Call
     ensures { result ≡ entered program.now method.0 }
 {
     if has_code(program, method) {

@@ -10,11 +10,13 @@ ghost use Rattle.vx_java.specs.declared.operation.Mode.TheVariants.{Virtual};
 ghost use Rattle.vx_link.specs.ClassNames.{class_named};
 ghost use Rattle.vx_group_states.specs.Sites.{Gives, GivesAt, here, IsSomewhere};
 ghost use Rattle.vx_families.specs.Attempts.{IsAttemptBy, IsGiven, MeetsUnbuilt};
-ghost use Rattle.vx_invoke.specs.Called.{AreReceivers, HasReceiver, IsCalling, IsRunning, SomeEnters, called, is_enter};
-ghost use Rattle.vx_invoke.specs.Named.{is_built_call, pool_of};
-ghost use Rattle.vx_references.specs.Calls.{println, referenced};
+ghost use Rattle.vx_families.specs.Entering.{SomeEnters, pool_of};
+ghost use Rattle.vx_invoke.specs.Called.{AreReceivers, HasReceiver, IsCalling, IsRunning, called, is_enter};
+ghost use Rattle.vx_invoke.specs.Named.{is_built_call};
+ghost use Rattle.vx_invoke.specs.Println.{println, referenced};
 
 use crate::call::{Call, Receiver, call_of, receiver_of};
+use crate::println::{MethodReference, println_class, println_reference, println_text};
 use std::alloc::Global;
 use vx_cond::Leaf;
 use vx_families::{AttemptFault, CLASS_WORD, METHOD_WORD, NATIVE_WORD, raise, unsupported};
@@ -24,12 +26,12 @@ use vx_heap::Heap;
 use vx_java::Operation;
 use vx_java::parts::class_of_method;
 use vx_outcome::{Outcome, Outcomes};
-use vx_references::{MethodReference, method_name, println_class, println_reference, println_text};
+use vx_references::method_name;
 use vx_space::{Space, SpaceFault};
 use vx_value::{ClassId, MethodId};
 
 /// The part of a group in which the call comes to one thing; `None` where a frame is pushed, which isn't built.
-fn called_part<S: Space>(
+pub fn called_part<S: Space>(
     alloc: Global,
     site: &Site,
     part: Group<S>,

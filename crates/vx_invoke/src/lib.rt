@@ -3,6 +3,7 @@
 
 pub mod call;
 pub mod invoking;
+pub mod println;
 
-pub use call::{Call, Receiver};
-pub use invoking::attempt;
+pub use call::{Call, Receiver, accepts, entered};
+pub use invoking::{attempt, called_part};

@@ -97,9 +97,11 @@ abbrev pub push_grid : Here → ℕ → List ℕ → List Value → Outcome
 push_grid h class lengths rest =
     Go (past h (with_objects h.state (grid h.program class lengths (next_object h.state))) (Ref (next_object h.state) ∷ rest))
 
--- multianewarray: a negative length anywhere, then any length above the bound, or more cells than the bound in all
+-- multianewarray: a negative length anywhere, then any length above the bound, or more cells than the bound in all. It has one length
+-- at least in each class that is read (JVMS 4.9.1); without any it would end the run
 abbrev pub new_grid_of : Here → ℕ → Option (List ℤ × List Value) → Outcome
 new_grid_of h class None = illegal h
+new_grid_of h class (Some ([], rest)) = illegal h
 new_grid_of h class (Some (lengths, rest)) =
     let ns = map natural lengths in
     when (list_any negative lengths) (raise h "java/lang/NegativeArraySizeException")

@@ -15,6 +15,6 @@ as_field f = record { 0 = f }
 abbrev pub as_method : ℕ → MethodId
 as_method m = record { 0 = m }
 
--- the numbers of all array classes, of up to 255 dimensions, are below 2^32
+-- the numbers of all array classes, of up to 255 dimensions, and of the arrays over these, are below 2^32
 abbrev pub HasClassNumbers : Program → Type 0
-HasClassNumbers p = array_class p 256 0 ≤ 2 ^ 32
+HasClassNumbers p = array_class p 257 0 ≤ 2 ^ 32

@@ -36,4 +36,4 @@ pub use places::place;
 pub use references::{MemberReference, member, member_by};
 pub use resolution::resolve_method;
 pub use selected::Selected;
-pub use selection::{select, select_special};
+pub use selection::{select, select_special, selected_if_concrete};

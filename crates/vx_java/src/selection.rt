@@ -17,7 +17,8 @@ use bitflags::Flags;
 use vx_link::{AccessFlags, Program};
 use vx_value::{ClassId, MethodId};
 
-fn selected_if_concrete(program: &Program, method: MethodId) -> Selected
+/// A method, or `Abstract` where it has no body.
+pub fn selected_if_concrete(program: &Program, method: MethodId) -> Selected
     ensures { result ≡ selected_if_concrete program.now method.0 }
 {
     if flags_of_method(program, method).contains(AccessFlags::ABSTRACT) {

@@ -131,7 +131,8 @@ new_references_comes h at i = class_there h (class_name h.pool i) _ (λ c. new_a
 
 new_grid_of_comes : (h : Here) → AtSite h → (class : ℕ) (taken : Option (List ℤ × List Value)) → MayCome h.program (new_grid_of h class taken)
 new_grid_of_comes h at class None = ends h
-new_grid_of_comes h at class (Some (lengths, rest)) =
+new_grid_of_comes h at class (Some ([], rest)) = ends h
+new_grid_of_comes h at class (Some (n ∷ more, rest)) =
     chosen h.program _ _ _ (negative_size h at) (chosen h.program _ _ _ (no_memory h at) (passes h at))
 
 pub new_grid_comes : (h : Here) → AtSite h → (i d : ℕ) → MayCome h.program (new_grid h i d)

@@ -58,7 +58,7 @@ found_room methods numbers has =
 
 -- ---- numbers
 
-class_numbers : (count : ℕ) → count ≤ 1070 → count + (256 - 1) * (count + 8) + 0 ≤ 2 ^ 32
+class_numbers : (count : ℕ) → count ≤ 1070 → count + (257 - 1) * (count + 8) + 0 ≤ 2 ^ 32
 class_numbers count few = omega (arith, few)
 
 -- ---- the whole

@@ -218,7 +218,7 @@ fn chain_marks<S: Space>(
 }
 
 /// Marks one class. A class that the program doesn't have has no state.
-fn mark_one<S: Space>(
+pub fn mark_one<S: Space>(
     alloc: Global,
     program: &Program,
     space: &mut S,

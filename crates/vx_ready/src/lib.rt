@@ -5,5 +5,5 @@
 pub mod initialising;
 pub mod stopping;
 
-pub use initialising::{Mark, Readiness, make_ready, where_yes};
+pub use initialising::{Mark, Readiness, make_ready, mark_one, where_yes};
 pub use stopping::{ended_part, stop_others};

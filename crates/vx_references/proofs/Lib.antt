@@ -3,3 +3,5 @@ pub mod Places
 pub mod Tables
 pub mod FieldLaws
 pub mod CallLaws
+pub mod SignatureLaws
+pub mod Searches

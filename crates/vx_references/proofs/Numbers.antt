@@ -1,10 +1,9 @@
 -- Numbers of classes, fields and methods that a search gives, from the form in which the program's code gives them.
 use Rattle.std.proofs.Common.{◌≡◌, ℕ, refl, Option, Some, None}
 use Rattle.std.specs.Prelude.{option_map}
-use Rattle.vx_java.specs.Ids.{as_class, as_field, as_method}
+use Rattle.vx_java.specs.Ids.{as_class, as_field}
 use Rattle.vx_value.specs.declared.ids.ClassId.{ClassId}
 use Rattle.vx_value.specs.declared.ids.FieldId.{FieldId}
-use Rattle.vx_value.specs.declared.ids.MethodId.{MethodId}
 
 pub class_some : (o : Option ℕ) (class : ClassId) → Some class ≡ option_map as_class o → o ≡ Some class.0
 class_some None class e = cc
@@ -21,7 +20,3 @@ field_some (Some n) field e = cc
 pub field_none : (o : Option ℕ) → None ≡ option_map as_field o → o ≡ None
 field_none None e = refl
 field_none (Some n) e = cc
-
-pub method_some : (o : Option ℕ) (method : MethodId) → Some method ≡ option_map as_method o → o ≡ Some method.0
-method_some None method e = cc
-method_some (Some n) method e = cc

@@ -1,36 +1,52 @@
--- The name of println of an int, and what a program makes of it.
-use Rattle.std.specs.Prelude.{◌≡◌, false, codes}
-use Rattle.vx_java.specs.Calls.{call_instance, member_text, on_class, wrong_kind}
-use Rattle.vx_java.specs.Checks.{same_bool, with_class}
-use Rattle.vx_java.specs.Machine.{Here, Outcome, unsupported, when}
+-- What a reference to a method comes to (JVMS 5.4.3.3, 5.4.3.4, 6.5).
+use Rattle.std.specs.Prelude.{◌≡◌, ℕ, Bool, true, not, ◌||◌, if◌then◌else◌, Option, Some, None}
+use Rattle.vx_class.specs.Members.{STATIC}
+use Rattle.vx_java.specs.Calls.{call_instance, call_static, clone_array, invoke, member_text, wrong_kind}
+use Rattle.vx_java.specs.Ids.{as_method}
+use Rattle.vx_java.specs.Machine.{Here, Outcome, unsupported}
 use Rattle.vx_java.specs.Operation.{class_word, method_word}
-use Rattle.vx_java.specs.declared.operation.Mode.TheVariants.{Virtual}
-use Rattle.vx_link.specs.Names.{Member}
-use Rattle.vx_link.specs.Parts.{is_interface}
+use Rattle.vx_java.specs.declared.operation.Mode.{Mode}
+use Rattle.vx_java.specs.declared.operation.Mode.TheVariants.{Interface, Static}
+use Rattle.vx_link.specs.Names.{Member, member}
+use Rattle.vx_link.specs.Parts.{PRIVATE, has, method_at}
+use Rattle.vx_link.specs.declared.program.LinkedMethod.{LinkedMethod}
 use Rattle.vx_link.specs.declared.program.Program.{Program}
+use Rattle.vx_pool.specs.declared.pool.Pool.{Pool}
+use Rattle.vx_value.specs.declared.ids.ClassId.{ClassId}
+use Rattle.vx_references.specs.Fields.{seeing}
 use Rattle.vx_references.specs.declared.calls.MethodReference.{MethodReference}
-use Rattle.vx_references.specs.declared.calls.MethodReference.TheVariants.{Found, NoClass, NoMethod, WrongKind}
+use Rattle.vx_references.specs.declared.calls.MethodReference.TheVariants.{Clone, Found, NoClass, NoMethod, WrongKind}
 
-abbrev pub println : Member
-println = record { class = codes "java/io/PrintStream"; name = codes "println"; descriptor = codes "(I)V"; by_interface = false }
+-- a method that an instruction of this mode may call: static or not, and no private one by invokeinterface
+abbrev pub may_call : Mode → LinkedMethod → Bool
+may_call Static m = has STATIC m.flags
+may_call Interface m = not (has STATIC m.flags || has PRIVATE m.flags)
+may_call mode m = not (has STATIC m.flags)
 
--- the row of invokevirtual of this name
-abbrev pub referenced : Here → Outcome
-referenced h =
-    with_class h println.class (λ named.
-    when (same_bool false (is_interface h.program named)) (on_class h Virtual println named) (wrong_kind h))
+-- the call of a method that the name is resolved to
+abbrev pub call_found : Here → Mode → Member → (named resolved : ℕ) → Outcome
+call_found h Static m named resolved = call_static h m resolved
+call_found h mode m named resolved = call_instance h mode m named resolved
 
--- what follows for a method that is there, and how all runs end or raise otherwise
-abbrev pub by_reference : Here → MethodReference → Outcome
-by_reference h (Found named resolved) = call_instance h Virtual println named.0 resolved.0
-by_reference h NoClass = unsupported h class_word println.class
-by_reference h NoMethod = unsupported h method_word (member_text println)
-by_reference h WrongKind = wrong_kind h
+-- what follows for a method that is there and for the clone of an array, and how all runs end or raise otherwise
+abbrev pub by_reference : Here → Mode → Member → MethodReference → Outcome
+by_reference h mode m (Found named resolved) = call_found h mode m named.0 resolved.0
+by_reference h mode m (Clone named) = clone_array h mode m named.0
+by_reference h mode m NoClass = unsupported h class_word m.class
+by_reference h mode m NoMethod = unsupported h method_word (member_text m)
+by_reference h mode m WrongKind = wrong_kind h
 
--- an instruction that sees this program
-abbrev pub seeing : Program → Here → Here
-seeing p h = record h { program = p }
+-- a method that is found has the name's descriptor, and may be called
+abbrev pub IsSound : Program → Mode → Member → MethodReference → Type 0
+IsSound p mode m (Found named resolved) = (may_call mode (method_at p resolved.0) ≡ true) × ((method_at p resolved.0).descriptor ≡ m.descriptor)
+IsSound p mode m _ = Unit {0}
 
--- the row goes by the reference, in whichever state it stands
-pub record IsMethodReference (p : Program) (reference : MethodReference) : Type 0 where
-  pub decides : (h : Here) → referenced (seeing p h) ≡ by_reference (seeing p h) reference
+-- what is found in the class that is named, where the search of the name gives this
+abbrev pub found_in : Program → Mode → (named : ClassId) → Option ℕ → MethodReference
+found_in p mode named None = NoMethod
+found_in p mode named (Some resolved) = if may_call mode (method_at p resolved) then Found named (as_method resolved) else WrongKind
+
+-- the row of a call goes by the reference, in whichever state it stands
+pub record IsMethodReference (p : Program) (pool : Pool) (i : ℕ) (mode : Mode) (reference : MethodReference) : Type 0 where
+  pub decides : (h : Here) → invoke (seeing p pool h) mode i ≡ by_reference (seeing p pool h) mode (member pool i) reference
+  pub sound : IsSound p mode (member pool i) reference

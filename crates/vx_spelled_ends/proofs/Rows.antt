@@ -286,7 +286,9 @@ module _ (h : Here) (k : IsHere h) where
 
   grid_made : (class : ℕ) (o : Option (List ℤ × List Value)) → Good h k (new_grid_of h class o)
   grid_made class None = bad h k
-  grid_made class (Some (lengths, rest)) =
+  grid_made class (Some ([], rest)) = bad h k
+  grid_made class (Some (n ∷ more, rest)) =
+      let lengths = n ∷ more in
       let ns = map natural lengths in
       let large = list_any (nat_lt length_bound) ns || nat_lt length_bound (grid_cells ns) in
       by_when h k (list_any negative lengths) (raise h "java/lang/NegativeArraySizeException") (when large (raise h "java/lang/OutOfMemoryError") (push_grid h class ns rest))

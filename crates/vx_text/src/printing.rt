@@ -164,7 +164,7 @@ fn printed_part<S: Space>(
     ensures more { OnOk result (HasMoreTexts heap.old heap.new) }
     ensures gives { IfOk result (λ r. (after : HeapView S S.Id) → HasMoreTexts heap.new after → GivesAt site.now.program.now (λ _ _ s. printed_line site.now s s.top.operands) (S.sets space.old) (S.sets space.new) part r.items.items after) }
 {
-    let out = are_out(alloc, space, heap, reference, part.path())?;
+    let out = are_out(space, heap, reference, part.path())?;
     let argument = part.top_frame().stack.get(part.top_frame().stack.len() - 1);
     let prints = out.zip(space, argument, print_of)?;
     let outcomes = line_parts(alloc, site, space, heap, part, prints.leaves())?;

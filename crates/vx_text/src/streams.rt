@@ -7,7 +7,6 @@ ghost use Rattle.vx_cond.specs.Cond.{IsCond, IsInside};
 ghost use Rattle.vx_heap.specs.Heap.{IsHeap, object_in};
 ghost use Rattle.vx_text.specs.Printing.{is_out_at, is_out_cell, stream_in, stream_of};
 
-use std::alloc::Global;
 use vx_cond::Cond;
 use vx_heap::Heap;
 use vx_space::{Space, SpaceFault};
@@ -22,7 +21,6 @@ fn is_out_cell(cell: Slot) -> bool
 
 /// Whether an object writes on the stream out, inside a path, which is inside its presence; else it writes on err.
 pub fn are_out<S: Space>(
-    alloc: Global,
     space: &mut S,
     heap: &Heap<S>,
     reference: u64,
@@ -37,10 +35,6 @@ pub fn are_out<S: Space>(
     ensures scope { IfOk result (λ r. r.scope ≡ path) }
     ensures at { IfOk result (λ r. (c : List Bool) → (S.sets space.old).test path c ≡ true → stream_of (is_out_at (S.sets space.new) r c) ≡ stream_in (S.sets space.old) heap.now reference c) }
 {
-    if heap.cell_count(reference) == 0 {
-        let none = Cond::one(alloc, space, false, path)?;
-        return Ok(none);
-    }
     let cells = heap.read_cell(space, reference, 0, path)?;
     let out = cells.map(space, is_out_cell)?;
     Ok(out)

@@ -79,10 +79,10 @@ mod tests {
             "p/Main.class",
             "class 0021 Main java/lang/Object\nfield 0009 X0 Z\nfield 0009 X1 Z\nfield 0009 Y0 Z\nfield 0009 Y1 Z\nmethod 0009 main ([Ljava/lang/String;)V 2 1\ngetstatic Main X0 Z\ngetstatic Main Y0 Z\nif_icmpne End\ngetstatic Main X1 Z\ngetstatic Main Y1 Z\nif_icmpne End\ngetstatic java/lang/System out Ljava/io/PrintStream;\niconst_1\ninvokevirtual java/io/PrintStream println (I)V\nEnd:\nreturn\nend\n",
         ),
-        // With the option on it comes to a new object, which isn't built.
+        // With the option on it comes to a call, which isn't built.
         (
             "z/2.class",
-            "class 0021 Main java/lang/Object\nfield 0009 A Z\nmethod 0009 main ([Ljava/lang/String;)V 1 1\ngetstatic Main A Z\nifeq Off\nnew java/lang/Object\npop\nOff:\nreturn\nend\n",
+            "class 0021 Main java/lang/Object\nfield 0009 A Z\nmethod 0009 main ([Ljava/lang/String;)V 1 1\ngetstatic Main A Z\nifeq Off\ninvokestatic Main called ()V\nOff:\nreturn\nend\nmethod 0009 called ()V 0 0\nreturn\nend\n",
         ),
     ];
 
@@ -144,7 +144,7 @@ mod tests {
     ];
 
     /// Words, and what has to come: the code, `out`, and `err`.
-    const CASES: [(&str, u8, &str, &str); 55] = [
+    const CASES: [(&str, u8, &str, &str); 58] = [
         (
             "run a m Main 100 1",
             0,
@@ -176,6 +176,9 @@ mod tests {
             "",
         ),
         ("run n e Main 0 1", 2, "", "usage\n"),
+        ("--version", 0, "varexj 0.9\n", ""),
+        ("--version run", 2, "", "usage\n"),
+        ("-h", 2, "", "usage\n"),
         (
             "run b e Main 100 1",
             7,

@@ -3,7 +3,8 @@ use Rattle.std.specs.Prelude.{slice_get}
 use Rattle.vx_cond.proofs.RowSteps.{IsRow-get}
 use Rattle.vx_group_states.specs.Answers.{answer_cmp}
 use Rattle.vx_value.specs.Slot.{slot_cmp}
-use Rattle.vx_arith.proofs.Ends.{lifting2_cond, top_two_answers}
+use Rattle.vx_families.proofs.Tops.{lifting2_cond}
+use Rattle.vx_arith.proofs.Ends.{top_two_answers}
 use Rattle.vx_arith.proofs.operands.answers_of_top_two.Goals as goal
 
 pub zip-requires-clause-first : goal.zip-requires-clause-first

@@ -1,35 +1,36 @@
 use Rattle.vx_java.specs.Named.{in_bytes}
 use Rattle.vx_java.specs.declared.operation.Operation.TheVariants.{GetStatic}
 use Rattle.vx_space.proofs.Spaces.{Extends-refl}
-use Rattle.vx_fields.proofs.Families.{IsRunning-given, found_sort, found_static, got-by, missing-get, names_at, not_found, reference_at}
+use Rattle.vx_fields.specs.Statics.{got}
+use Rattle.vx_fields.proofs.Families.{IsRunning-given, found_sort, found_static, got-by, missing-by, names_at, not_found, reference_at}
 use Rattle.vx_fields.proofs.statics.get_static.Goals as goal
 
-pub static_field-requires-clause-bounded : goal.static_field-requires-clause-bounded
-static_field-requires-clause-bounded g c = c.requires.bounded
+pub field_named-requires-clause-bounded : goal.field_named-requires-clause-bounded
+field_named-requires-clause-bounded g c = c.requires.bounded
 
-pub static_field-requires-clause-for_program : goal.static_field-requires-clause-for_program
-static_field-requires-clause-for_program g c = c.requires.is_for
+pub field_named-requires-clause-for_program : goal.field_named-requires-clause-for_program
+field_named-requires-clause-for_program g c = c.requires.is_for
 
 pub get_fitting-requires-clause-running : goal.get_fitting-requires-clause-running
 get_fitting-requires-clause-running g c = IsRunning-given c.args.site.now (GetStatic c.args.index) _ c.args.heap.now c.args.group c.requires
 
 pub get_fitting-requires-clause-field : goal.get_fitting-requires-clause-field
-get_fitting-requires-clause-field g c = found_static c.args.site.now c.args.group c.args.index c.static_field.result c.in-Found.named c.in-Found.field c.in-Found.field_type (reference_at c.args.site.now c.args.group c.top_frame.result.now c.class_of_method-class.result c.args.index c.static_field.result c.top_frame.ensures c.class_of_method-class.ensures c.static_field.ensures) c.in-Found.is
+get_fitting-requires-clause-field g c = found_static c.args.site.now c.args.group c.args.index c.field_named.result c.in-Found.named c.in-Found.field c.in-Found.field_type (reference_at c.args.site.now c.args.group c.top_frame.result.now c.class_of_method-class.result c.args.index c.field_named.result c.top_frame.ensures c.class_of_method-class.ensures c.field_named.ensures) c.in-Found.is
 
 pub get_fitting-requires-clause-sort : goal.get_fitting-requires-clause-sort
-get_fitting-requires-clause-sort g c = found_sort c.args.site.now c.args.group c.args.index c.static_field.result c.in-Found.named c.in-Found.field c.in-Found.field_type (reference_at c.args.site.now c.args.group c.top_frame.result.now c.class_of_method-class.result c.args.index c.static_field.result c.top_frame.ensures c.class_of_method-class.ensures c.static_field.ensures) c.in-Found.is
+get_fitting-requires-clause-sort g c = found_sort c.args.site.now c.args.group c.args.index c.field_named.result c.in-Found.named c.in-Found.field c.in-Found.field_type (reference_at c.args.site.now c.args.group c.top_frame.result.now c.class_of_method-class.result c.args.index c.field_named.result c.top_frame.ensures c.class_of_method-class.ensures c.field_named.ensures) c.in-Found.is
 
 pub returns-in_ok-outcomes-in-Found-clause-ok : goal.returns-in_ok-outcomes-in-Found-clause-ok
-returns-in_ok-outcomes-in-Found-clause-ok g c = got-by c.args.site.now c.args.group c.args.index c.static_field.result c.in-Found.named c.in-Found.field c.in-Found.field_type (reference_at c.args.site.now c.args.group c.top_frame.result.now c.class_of_method-class.result c.args.index c.static_field.result c.top_frame.ensures c.class_of_method-class.ensures c.static_field.ensures) c.in-Found.is _ _ c.args.heap.now c.get_fitting.new.heap _ (c.in_ok-outcomes-in-Found.ensures.ok c.in-Found.named.0)
+returns-in_ok-outcomes-in-Found-clause-ok g c = got-by c.args.site.now c.args.group c.args.index c.field_named.result c.in-Found.named c.in-Found.field c.in-Found.field_type (reference_at c.args.site.now c.args.group c.top_frame.result.now c.class_of_method-class.result c.args.index c.field_named.result c.top_frame.ensures c.class_of_method-class.ensures c.field_named.ensures) c.in-Found.is _ _ c.args.heap.now c.get_fitting.new.heap _ (c.in_ok-outcomes-in-Found.ensures.ok c.in-Found.named.0)
 
 pub unresolved-requires-clause-classes : goal.unresolved-requires-clause-classes
 unresolved-requires-clause-classes g c = c.requires.bounded.classes
 
 pub unresolved-requires-clause-unresolved : goal.unresolved-requires-clause-unresolved
-unresolved-requires-clause-unresolved g c = not_found c.static_field.result (λ named field type e. c.in_default.not-Found named field type e)
+unresolved-requires-clause-unresolved g c = not_found c.field_named.result (λ named field type e. c.in_default.not-Found named field type e)
 
 pub returns-in_ok-outcomes-in_default : goal.returns-in_ok-outcomes-in_default
 returns-in_ok-outcomes-in_default g c = record {
   extends = Extends-refl _;
-  ok = missing-get c.args.site.now _ c.args.heap.now c.args.group c.args.index c.static_field.result (in_bytes c.named_member-named.result) _ (IsRunning-given c.args.site.now (GetStatic c.args.index) _ c.args.heap.now c.args.group c.requires) (reference_at c.args.site.now c.args.group c.top_frame.result.now c.class_of_method-class.result c.args.index c.static_field.result c.top_frame.ensures c.class_of_method-class.ensures c.static_field.ensures) (not_found c.static_field.result (λ named field type e. c.in_default.not-Found named field type e)) (names_at c.args.site.now c.args.group c.top_frame.result.now c.class_of_method-class.result c.args.index (in_bytes c.named_member-named.result) c.top_frame.ensures c.class_of_method-class.ensures c.named_member-named.ensures) (λ rest. c.in_ok-outcomes-in_default.ensures _ rest);
+  ok = missing-by c.args.site.now _ c.args.heap.now c.args.group c.args.index c.field_named.result (in_bytes c.named_member-named.result) _ (IsRunning-given c.args.site.now (GetStatic c.args.index) _ c.args.heap.now c.args.group c.requires) (reference_at c.args.site.now c.args.group c.top_frame.result.now c.class_of_method-class.result c.args.index c.field_named.result c.top_frame.ensures c.class_of_method-class.ensures c.field_named.ensures) (not_found c.field_named.result (λ named field type e. c.in_default.not-Found named field type e)) (names_at c.args.site.now c.args.group c.top_frame.result.now c.class_of_method-class.result c.args.index (in_bytes c.named_member-named.result) c.top_frame.ensures c.class_of_method-class.ensures c.named_member-named.ensures) (λ rest. c.in_ok-outcomes-in_default.ensures _ rest) (λ h x. got x h);
 }

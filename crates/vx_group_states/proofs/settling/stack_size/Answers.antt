@@ -1,16 +1,16 @@
-use Rattle.std.proofs.Common.{◌∙◌, sym}
+use Rattle.std.proofs.Common.{◌∙◌, arith, sym}
 use Rattle.vx_value.specs.Slot.{slot_cmp}
 use Rattle.vx_cond.proofs.CondLaws.{IsCond-extends}
 use Rattle.vx_cond.proofs.RowSteps.{IsRow-get}
 use Rattle.vx_cond.proofs.SideLaws.{IsRow-scope_known}
-use Rattle.vx_group_states.proofs.Fitting.{IsSized-start, IsSized-step, IsSized-end}
+use Rattle.vx_group_states.proofs.Fitting.{IsSized-start, IsSized-step, IsSized-end, beside_none}
 use Rattle.vx_group_states.proofs.settling.stack_size.Goals as goal
 
 pub one-requires : goal.one-requires
 one-requires g c = rw c.scope.ensures (IsRow-scope_known slot_cmp _ c.args.stack.now c.requires.row)
 
 pub loop-i-init : goal.loop-i-init
-loop-i-init g c = IsSized-start _ c.args.stack.now _ _ c.scope.ensures c.in_ok-total.ensures.scope c.in_ok-total.ensures.ok
+loop-i-init g c = IsSized-start _ c.args.stack.now 0 _ _ c.scope.ensures c.in_ok-total.ensures.scope c.in_ok-total.ensures.ok
 
 pub zip-requires-clause-first : goal.zip-requires-clause-first
 zip-requires-clause-first g c = c.loop-i.invariant.is_cond
@@ -22,7 +22,7 @@ pub zip-requires-clause-scopes : goal.zip-requires-clause-scopes
 zip-requires-clause-scopes g c = c.loop-i.invariant.scope ∙ sym (IsRow-get slot_cmp _ c.args.stack.now c.loop-i.i c.get.result.now c.requires.row c.get.ensures).1
 
 pub loop-i-preserved : goal.loop-i-preserved
-loop-i-preserved g c = IsSized-step _ c.args.stack.now c.loop-i.i c.get.result.now c.loop-i.total _ (λ n s r h. h) c.requires.row c.requires.few c.get.ensures c.loop-i.invariant c.in_ok-total-2.ensures.extends c.in_ok-total-2.ensures.ok c.in_ok-total-2.ensures.scope
+loop-i-preserved g c = IsSized-step _ c.args.stack.now 0 c.loop-i.i c.get.result.now c.loop-i.total _ (λ n s r h. h) c.requires.row c.requires.few (omega arith) c.get.ensures c.loop-i.invariant c.in_ok-total-2.ensures.extends c.in_ok-total-2.ensures.ok c.in_ok-total-2.ensures.scope
 
 pub returns-clause-cond : goal.returns-clause-cond
 returns-clause-cond g c = c.loop-i.invariant.is_cond
@@ -31,4 +31,4 @@ pub returns-clause-scope : goal.returns-clause-scope
 returns-clause-scope g c = c.loop-i.invariant.scope
 
 pub returns-clause-at : goal.returns-clause-at
-returns-clause-at g c = IsSized-end c.args.stack.now c.loop-i.i c.loop-i.total c.loop-i.invariant (rw c.len-i-end.ensures at c.loop-i-test.false)
+returns-clause-at g c = λ d t. beside_none _ _ (IsSized-end c.args.stack.now 0 c.loop-i.i c.loop-i.total c.loop-i.invariant (rw c.len-i-end.ensures at c.loop-i-test.false) d t)

@@ -9,7 +9,7 @@ use Rattle.vx_space.proofs.Spaces.{Extends-trans}
 use Rattle.vx_group_states.specs.Sites.{here}
 use Rattle.vx_group_states.proofs.EndingLaws.{GivesAt-before}
 use Rattle.vx_value.specs.Slot.{slot_cmp}
-use Rattle.vx_references.specs.Calls.{println}
+use Rattle.vx_invoke.specs.Println.{println}
 use Rattle.vx_invoke.proofs.Groups.{AreReceivers-zipped, IsCalling-later, SomeEnters-later, few-operands}
 use Rattle.vx_invoke.proofs.invoking.instance_call.Goals as goal
 
@@ -56,4 +56,4 @@ pub returns-clause-gives : goal.returns-clause-gives
 returns-clause-gives g c = IfSome_then c.in_ok-made.made c.in_ok-made.ensures.gives (λ o h. GivesAt-before c.args.site.now.program.now _ c.args.group c.args.heap.now (λ _ _ s. call_instance (here c.args.site.now s) Virtual println c.args.named.0 c.args.resolved.0) (λ _ _ s. call_instance (here c.args.site.now s) Virtual println c.args.named.0 c.args.resolved.0) o.items.items c.in_ok-receivers.ensures.extends (λ tree h s d t. refl) h)
 
 pub returns-clause-enters : goal.returns-clause-enters
-returns-clause-enters g c = λ none. SomeEnters-later c.args.site.now c.args.heap.now c.args.group (λ s. call_instance (here c.args.site.now s) Virtual println c.args.named.0 c.args.resolved.0) c.in_ok-receivers.ensures.extends c.requires.running (c.in_ok-made.ensures.enters none)
+returns-clause-enters g c = λ none. SomeEnters-later c.args.site.now c.args.heap.now c.args.group (λ s. call_instance (here c.args.site.now s) Virtual println c.args.named.0 c.args.resolved.0) c.in_ok-receivers.ensures.extends c.requires.running.is_heap c.requires.running.is_group (c.in_ok-made.ensures.enters none)

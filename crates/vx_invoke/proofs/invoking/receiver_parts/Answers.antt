@@ -6,7 +6,7 @@ use Rattle.vx_java.specs.Calls.{call_instance}
 use Rattle.vx_java.specs.declared.operation.Mode.TheVariants.{Virtual}
 use Rattle.vx_group_states.specs.Sites.{here}
 use Rattle.vx_group_states.proofs.Gathering.{IsGathering-end, IsGathering-inner, IsGathering-rest, IsGathering-start, IsGathering-step, leaf_inside}
-use Rattle.vx_references.specs.Calls.{println}
+use Rattle.vx_invoke.specs.Println.{println}
 use Rattle.vx_invoke.specs.Receivers.{receiver_cmp}
 use Rattle.vx_invoke.proofs.Groups.{HasReceiver-part, IsCalling-part, SomeEnters-part, at_heap, some_at}
 use Rattle.vx_invoke.proofs.invoking.receiver_parts.Goals as goal
@@ -68,4 +68,4 @@ pub returns-in_default-clause-enters : goal.returns-in_default-clause-enters
 returns-in_default-clause-enters g c =
     let inner = IsGathering-inner receiver_cmp c.args.site.now.program.now _ c.args.group _ _ c.args.receivers.now _ c.leaf-item.result c.loop-leaf.rest _ _ c.requires.receivers.are_leaves c.requires.receivers.cover c.loop-leaf-test.true c.leaf-item.is c.loop-leaf.invariant c.in_ok-part.ensures.inside in
     let inside = leaf_inside _ _ c.args.receivers.now _ c.leaf-item.result c.requires.receivers.cover c.loop-leaf-test.true c.leaf-item.is in
-    λ none. SomeEnters-part c.args.site.now c.args.heap.now _ c.args.group _ (λ s. call_instance (here c.args.site.now s) Virtual println c.args.named.0 c.args.resolved.0) (Extends-trans c.loop-leaf.invariant.extends c.in_ok-part.ensures.extends) c.requires.calling.running inside inner (c.in_ok-answer.ensures.enters (ap is_some c.in_default.is))
+    λ none. SomeEnters-part c.args.site.now c.args.heap.now _ c.args.group _ (λ s. call_instance (here c.args.site.now s) Virtual println c.args.named.0 c.args.resolved.0) (Extends-trans c.loop-leaf.invariant.extends c.in_ok-part.ensures.extends) c.requires.calling.running.is_heap inside inner (c.in_ok-answer.ensures.enters (ap is_some c.in_default.is))

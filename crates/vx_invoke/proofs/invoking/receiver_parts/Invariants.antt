@@ -3,7 +3,7 @@ use Rattle.vx_java.specs.Calls.{call_instance}
 use Rattle.vx_java.specs.declared.operation.Mode.TheVariants.{Virtual}
 use Rattle.vx_group_states.specs.Sites.{here}
 use Rattle.vx_group_states.proofs.Gathering.{IsGathering}
-use Rattle.vx_references.specs.Calls.{println}
+use Rattle.vx_invoke.specs.Println.{println}
 use Rattle.vx_invoke.proofs.invoking.receiver_parts.Given as goal
 
 abbrev pub invariant-loop-leaf : goal.invariant-loop-leaf

@@ -1,15 +1,7 @@
-use Rattle.std.proofs.Common.{◌∙◌, sym}
 use Rattle.std.specs.Ordering.{bool_cmp}
-use Rattle.vx_cond.proofs.CondLaws.{IsCond-of}
 use Rattle.vx_cond.proofs.LiftingLaws.{IsCond-lifting}
-use Rattle.vx_text.proofs.StreamLaws.{err_at, out_at}
+use Rattle.vx_text.proofs.StreamLaws.{out_at}
 use Rattle.vx_text.proofs.streams.are_out.Goals as goal
-
-pub returns-then-cell_count-eq0-clause-cond : goal.returns-then-cell_count-eq0-clause-cond
-returns-then-cell_count-eq0-clause-cond g c = IsCond-of bool_cmp _ _ c.in_ok-none.none c.in_ok-none.ensures.ok
-
-pub returns-then-cell_count-eq0-clause-at : goal.returns-then-cell_count-eq0-clause-at
-returns-then-cell_count-eq0-clause-at g c = err_at _ c.args.heap.now c.args.reference c.args.path c.in_ok-none.none c.requires.reference (sym c.cell_count.ensures ∙ c.if-cell_count-eq0.true) c.requires.inside c.in_ok-none.ensures.ok
 
 pub returns-clause-cond : goal.returns-clause-cond
 returns-clause-cond g c = IsCond-lifting bool_cmp _ _ _ c.in_ok-out.out c.in_ok-out.ensures.ok

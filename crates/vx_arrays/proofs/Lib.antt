@@ -1,0 +1,14 @@
+pub mod CellCounts
+pub mod ClassNumbers
+pub mod Fewer
+pub mod ElementRows
+pub mod MadeGrids
+pub mod DividedGrids
+pub mod GridLists
+pub mod GridParts
+pub mod GridRows
+pub mod ClassRows
+pub mod Loads
+pub mod Operands
+pub mod Placed
+pub mod Stores

@@ -1,0 +1,4 @@
+pub mod Family
+pub mod Elements
+pub mod Making
+pub mod Moving

@@ -1,0 +1,6 @@
+pub mod WrittenThrough
+pub mod Passing
+pub mod Giving
+pub mod PlaceRows
+pub mod ObjectClasses
+pub mod Lowest

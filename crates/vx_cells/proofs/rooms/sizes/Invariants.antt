@@ -1,0 +1,5 @@
+use Rattle.vx_group_states.proofs.Fitting.{IsSized}
+use Rattle.vx_cells.proofs.rooms.sizes.Given as goal
+
+abbrev pub invariant-loop-i : goal.invariant-loop-i
+invariant-loop-i g l = IsSized (g.S.Space.sets l.fn.space) (g.S.Space.sets l.space) l.stack l.value l.i l.total

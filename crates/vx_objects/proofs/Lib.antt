@@ -1,0 +1,10 @@
+pub mod Operands
+pub mod Rows
+pub mod FieldRows
+pub mod FieldPlaces
+pub mod Reaching
+pub mod Missing
+pub mod MakingRows
+pub mod InitRows
+pub mod InitNames
+pub mod InitCalls

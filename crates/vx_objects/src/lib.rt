@@ -1,0 +1,15 @@
+//! The family of objects: new ones, their fields and classes, monitors, and references compared (JVMS 6.5).
+#![tactic(auto)]
+
+pub mod attempting;
+mod casting;
+mod comparing;
+pub mod constructing;
+mod family;
+mod fields;
+mod instances;
+mod making;
+
+pub use attempting::attempt;
+pub use constructing::{call_init, is_object_init, object_init};
+pub use family::is_of_objects;

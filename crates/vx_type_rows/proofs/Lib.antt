@@ -1,0 +1,3 @@
+mod SignatureLaws
+mod FieldRows
+mod CallRows
