@@ -1,0 +1,4 @@
+pub mod FirstObjects
+pub mod ValueRows
+pub mod Computed
+pub mod QuestionRows

@@ -1,0 +1,11 @@
+pub mod Numbers
+pub mod CallLaws
+pub mod ArgumentRows
+pub mod NativeRows
+pub mod Arguing
+pub mod Attempting
+pub mod Behaving
+pub mod Shapes
+pub mod Few
+pub mod Telling
+pub mod CellLaws
