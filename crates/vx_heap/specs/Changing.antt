@@ -10,7 +10,7 @@ use Rattle.vx_space.specs.Sets.{Sets}
 use Rattle.vx_value.specs.declared.slot.Slot.{Slot}
 use Rattle.vx_value.specs.declared.slot.Slot.TheVariants.{Ref}
 use Rattle.vx_heap.specs.declared.object.HeapObject.{HeapObject}
-use Rattle.vx_heap.specs.Heap.{Globals, HeapView, IsHeap, IsHeapFor, globals_at, is_held, name_at, value_of}
+use Rattle.vx_heap.specs.Heap.{Globals, HeapView, IsHeap, IsHeapFor, globals_at, is_held, name_at, objects_at, value_of}
 
 -- the later heap has the objects and the texts of the earlier one under their numbers
 pub record Grows {S I : Type 0} (before after : HeapView S I) : Type 0 where
@@ -57,6 +57,12 @@ pub record IsMade {S I : Type 0} (sets : Sets I) (before : HeapView S I) (path :
   pub changed : IsChangedIn sets sets before after (sets.test path) (λ _. with_object object)
   pub reference_is : reference ≡ length before.objects
   pub held : (c : List Bool) → sets.test path c ≡ true → is_held sets after c (Ref reference) ≡ true
+
+-- in the configurations of a path a copy of an object stands behind those that stood there, and nothing else changed
+pub record IsCopied {S I : Type 0} (old new : Sets I) (before : HeapView S I) (reference : ℕ) (path : I) (after : HeapView S I) (copy : ℕ) : Type 0 where
+  pub changed : IsChangedIn old new before after (old.test path) (λ c. with_object (item_or (objects_at old before c) (name_at old before.objects c reference) no_object))
+  pub copy_is : copy ≡ length before.objects
+  pub held : (c : List Bool) → old.test path c ≡ true → is_held new after c (Ref copy) ≡ true
 
 -- the same over any space
 abbrev pub MakesObject : {S I : Type 0} → (before : HeapView S I) → (path : I) → Object → (after : HeapView S I) → (reference : ℕ) → Type 0

@@ -4,7 +4,7 @@ ghost use Rattle.std.specs.Prelude.{◌≡◌, ◌++◌, ◌<◌, [], IfOk, OnEr
 ghost use Rattle.std.specs.List.{flat_map};
 ghost use Rattle.vx_cond.specs.Cond.{IsCond, IsCondOf, IsInside, cond_at};
 ghost use Rattle.vx_cond.specs.Leaves.{first_of, value_within};
-ghost use Rattle.vx_heap.specs.Cells.{AreCells, AreWritten, IsCell, IsCellInside, IsCellOf, cell_ids, cell_slot, cells_at};
+ghost use Rattle.vx_heap.specs.Cells.{AreCells, AreCellsWithin, AreWritten, IsCell, IsCellInside, IsCellOf, IsCellWithin, cell_ids, cell_slot, cells_at};
 ghost use Rattle.vx_heap.specs.declared.cell_list.Cell.TheVariants.{Plain};
 ghost use Rattle.vx_list.specs.Places.{item_or};
 ghost use Rattle.vx_space.specs.Sets.{Extends, IsKnown};
@@ -114,6 +114,27 @@ impl<S: Space> CellList<S> {
         }
     }
 
+    /// The cells inside a path, which is inside the presence of the object: each has the value there that it had.
+    pub fn inside(
+        &self,
+        space: &mut S,
+        path: S::Id,
+        presence: S::Id,
+    ) -> Result<CellList<S>, SpaceFault>
+        requires cells { AreCells (S.sets space.old) presence self.now }
+        requires known { IsKnown (S.sets space.old) path }
+        requires presence { IsKnown (S.sets space.old) presence }
+        requires inside { IsInside (S.sets space.old) path presence }
+        ensures extends { Extends (S.sets space.old) (S.sets space.new) }
+        ensures ok { IfOk result (AreCellsWithin (S.sets space.old) (S.sets space.new) path self.now) }
+    {
+        let cells = cells_inside(self.allocator(), space, &self.cells, path, presence)?;
+        Ok(CellList {
+            cells,
+            differs: true,
+        })
+    }
+
     fn set(&mut self, place: usize, cell: Cell<S>)
         requires { place < length self.old }
         ensures { self.new ≡ slice_set self.old place cell }
@@ -181,6 +202,46 @@ fn value_inside<S: Space>(
             Ok(value)
         }
     }
+}
+
+/// A cell inside a path, which is inside the presence of its object.
+fn cell_inside<S: Space>(
+    alloc: Global,
+    space: &mut S,
+    cell: &Cell<S>,
+    path: S::Id,
+) -> Result<Cell<S>, SpaceFault>
+    requires cell { IsCellInside (S.sets space.old) path cell.now }
+    requires known { IsKnown (S.sets space.old) path }
+    ensures extends { Extends (S.sets space.old) (S.sets space.new) }
+    ensures ok { IfOk result (IsCellWithin (S.sets space.old) (S.sets space.new) path cell.now) }
+{
+    let value = value_inside(alloc, space, cell, path)?;
+    let inner = cell_of(value)?;
+    Ok(inner)
+}
+
+/// Cells inside a path, which is inside the presence of their object.
+fn cells_inside<S: Space>(
+    alloc: Global,
+    space: &mut S,
+    cells: &[Cell<S>],
+    path: S::Id,
+    presence: S::Id,
+) -> Result<Vec<Cell<S>>, SpaceFault>
+    requires cells { AreCells (S.sets space.old) presence cells.now }
+    requires known { IsKnown (S.sets space.old) path }
+    requires presence { IsKnown (S.sets space.old) presence }
+    requires inside { IsInside (S.sets space.old) path presence }
+    ensures extends { Extends (S.sets space.old) (S.sets space.new) }
+    ensures ok { IfOk result (λ made. AreCellsWithin (S.sets space.old) (S.sets space.new) path cells.now made.items) }
+{
+    let mut made = Vec::with_capacity(alloc, cells.len())?;
+    for cell in cells {
+        let inner = cell_inside(alloc, space, cell, path)?;
+        made.push(inner)?;
+    }
+    Ok(made)
 }
 
 /// The value of a cell where another one is written over it.
