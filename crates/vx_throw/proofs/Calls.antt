@@ -1,20 +1,20 @@
 -- Whether the frames of a group are those of calls, by its key and by the state at any configuration.
-use Rattle.std.proofs.Common.{◌≡◌, Bool, true, false, List, [], ◌∷◌, ◌++◌, refl, sym, ◌∙◌, ap, length, map, reverse}
+use Rattle.std.proofs.Common.{◌≡◌, Bool, true, false, List, [], ◌∷◌, refl, sym, ◌∙◌, ap, length, map, reverse}
 use Rattle.std.proofs.lemmas.List.{reverse-append}
-use Rattle.std.proofs.lemmas.List.Folds.{list_all-append, list_all-map}
+use Rattle.std.proofs.lemmas.List.Folds.{list_all-append}
 use Rattle.std.specs.Prelude.{Option, ◌&&◌}
 use Rattle.std.specs.List.{list_all}
-use Rattle.vx_space.specs.Sets.{Sets, Extends}
+use Rattle.vx_space.specs.Sets.{Sets}
 use Rattle.vx_families.specs.Built.{is_call}
 use Rattle.vx_families.specs.Built.{are_calls as are_calls_there}
 use Rattle.vx_frame.specs.declared.frame.Frame.{Frame}
-use Rattle.vx_frame.specs.Frame.{Shape, part_of}
+use Rattle.vx_frame.specs.Frame.{part_of}
 use Rattle.vx_frames.specs.Uncovering.{IsUncovered}
 use Rattle.vx_group.specs.declared.callers.Caller.{Caller}
 use Rattle.vx_group.specs.Callers.{callers_of, frames_at}
 use Rattle.vx_group.specs.Group.{GroupView, IsGroupIn, IsPartOf, path_of}
 use Rattle.vx_group.proofs.GroupLaws.{IsGroupIn-parts}
-use Rattle.vx_group_states.specs.Stands.{callers_at, plain_frame, state_at}
+use Rattle.vx_group_states.specs.Stands.{plain_frame, state_at}
 use Rattle.vx_heap.specs.Heap.{HeapView, IsHeap}
 use Rattle.vx_value.specs.declared.key.KeyPart.{KeyPart}
 use Rattle.vx_throw.specs.Flights.{are_calls}

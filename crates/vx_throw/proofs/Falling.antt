@@ -4,8 +4,7 @@ use Rattle.std.specs.Prelude.{◌&&◌, ◌||◌, is_none, is_some, not}
 use Rattle.vx_space.specs.Sets.{Sets, Extends}
 use Rattle.vx_space.proofs.Spaces.{Extends-refl, Extends-trans}
 use Rattle.vx_cond.specs.Cond.{Conditional}
-use Rattle.vx_cond.specs.Slots.{or_top, slot_at}
-use Rattle.vx_cond.proofs.CondLaws.{cond_at-extends}
+use Rattle.vx_cond.specs.Slots.{slot_at}
 use Rattle.vx_frame.specs.Frame.{frame_at, part_of}
 use Rattle.vx_frames.specs.Entering.{with_frame}
 use Rattle.vx_frames.specs.Uncovering.{IsUncovered}
@@ -15,7 +14,7 @@ use Rattle.vx_group.specs.Callers.{callers_of, frames_at}
 use Rattle.vx_group.specs.Group.{GroupView, path_of}
 use Rattle.vx_group.proofs.GroupLaws.{IsGroup-path_known, IsGroupIn-group}
 use Rattle.vx_group_states.proofs.Gathering.{part_path}
-use Rattle.vx_group_states.proofs.OutcomeStates.{AreOutcomes-through, CameTo-append, CameTo-extends, CameTo-none, CameTo-same, CameTo-through, IsThrown-extends, object_named-extends}
+use Rattle.vx_group_states.proofs.OutcomeStates.{CameTo-append, CameTo-extends, CameTo-none, CameTo-same, CameTo-through, IsThrown-extends, object_named-extends}
 use Rattle.vx_group_states.proofs.StateLaws.{Continues-part, Continues-same, Continues-trans, both_first, both_second, state_at-part}
 use Rattle.vx_group_states.specs.Sites.{GivesAt}
 use Rattle.vx_group_states.specs.Stands.{CameTo, Continues, IsThrown, is_object, object_named, plain_frame, state_at}
@@ -28,7 +27,6 @@ use Rattle.vx_link.specs.declared.program.Program.{Program}
 use Rattle.vx_outcome.specs.declared.outcome.Outcome.{Outcome}
 use Rattle.vx_standing.specs.Attempted.{outcome_of}
 use Rattle.vx_value.specs.declared.key.Kind.TheVariants.{Call}
-use Rattle.vx_value.specs.Slot.{slot_cmp}
 use Rattle.vx_value.specs.declared.key.KeyPart.{KeyPart}
 use Rattle.vx_value.specs.declared.slot.Slot.{Slot}
 use Rattle.vx_throw.proofs.ThrowLaws.{ends_there, handler_there, taken_here}

@@ -1,4 +1,4 @@
-use Rattle.std.proofs.Common.{◌≡◌, ◌++◌, ◌∙◌, arith, refl, sym}
+use Rattle.std.proofs.Common.{◌++◌, ◌∙◌, arith, refl, sym}
 use Rattle.std.proofs.lemmas.Result.{err_from_is_err_and}
 use Rattle.vx_cells.proofs.Somewhere.{somewhere_in}
 use Rattle.vx_frames.proofs.UnwindLaws.{passes_frames}
