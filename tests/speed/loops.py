@@ -86,3 +86,23 @@ def appends(count):
     lines += ['aload_1', 'bipush 97', f'invokevirtual {builder} append (C)L{builder};', 'pop']
     lines += ['iinc 2 1', 'iload_2', f'sipush {count}', 'if_icmplt L', 'return', 'end', '']
     return '\n'.join(lines)
+
+
+def descent_model():
+    """Four options, whose 16 configurations go apart in `descents`."""
+    return ''.join(f'option O{i} Main O{i}\n' for i in range(4))
+
+
+def descents(depth, throws):
+    """The source of a program that calls a method at a place for each of 16 configurations. The method calls itself so many times; then each call
+    returns, or the last one throws, and no call takes it."""
+    lines = [HEAD, *(f'field 0009 O{i} Z' for i in range(4)), 'method 0009 r (I)V 6 4', 'iload_0', 'ifeq P']
+    lines += ['iload_0', 'iconst_1', 'isub', 'invokestatic Main r (I)V', 'return', 'P:']
+    lines += ['aconst_null', 'athrow', 'end'] if throws else ['return', 'end']
+    lines += [f'{MAIN} 6 4', 'iconst_0']
+    for i in range(4):
+        lines += [f'getstatic Main O{i} Z', f'iconst_{i}', 'ishl', 'iadd']
+    lines += [f'tableswitch 0 L0 {" ".join(f"L{i}" for i in range(16))}']
+    for i in range(16):
+        lines += [f'L{i}:', f'sipush {depth}', 'invokestatic Main r (I)V', 'return']
+    return '\n'.join(lines + ['end', ''])

@@ -16,7 +16,7 @@ import sys
 import tempfile
 import time
 
-from loops import LOOPS, appends
+from loops import LOOPS, appends, descent_model, descents
 
 HERE = os.path.dirname(os.path.abspath(__file__))
 CASES = os.path.join(HERE, '..', 'cases')
@@ -106,6 +106,10 @@ def whole_programs(varexj, folder):
         with open(os.path.join(CASES, name, 'args')) as file:
             _, classes, model, _, limit, _ = file.read().split()
         yield name, os.path.join(CASES, name, classes), os.path.join(CASES, name, model), limit
+    for depth in (250, 500, 1000):
+        for throws in (False, True):
+            name = f'16 groups {"throw through" if throws else "return from"} {depth} frames'
+            yield name, assembled(varexj, descents(depth, throws), folder), modelled(descent_model(), folder), 1000000
     yield '10,000 appends', assembled(varexj, appends(10000), folder), modelled('', folder), 100000
     for name in programs.programs():
         yield f'program {name}', programs.place(name, 'classes'), programs.place(name, 'model'), 1000000

@@ -13,12 +13,10 @@ use Rattle.vx_cond.proofs.SideLaws.{IsRow-scope_known, cond_at-covers, row_at-ex
 use Rattle.vx_group_states.proofs.Gathering.{AreLeaves-of, leaf_value}
 use Rattle.vx_group_states.proofs.StateLaws.{both_first, both_second}
 use Rattle.vx_group_states.specs.Answers.{answer_cmp}
-use Rattle.vx_group_states.specs.Sites.{IsSomewhere}
 use Rattle.vx_group_states.specs.declared.answer.Answer.{Answer}
 use Rattle.vx_heap.specs.Heap.{HeapView, IsHeap}
 use Rattle.vx_link.specs.declared.program.Program.{Program}
 use Rattle.vx_space.specs.Sets.{Sets, Extends, IsLawful, IsSet}
-use Rattle.vx_space.proofs.Differences.{some_difference}
 use Rattle.vx_space.proofs.Spaces.{Extends-refl, Extends-trans}
 use Rattle.vx_value.specs.Slot.{slot_cmp}
 use Rattle.vx_value.specs.declared.slot.Slot.{Slot}
@@ -97,16 +95,6 @@ IsDividing-start p class lengths sets heap condition leaves answers v w = record
   extends = Extends-refl sets;
   grids = AreGridsMade-none p class lengths sets heap (λ c. sets.test condition c && is_some (value_at sets (take 0 leaves) c)) answers v w (λ c. and_false (sets.test condition c));
 }
-
--- some configuration is in a set that isn't empty
-pub somewhere_in : {I : Type 0} {sets : Sets I} → IsLawful sets → (condition : I) → sets.is_known condition ≡ true → (condition ≡ sets.never → ⊥) → IsSomewhere sets condition
-somewhere_in {sets = sets} lawful condition k n =
-    let found = some_difference lawful condition sets.never k lawful.never_known n in
-    record { config = found.0; inside = true_of (sets.test condition found.0) (λ t. found.1 (t ∙ sym (lawful.never_test found.0))) }
-  where
-    true_of : (b : Bool) → (b ≡ false → ⊥) → b ≡ true
-    true_of true f = refl
-    true_of false f = absurd (f refl)
 
 -- what the leaves of one dimension are
 pub record AreSizes {S I : Type 0} (sets : Sets I) (stack : Conditionals Slot S I) (place : ℕ) (leaves : List (Leaf Slot S I)) : Type 0 where

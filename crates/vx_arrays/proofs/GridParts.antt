@@ -2,17 +2,12 @@
 use Rattle.std.proofs.Common.{◌≡◌, ℕ, ℤ, pos, negsuc, zero, suc, ◌+◌, ◌-◌, ◌<◌, ◌≤◌, Bool, true, List, [], ◌∷◌, refl, sym, ◌∙◌, ap, arith, drop, get_or, length, map, subst, take}
 use Rattle.std.proofs.lemmas.List.{take_all}
 use Rattle.std.specs.List.{list_all}
-use Rattle.std.specs.Prelude.{Some, None, if◌then◌else◌, unsigned_abs}
-use Rattle.vx_cells.proofs.WrittenThrough.{reference_held}
-use Rattle.vx_cond.specs.Cond.{Conditional, IsCondOf, IsInside}
-use Rattle.vx_cond.specs.Leaves.{value_within}
-use Rattle.vx_cond.specs.Slots.{or_top, slot_at}
-use Rattle.vx_cond.proofs.CondLaws.{cond_at-of}
-use Rattle.vx_group_states.specs.Sites.{IsSomewhere}
+use Rattle.std.specs.Prelude.{unsigned_abs}
 use Rattle.vx_group_states.proofs.StateLaws.{both_first, both_second}
-use Rattle.vx_growth.proofs.NameLaws.{new_name_is_next}
-use Rattle.vx_heap.specs.Changing.{IsCellWritten, IsChangedIn, IsMade, IsValueHeld, with_cell_of}
-use Rattle.vx_heap.specs.Heap.{Globals, HeapView, IsHeap, globals_at, is_held, name_at, object_in, value_of}
+use Rattle.vx_growth.proofs.ChangeLaws.{changed_as}
+use Rattle.vx_growth.proofs.NameLaws.{name_stays, new_name_is_next}
+use Rattle.vx_heap.specs.Changing.{IsChangedIn, IsMade, with_cell_of}
+use Rattle.vx_heap.specs.Heap.{Globals, HeapView, IsHeap, globals_at, is_held, name_at}
 use Rattle.vx_heap.proofs.Growing.{Grows-trans, is_held-grown}
 use Rattle.vx_java.specs.Arrays.{array_of}
 use Rattle.vx_java.specs.Machine.{Ref as RefValue}
@@ -21,12 +16,9 @@ use Rattle.vx_link.specs.declared.program.Program.{Program}
 use Rattle.vx_space.specs.Sets.{Sets, Extends}
 use Rattle.vx_space.proofs.Spaces.{Extends-refl, Extends-trans}
 use Rattle.vx_value.specs.Arithmetic.{natural}
-use Rattle.vx_value.specs.Slot.{slot_cmp}
-use Rattle.vx_value.specs.declared.slot.Slot.{Slot}
 use Rattle.vx_value.specs.declared.slot.Slot.TheVariants.{Ref}
 use Rattle.vx_arrays.specs.Making.{IsGridMade, is_length, with_grid}
 use Rattle.vx_arrays.proofs.GridLists.{some_all, some_more, with_some}
-use Rattle.vx_arrays.proofs.MadeGrids.{changed_as, name_stays}
 
 -- ---- lengths
 
@@ -51,40 +43,6 @@ pub rest_fits : (xs : List ℤ) (d : ℤ) → 1 ≤ length xs → list_all is_le
 rest_fits xs d l h =
     let both = ap (list_all is_length) (first_rest xs d l) ∙ h in
     (both_first (is_length (get_or xs 0 d)) (list_all is_length (take (length xs - 1) (drop 1 xs))) both, both_second (is_length (get_or xs 0 d)) (list_all is_length (take (length xs - 1) (drop 1 xs))) both)
-
--- ---- sets that aren't empty
-
-pub somewhere_later : {I : Type 0} {s0 s1 : Sets I} → Extends s0 s1 → (condition : I) → s0.is_known condition ≡ true → IsSomewhere s0 condition → IsSomewhere s1 condition
-somewhere_later e condition k h = record { config = h.config; inside = e.test condition h.config k ∙ h.inside }
-
--- ---- a part is put into an array
-
-module _ {S I : Type 0} (s0 : Sets I) (heap : HeapView S I) (array part : ℕ) (condition : I) (value : Conditional Slot S I) where
-  abbrev Held : ℕ → Type 0
-  Held r = (c : List Bool) → s0.test condition c ≡ true → is_held s0 heap c (Ref r) ≡ true
-
-  pub put-within : IsSomewhere s0 condition → Held array → array < length heap.objects
-  put-within some h = (reference_held s0 heap some.config array (h some.config some.inside)).0
-
-  pub put-inside : value.scope ≡ condition → Held array → IsInside s0 value.scope (object_in heap array).presence
-  put-inside e h = record { inside = λ c t. (reference_held s0 heap c array (h c (ap (λ i. s0.test i c) (sym e) ∙ t))).1 }
-
-  put_slot : IsCondOf slot_cmp s0 (value_within s0 condition (λ _. Some (Ref part))) value → (c : List Bool) → s0.test condition c ≡ true → slot_at s0 value c ≡ Ref part
-  put_slot m c t = ap or_top (cond_at-of slot_cmp s0 (value_within s0 condition (λ _. Some (Ref part))) value c m ∙ ap (λ b. if b then Some (Ref part) else None) t)
-
-  pub put-held : value.scope ≡ condition → IsCondOf slot_cmp s0 (value_within s0 condition (λ _. Some (Ref part))) value → Held part → IsValueHeld s0 heap value
-  put-held e m h = record {
-    held = λ c t.
-        let here : s0.test condition c ≡ true = ap (λ i. s0.test i c) (sym e) ∙ t in
-        ap (is_held s0 heap c) (put_slot m c here) ∙ h c here;
-  }
-
-  pub put-written : {s1 : Sets I} (after : HeapView S I) (index : ℕ) → value.scope ≡ condition → IsCondOf slot_cmp s0 (value_within s0 condition (λ _. Some (Ref part))) value → IsCellWritten s0 s1 heap array index value after → IsChangedIn s0 s1 heap after (s0.test condition) (λ c. with_cell_of (name_at s0 heap.objects c array) index (RefValue (name_at s0 heap.objects c part)))
-  put-written {s1 = s1} after index e m h =
-      let P : (List Bool → Bool) → Type 0 = λ set. IsChangedIn s0 s1 heap after set (λ c. with_cell_of (name_at s0 heap.objects c array) index (value_of s0 heap c (slot_at s0 value c))) in
-      changed_as s0 s1 heap after (s0.test condition) (λ c. with_cell_of (name_at s0 heap.objects c array) index (value_of s0 heap c (slot_at s0 value c))) (λ c. with_cell_of (name_at s0 heap.objects c array) index (RefValue (name_at s0 heap.objects c part)))
-      (λ c t. ap (λ s. with_cell_of (name_at s0 heap.objects c array) index (value_of s0 heap c s) (globals_at s0 heap c)) (put_slot m c t))
-      (subst P (ap (λ i. s0.test i) e) h)
 
 -- ---- the parts
 

@@ -20,7 +20,7 @@ use Rattle.vx_group_states.specs.declared.site.Site.{Site}
 use Rattle.vx_group_states.proofs.GrownStates.{StandsIn-grown}
 use Rattle.vx_group_states.proofs.SettleLaws.{stack_scope}
 use Rattle.vx_growth.specs.Changing.{with_globals}
-use Rattle.vx_growth.proofs.ChangeLaws.{attempts_follow}
+use Rattle.vx_growth.proofs.ChangeLaws.{attempts_follow, unchanged}
 use Rattle.vx_heap.specs.Changing.{IsChangedIn}
 use Rattle.vx_heap.specs.Heap.{Globals, HeapView, globals_at, is_held, name_at, value_of}
 use Rattle.vx_java.specs.Arrays.{array_of, grid, grid_cells, lengths_off, new_array, new_grid_of}
@@ -38,7 +38,6 @@ use Rattle.vx_value.specs.Arithmetic.{natural, negative}
 use Rattle.vx_value.specs.declared.slot.Slot.{Slot}
 use Rattle.vx_value.specs.declared.slot.Slot.TheVariants.{Int, Long, Null, Ref, Text, Top}
 use Rattle.vx_arrays.specs.Making.{AreGridsAnswered, IsGridAnswered, is_refused, lengths_of, slots_from, with_grid, with_grid_of}
-use Rattle.vx_arrays.proofs.MadeGrids.{unchanged}
 
 -- ---- the lengths on top of operands
 

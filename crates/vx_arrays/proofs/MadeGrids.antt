@@ -12,14 +12,14 @@ use Rattle.vx_group_states.specs.Answers.{answer_cmp}
 use Rattle.vx_group_states.specs.declared.answer.Answer.{Answer}
 use Rattle.vx_group_states.specs.declared.answer.Answer.TheVariants.{Give, Illegal, Raise}
 use Rattle.vx_heap.specs.Changing.{Grows, IsChangedIn}
-use Rattle.vx_heap.specs.Heap.{Globals, HeapView, IsHeap, globals_at, is_held, name_at}
-use Rattle.vx_heap.proofs.Growing.{Grows-refl, Grows-trans, is_held-grown, value_of-grown}
-use Rattle.vx_heap.proofs.HeapLaws.{IsHeap-extends, globals_at-extends}
+use Rattle.vx_heap.specs.Heap.{Globals, HeapView, IsHeap, globals_at}
+use Rattle.vx_heap.proofs.Growing.{Grows-refl, Grows-trans, is_held-grown}
 use Rattle.vx_heap.proofs.Known.{cond_known}
+use Rattle.vx_growth.proofs.ChangeLaws.{changed_as, changed_later, unchanged}
+use Rattle.vx_growth.proofs.NameLaws.{name_stays}
 use Rattle.vx_java.specs.Arrays.{grid_cells}
 use Rattle.vx_java.specs.Ids.{as_class}
 use Rattle.vx_java.specs.Machine.{length_bound}
-use Rattle.vx_java.specs.Machine.{Ref as RefValue}
 use Rattle.vx_link.specs.ClassNames.{core_class}
 use Rattle.vx_link.specs.declared.program.Program.{Program}
 use Rattle.vx_space.specs.Sets.{Sets, Extends, IsLawful}
@@ -33,13 +33,6 @@ use Rattle.vx_arrays.specs.declared.lengths.Refusals.{Refusals}
 
 -- ---- what stays
 
--- a reference that is there keeps its name
-pub name_stays : {S I : Type 0} {s0 s1 : Sets I} → Extends s0 s1 → (before after : HeapView S I) → IsHeap s0 before → Grows before after → (c : List Bool) (r : ℕ) → is_held s0 before c (Ref r) ≡ true → name_at s1 after.objects c r ≡ name_at s0 before.objects c r
-name_stays {s0 = s0} {s1 = s1} e before after v k c r h = same (name_at s1 after.objects c r) (name_at s0 before.objects c r) (value_of-grown e before after v k c (Ref r) h)
-  where
-    same : (a b : ℕ) → RefValue a ≡ RefValue b → a ≡ b
-    same a b q = cc q
-
 answered_stays : {S I : Type 0} (p : Program) {s0 s1 : Sets I} → Extends s0 s1 → (before after : HeapView S I) → IsHeap s0 before → Grows before after → (c : List Bool) (number : ℕ) (lengths : Option (List ℤ)) (a : Answer) → IsGridAnswered p s0 before c number lengths a → IsGridAnswered p s1 after c number lengths a
 answered_stays p e before after v k c number lengths a h = record {
   reference = h.reference;
@@ -47,35 +40,6 @@ answered_stays p e before after v k c number lengths a h = record {
   made = λ t.
       let m = h.made t in
       (name_stays e before after v k c h.reference m.1 ∙ m.0, is_held-grown e before after v k c (Ref h.reference) m.1);
-}
-
--- a change, told over a later space, or by another function that does the same
-pub changed_later : {S I : Type 0} {s0 s1 s2 : Sets I} → Extends s1 s2 → (before after : HeapView S I) (set : List Bool → Bool) (change : List Bool → Globals → Globals) → IsChangedIn s0 s1 before after set change → IsChangedIn s0 s2 before after set change
-changed_later e before after set change h = record {
-  is_heap = IsHeap-extends e after h.is_heap;
-  grows = h.grows;
-  keeps = h.keeps;
-  inside = λ c t. globals_at-extends e after h.is_heap c ∙ h.inside c t;
-  outside = λ c t. globals_at-extends e after h.is_heap c ∙ h.outside c t;
-}
-
-pub changed_as : {S I : Type 0} (s0 s1 : Sets I) (before after : HeapView S I) (set : List Bool → Bool) (change other : List Bool → Globals → Globals) → ((c : List Bool) → set c ≡ true → change c (globals_at s0 before c) ≡ other c (globals_at s0 before c)) → IsChangedIn s0 s1 before after set change → IsChangedIn s0 s1 before after set other
-changed_as s0 s1 before after set change other same h = record {
-  is_heap = h.is_heap;
-  grows = h.grows;
-  keeps = h.keeps;
-  inside = λ c t. h.inside c t ∙ same c t;
-  outside = h.outside;
-}
-
--- nothing changes
-pub unchanged : {S I : Type 0} (sets : Sets I) (heap : HeapView S I) (set : List Bool → Bool) (change : List Bool → Globals → Globals) → IsHeap sets heap → ((c : List Bool) → set c ≡ true → change c (globals_at sets heap c) ≡ globals_at sets heap c) → IsChangedIn sets sets heap heap set change
-unchanged sets heap set change v same = record {
-  is_heap = v;
-  grows = Grows-refl heap;
-  keeps = λ p h. h;
-  inside = λ c t. sym (same c t);
-  outside = λ c t. refl;
 }
 
 -- ---- sets

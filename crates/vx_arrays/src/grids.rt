@@ -1,18 +1,17 @@
 //! Arrays with their parts, by conditional lengths (JVMS 6.5 newarray, anewarray, multianewarray).
 
 ghost use Rattle.std.specs.List.{list_all};
-ghost use Rattle.std.specs.Prelude.{◌≡◌, ◌<◌, ◌≤◌, ◌+◌, ◌∷◌, ◌⊎◌, [], Bool, IfOk, List, OnOk, Some, false, length, map, true};
+ghost use Rattle.std.specs.Prelude.{◌≡◌, ◌<◌, ◌≤◌, ◌+◌, ◌∷◌, ◌⊎◌, [], Bool, IfOk, List, Some, false, length, map, true};
 ghost use Rattle.vx_arrays.specs.Making.{AreGridsAnswered, AreGridsMade, IsGridMade, IsRefusals, is_length, lengths_behind, lengths_of, slots_from};
 ghost use Rattle.vx_cond.specs.Cond.{AreDisjoint, IsCond};
 ghost use Rattle.vx_cond.specs.Row.{IsRow};
 ghost use Rattle.vx_families.specs.Attempts.{AttemptsBy, IsAttemptBy, IsGiven};
 ghost use Rattle.vx_group_states.specs.Answers.{answer_cmp};
 ghost use Rattle.vx_group_states.specs.Sites.{IsSomewhere, here};
-ghost use Rattle.vx_heap.specs.Changing.{IsChangedIn, MakesObject, with_cell_of};
-ghost use Rattle.vx_heap.specs.Heap.{IsHeap, is_held, name_at};
+ghost use Rattle.vx_heap.specs.Changing.{MakesObject};
+ghost use Rattle.vx_heap.specs.Heap.{IsHeap};
 ghost use Rattle.vx_java.specs.Arrays.{array_of, lengths_off, new_grid_of};
 ghost use Rattle.vx_java.specs.Ids.{HasClassNumbers};
-ghost use Rattle.vx_java.specs.Machine.{Ref};
 ghost use Rattle.vx_ready.specs.Running.{IsRunning};
 ghost use Rattle.vx_space.specs.Sets.{Extends, IsKnown};
 ghost use Rattle.vx_value.specs.Arithmetic.{natural};
@@ -21,7 +20,7 @@ ghost use Rattle.vx_value.specs.Slot.{slot_cmp};
 use crate::classes::element_default;
 use crate::lengths::{Refusals, refusals_of, refused};
 use std::alloc::{AllocError, Global};
-use vx_cells::with_answer;
+use vx_cells::{with_answer, write_inside};
 use vx_cond::{Cond, Row};
 use vx_families::no_class;
 use vx_group::Group;
@@ -50,29 +49,6 @@ fn first_array<S: Space>(
     let element = element_default(program, class);
     let made = heap.alloc_array(alloc, class, size.unsigned_abs(), element, condition)?;
     Ok(made)
-}
-
-/// Makes an object an element of an array in the configurations of a condition, in which both are there.
-fn put_part<S: Space>(
-    alloc: Global,
-    space: &mut S,
-    heap: &mut Heap<S>,
-    array: u64,
-    index: u32,
-    part: u64,
-    condition: S::Id,
-) -> Result<(), SpaceFault>
-    requires heap { IsHeap (S.sets space.old) heap.old }
-    requires known { IsKnown (S.sets space.old) condition }
-    requires somewhere { IsSomewhere (S.sets space.old) condition }
-    requires array { (c : List Bool) → (S.sets space.old).test condition c ≡ true → is_held (S.sets space.old) heap.old c (Slot.Ref array) ≡ true }
-    requires part { (c : List Bool) → (S.sets space.old).test condition c ≡ true → is_held (S.sets space.old) heap.old c (Slot.Ref part) ≡ true }
-    ensures extends { Extends (S.sets space.old) (S.sets space.new) }
-    ensures ok { OnOk result (IsChangedIn (S.sets space.old) (S.sets space.new) heap.old heap.new ((S.sets space.old).test condition) (λ c. with_cell_of (name_at (S.sets space.old) heap.old.objects c array) index (Ref (name_at (S.sets space.old) heap.old.objects c part)))) }
-{
-    let value = Cond::one(alloc, space, Slot::Ref(part), condition)?;
-    heap.write_cell(space, array, index, &value)?;
-    Ok(())
 }
 
 /// An array of these lengths with its parts, in the configurations of a condition: an array before its parts, and each part
@@ -105,7 +81,7 @@ fn grid<S: Space>(
         let part = grid(
             alloc, program, space, heap, component, *next, others, condition,
         )?;
-        put_part(alloc, space, heap, array, index, part, condition)?;
+        write_inside(alloc, space, heap, array, index, Slot::Ref(part), condition)?;
     }
     Ok(array)
 }

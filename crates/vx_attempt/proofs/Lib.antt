@@ -5,3 +5,4 @@ pub mod Refusals
 pub mod Raised
 pub mod Calls
 pub mod Making
+pub mod Throws

@@ -1,21 +1,20 @@
 -- From what a family made of a group to the attempt with native methods carried out, and what an attempt that isn't built means.
 use Rattle.std.proofs.Common.{◌≡◌, ℕ, ◌<◌, ◌+◌, ◌≤◌, zero, suc, Bool, true, false, List, [], ◌∷◌, ◌&&◌, refl, sym, ◌∙◌, ap, length, not}
 use Rattle.std.specs.List.{list_all}
-use Rattle.std.specs.Prelude.{◌≢◌, Ok, Err, Option, Some, None, ok_or}
+use Rattle.std.specs.Prelude.{Ok, Err, Option, Some, None, ok_or}
 use Rattle.vx_class.specs.declared.class_file.Code.{Code}
 use Rattle.vx_space.specs.Sets.{Sets, IsLawful}
-use Rattle.vx_space.proofs.Differences.{some_difference}
 use Rattle.vx_frame.specs.declared.frame.Frame.{Frame}
 use Rattle.vx_group.specs.declared.callers.Caller.{Caller}
 use Rattle.vx_group.specs.Group.{GroupView, path_of}
 use Rattle.vx_group.proofs.CallerLaws.{Keeps-refl}
 use Rattle.vx_group.proofs.GroupLaws.{IsGroupIn-group, IsGroup-path_known}
 use Rattle.vx_heap.specs.Heap.{HeapView}
-use Rattle.vx_families.specs.Attempts.{IsAtSite, IsAttemptIn, IsGiven, MeetsUnbuilt, row_by}
+use Rattle.vx_families.specs.Attempts.{IsAtSite, IsAttemptIn, IsGiven, row_by}
 use Rattle.vx_families.specs.Bounds.{IsBounded, has_short_code}
-use Rattle.vx_families.specs.Built.{has_none, is_built_at, is_built_in, is_built_operation, is_built_outcome, is_built_there, is_call, is_single}
-use Rattle.vx_families.proofs.Entries.{first_false, row_there, third_false}
-use Rattle.vx_java.specs.Machine.{State, illegal_in}
+use Rattle.vx_families.specs.Built.{are_calls, is_built_at, is_built_in, is_built_operation, is_built_outcome, is_built_there}
+use Rattle.vx_families.proofs.BuiltRows.{row_there, third_false}
+use Rattle.vx_java.specs.Machine.{Ended, State, illegal_in, place_at}
 use Rattle.vx_java.specs.Operation.{operation_of}
 use Rattle.vx_java.specs.Row.{row, row_if, row_in}
 use Rattle.vx_java.specs.Step.{outcome_carried_out}
@@ -28,17 +27,19 @@ use Rattle.vx_opcode.specs.Decode.{instruction_at}
 use Rattle.vx_opcode.specs.declared.instruction.DecodeFault.{DecodeFault}
 use Rattle.vx_opcode.specs.declared.instruction.Instruction.{Instruction}
 use Rattle.vx_outcome.specs.declared.outcome.Outcome.{Outcome}
-use Rattle.vx_group_states.specs.Sites.{Gives}
+use Rattle.vx_outcome.specs.declared.outcome.Outcome.TheVariants as shared
 use Rattle.vx_group_states.specs.Stands.{Attempts, state_at}
 use Rattle.vx_group_states.specs.declared.site.Site.{Site}
 use Rattle.vx_group_states.proofs.GrownStates.{Grows-refl}
+use Rattle.vx_group_states.proofs.OutcomeStates.{CameTo-one}
 use Rattle.vx_group_states.proofs.StateLaws.{both_first, both_second, top_held, top_shaped}
+use Rattle.vx_value.specs.declared.end.End.TheVariants.{Illegal}
 use Rattle.vx_value.specs.declared.ids.ClassId.{ClassId}
-use Rattle.vx_standing.specs.Attempted.{AreConditionsKnown, IsAttempted, IsUnbuiltThere, MayAttempt, carried_out_row, is_placed, thrown_out}
-use Rattle.vx_standing.proofs.Conditions.{conditions_known}
-use Rattle.vx_attempt.specs.Carrying.{AreCarriedOut, AreThrown, SomeComesTo, SomeRefused, is_unbuilt}
+use Rattle.vx_standing.specs.Attempted.{IsAttempted, IsUnbuiltThere, MayAttempt, attempted_row, carried_out_row, is_placed, thrown_out}
+use Rattle.vx_cells.proofs.Somewhere.{somewhere_in}
+use Rattle.vx_attempt.specs.Carrying.{AreCarriedOut, MayCarryOut, MayThrow, SomeComesTo, is_refused, is_unbuilt}
+use Rattle.vx_attempt.proofs.Calls.{AreThere-outcomes, attempt_calls}
 use Rattle.vx_attempt.proofs.Carrying.{Attempts-carried, Attempts-same}
-use Rattle.vx_attempt.proofs.Raised.{single_state}
 use Rattle.vx_attempt.proofs.Refusals.{refused_unbuilt}
 use Rattle.vx_fields.proofs.Pools.{below}
 
@@ -102,52 +103,55 @@ attempted_so_far site operation s0 s1 s2 before middle after tree later last gro
     Attempts-same p (λ s. outcome_carried_out p (row_by site operation s)) (carried_out_row p) s0 s2 before after tree last group carried (λ c. ap (outcome_carried_out p) (sym (row_is site operation s0 before tree group at c)))
     (Attempts-carried p (outcome_carried_out p) (row_by site operation) s0 s1 s2 before middle after tree later last group family carried by.attempts k)
 
--- the conditions of these outcomes are known
-pub carried_known : {S I : Type 0} (site : Site) (operation : Operation) (s0 s1 s2 : Sets I) (before middle after : HeapView S I) (tree later last : List (Option (Caller S I))) (group : GroupView S I) (family carried : List (Outcome S I)) → IsAtSite site operation group → IsAttemptIn site operation s0 s1 before middle tree later group family → AreCarriedOut site.program.now (outcome_carried_out site.program.now) s1 s2 middle after later last family carried → AreConditionsKnown s2 carried
-carried_known site operation s0 s1 s2 before middle after tree later last group family carried at by k =
-    conditions_known site.program.now s0 s2 after last group carried (attempted_so_far site operation s0 s1 s2 before middle after tree later last group family carried at by k).came.continue
-
--- the runs of a group that all end
-ended_so_far : {S I : Type 0} (p : Program) (sets : Sets I) (heap : HeapView S I) (tree : List (Option (Caller S I))) (group : GroupView S I) (ended : List (Outcome S I)) → MayAttempt p sets heap tree group → ((any : Sets I) → Gives p (illegal_in p) any any group ended) → Attempts p (illegal_in p) sets sets heap heap tree tree group ended
-ended_so_far p sets heap tree group ended may gives = record {
-  is_heap = may.is_heap;
-  grows = Grows-refl heap;
-  keeps = Keeps-refl tree;
-  came = gives sets heap tree may.is_heap may.stands;
-  outside = λ c t. refl;
+-- the outcomes of a family may be carried out
+pub may_carry_out : {S I : Type 0} (site : Site) (operation : Operation) (s0 s1 : Sets I) (before middle : HeapView S I) (tree later : List (Option (Caller S I))) (group : GroupView S I) (family : List (Outcome S I)) → IsGiven site operation s0 before group → IsAttemptIn site operation s0 s1 before middle tree later group family → MayCarryOut site s1 middle later family
+may_carry_out site operation s0 s1 before middle tree later group family given by = record {
+  may = record {
+    bounded = given.bounded;
+    is_heap = by.attempts.is_heap;
+    is_for = by.is_for;
+    there = AreThere-outcomes site.program.now s0 s1 middle later group family by.attempts.came.continue;
+  };
+  at_calls = attempt_calls site operation s0 s1 before middle tree later group given.at_site family by;
 }
 
-pub ended_known : {S I : Type 0} (p : Program) (sets : Sets I) (heap : HeapView S I) (tree : List (Option (Caller S I))) (group : GroupView S I) (ended : List (Outcome S I)) → MayAttempt p sets heap tree group → ((any : Sets I) → Gives p (illegal_in p) any any group ended) → AreConditionsKnown sets ended
-ended_known p sets heap tree group ended may gives = conditions_known p sets sets heap tree group ended (ended_so_far p sets heap tree group ended may gives).came.continue
+-- what came of them may be thrown
+pub may_throw : {S I : Type 0} (site : Site) (operation : Operation) (s0 s1 s2 : Sets I) (before middle after : HeapView S I) (tree later last : List (Option (Caller S I))) (group : GroupView S I) (family carried : List (Outcome S I)) → IsGiven site operation s0 before group → IsAttemptIn site operation s0 s1 before middle tree later group family → AreCarriedOut site.program.now (outcome_carried_out site.program.now) s1 s2 middle after later last family carried → MayThrow site.program.now s2 after last carried
+may_throw site operation s0 s1 s2 before middle after tree later last group family carried given by k = record {
+  bounded = given.bounded;
+  is_heap = k.is_heap;
+  is_for = k.is_for;
+  there = AreThere-outcomes site.program.now s0 s2 after last group carried (attempted_so_far site operation s0 s1 s2 before middle after tree later last group family carried given.at_site by k).came.continue;
+}
 
 -- the family's outcomes, with native methods and beginnings carried out, and then with exceptions thrown
-pub attempted : {S I : Type 0} (site : Site) (operation : Operation) (s0 s1 s2 : Sets I) (before middle after : HeapView S I) (tree later last : List (Option (Caller S I))) (group : GroupView S I) (family carried made : List (Outcome S I)) → IsAtSite site operation group → IsAttemptIn site operation s0 s1 before middle tree later group family → AreCarriedOut site.program.now (outcome_carried_out site.program.now) s1 s2 middle after later last family carried → AreThrown site.program.now s2 carried made → list_all is_placed made ≡ true → IsAttempted site.program.now s0 s2 before after tree last group made
-attempted site operation s0 s1 s2 before middle after tree later last group family carried made at by k t placed =
+pub attempted : {S I : Type 0} (site : Site) (operation : Operation) (s0 s1 s2 s3 : Sets I) (h0 h1 h2 h3 : HeapView S I) (t0 t1 t2 t3 : List (Option (Caller S I))) (group : GroupView S I) (family carried made : List (Outcome S I)) → IsAtSite site operation group → IsAttemptIn site operation s0 s1 h0 h1 t0 t1 group family → AreCarriedOut site.program.now (outcome_carried_out site.program.now) s1 s2 h1 h2 t1 t2 family carried → AreCarriedOut site.program.now (thrown_out site.program.now) s2 s3 h2 h3 t2 t3 carried made → list_all is_placed made ≡ true → IsAttempted site.program.now s0 s3 h0 h3 t0 t3 group made
+attempted site operation s0 s1 s2 s3 h0 h1 h2 h3 t0 t1 t2 t3 group family carried made at by k t placed =
     let p = site.program.now in
-    let one = attempted_so_far site operation s0 s1 s2 before middle after tree later last group family carried at by k in
     record {
-      is_for = k.is_for;
-      attempts = Attempts-carried p (thrown_out p) (carried_out_row p) s0 s2 s2 before after after tree last last group carried made one (t after last k.is_heap k.is_for);
+      is_for = t.is_for;
+      attempts = Attempts-carried p (thrown_out p) (carried_out_row p) s0 s2 s3 h0 h2 h3 t0 t2 t3 group carried made (attempted_so_far site operation s0 s1 s2 h0 h1 h2 t0 t1 t2 group family carried at by k) t;
       placed = placed;
     }
 
--- no instruction stands there, so the runs end
-pub ended_there : {S I : Type 0} (p : Program) (sets : Sets I) (heap : HeapView S I) (tree : List (Option (Caller S I))) (group : GroupView S I) (ended made : List (Outcome S I)) → MayAttempt p sets heap tree group → ((s : State) → s.top.method ≡ group.top.method.0 → s.top.position ≡ group.top.position → row p s ≡ illegal_in p s) → ((any : Sets I) → Gives p (illegal_in p) any any group ended) → AreThrown p sets ended made → list_all is_placed made ≡ true → IsAttempted p sets sets heap heap tree tree group made
-ended_there p sets heap tree group ended made may law gives t placed =
-    let one = Attempts-same p (illegal_in p) (carried_out_row p) sets sets heap heap tree tree group ended (λ c. sym (ap (outcome_carried_out p) (law (state_at sets heap tree group c) refl refl))) (ended_so_far p sets heap tree group ended may gives) in
-    record {
+-- ---- where no instruction stands
+
+-- the runs end by the rule that is broken there
+pub ended_there : {S I : Type 0} (p : Program) (sets : Sets I) (heap : HeapView S I) (tree : List (Option (Caller S I))) (group : GroupView S I) (condition : I) (place : List ℕ) (made : List (Outcome S I)) → MayAttempt p sets heap tree group → ((s : State) → s.top.method ≡ group.top.method.0 → s.top.position ≡ group.top.position → row p s ≡ illegal_in p s) → condition ≡ path_of group → place ≡ place_at p group.top.method.0 group.top.position → made ≡ shared.Ended condition (Illegal place) ∷ [] → IsAttempted p sets sets heap heap tree tree group made
+ended_there p sets heap tree group condition place made may law inside spelled is =
+    let known = IsGroup-path_known sets group (IsGroupIn-group sets tree group may.stands.is_group) in
+    let ends : (c : List Bool) → Ended (Illegal place) ≡ attempted_row p (state_at sets heap tree group c) = λ c. ap (λ text. Ended (Illegal text)) spelled ∙ sym (ap (λ o. thrown_out p (outcome_carried_out p o)) (law (state_at sets heap tree group c) refl refl)) in
+    rw is (record {
       is_for = may.is_for;
-      attempts = Attempts-carried p (thrown_out p) (carried_out_row p) sets sets sets heap heap heap tree tree tree group ended made one (t heap tree may.is_heap may.is_for);
-      placed = placed;
-    }
-
--- and nothing of it is refused
-pub ended_not_refused : {S I : Type 0} (p : Program) (sets : Sets I) (heap : HeapView S I) (tree : List (Option (Caller S I))) (group : GroupView S I) (ended : List (Outcome S I)) → MayAttempt p sets heap tree group → ((any : Sets I) → Gives p (illegal_in p) any any group ended) → SomeRefused p sets ended → IsUnbuiltThere p sets heap tree group
-ended_not_refused p sets heap tree group ended may gives refused =
-    let u = refused heap tree may.is_heap may.is_for in
-    let came = (ended_so_far p sets heap tree group ended may gives).came in
-    let there = u.comes sets group (λ c. illegal_in p (state_at sets heap tree group c)) (sets.test (path_of group)) came in
-    cc (there.1)
+      attempts = record {
+        is_heap = may.is_heap;
+        grows = Grows-refl heap;
+        keeps = Keeps-refl tree;
+        came = CameTo-one p sets sets heap tree group (λ c. attempted_row p (state_at sets heap tree group c)) (sets.test (path_of group)) (shared.Ended condition (Illegal place)) (ap (λ i. sets.is_known i) inside ∙ known) (λ c. ap (λ i. sets.test i c) inside) (λ c t. ends c);
+        outside = λ c t. refl;
+      };
+      placed = refl;
+    })
 
 -- a method without code
 pub no_code : (p : Program) (method : ℕ) → (method_at p method).code ≡ None → (s : State) → s.top.method ≡ method → row p s ≡ illegal_in p s
@@ -161,17 +165,6 @@ no_instruction p group code found fault bytes top e same is missing s at there =
 
 -- ---- what isn't built
 
-not_false : (b : Bool) → b ≢ false → b ≡ true
-not_false true h = refl
-not_false false h = absurd (h refl)
-
--- a configuration of the group
-somewhere : {S I : Type 0} (p : Program) {sets : Sets I} → IsLawful sets → (heap : HeapView S I) (tree : List (Option (Caller S I))) (group : GroupView S I) → MayAttempt p sets heap tree group → (c : List Bool) × (sets.test (path_of group) c ≡ true)
-somewhere p {sets = sets} lawful heap tree group may =
-    let known = IsGroup-path_known sets group (IsGroupIn-group sets tree group may.stands.is_group) in
-    let found = some_difference lawful (path_of group) sets.never known lawful.never_known may.nonempty in
-    (found.0, not_false (sets.test (path_of group) found.0) (λ e. found.1 (e ∙ sym (lawful.never_test found.0))))
-
 second_false : (a b c d : Bool) → b ≡ false → (a && b && c && d) ≡ false
 second_false true b c d e = ap (λ x. x && c && d) e
 second_false false b c d e = refl
@@ -179,39 +172,23 @@ second_false false b c d e = refl
 -- its instruction isn't built
 unbuilt_instruction : {S I : Type 0} (p : Program) {sets : Sets I} → IsLawful sets → (heap : HeapView S I) (tree : List (Option (Caller S I))) (group : GroupView S I) (code : Code) (instruction : Instruction) → MayAttempt p sets heap tree group → (method_at p group.top.method.0).code ≡ Some code → instruction_at code.bytes group.top.position ≡ Some instruction → is_built_operation (class_at p (method_at p group.top.method.0).class.0).pool (operation_of instruction) ≡ false → IsUnbuiltThere p sets heap tree group
 unbuilt_instruction p {sets = sets} lawful heap tree group code instruction may e found unbuilt =
-    let there = somewhere p lawful heap tree group may in
+    let known = IsGroup-path_known sets group (IsGroupIn-group sets tree group may.stands.is_group) in
+    let there = somewhere_in lawful (path_of group) known may.nonempty in
     let pool = (class_at p (method_at p group.top.method.0).class.0).pool in
     let position = group.top.position in
     let at : is_built_in pool position (method_at p group.top.method.0).code ≡ false = ap (is_built_in pool position) e ∙ ap (is_built_there pool) found ∙ unbuilt in
     record {
-      config = there.0;
-      holds = there.1;
+      config = there.config;
+      holds = there.inside;
       unbuilt =
-          let state = state_at sets heap tree group there.0 in
-          second_false (is_single state) (is_built_at p state) (is_built_outcome p (row p state)) (is_built_outcome p (outcome_carried_out p (row p state))) at;
+          let state = state_at sets heap tree group there.config in
+          second_false (are_calls state) (is_built_at p state) (is_built_outcome p (row p state)) (is_built_outcome p (outcome_carried_out p (row p state))) at;
     }
 
 -- the same, as decoding tells the instruction
 pub unbuilt_decoded : {S I : Type 0} (p : Program) {sets : Sets I} → IsLawful sets → (heap : HeapView S I) (tree : List (Option (Caller S I))) (group : GroupView S I) (code : Code) (instruction : Instruction) (fault : DecodeFault) (bytes : List ℕ) (top : Frame S I) (class : ClassId) (operation : Operation) → MayAttempt p sets heap tree group → (method_at p group.top.method.0).code ≡ Some code → bytes ≡ code.bytes → top ≡ group.top → Ok instruction ≡ ok_or (instruction_at bytes top.position) fault → class ≡ (method_at p top.method.0).class → operation ≡ operation_of instruction → is_built_operation (class_at p class.0).pool operation ≡ false → IsUnbuiltThere p sets heap tree group
 unbuilt_decoded p lawful heap tree group code instruction fault bytes top class operation may e same is found of does unbuilt =
     unbuilt_instruction p lawful heap tree group code instruction may e (found_at (instruction_at code.bytes group.top.position) instruction fault (rw (same, is) at found)) (rw (does, of, is) at unbuilt)
-
--- it has more than one frame, or one that isn't of a call
-pub unbuilt_frames : {S I : Type 0} (p : Program) {sets : Sets I} → IsLawful sets → (heap : HeapView S I) (tree : List (Option (Caller S I))) (group : GroupView S I) → MayAttempt p sets heap tree group → (is_call group.top.kind && has_none group.below) ≡ false → IsUnbuiltThere p sets heap tree group
-unbuilt_frames p {sets = sets} lawful heap tree group may off =
-    let there = somewhere p lawful heap tree group may in
-    let state = state_at sets heap tree group there.0 in
-    record {
-      config = there.0;
-      holds = there.1;
-      unbuilt = first_false (is_single state) (is_built_at p state) (is_built_outcome p (row p state)) (is_built_outcome p (outcome_carried_out p (row p state))) (single_state sets heap tree group may.stands.is_group there.0 ∙ off);
-    }
-
--- its family came to what isn't built
-pub unbuilt_met : {S I : Type 0} (site : Site) (sets : Sets I) (heap : HeapView S I) (tree : List (Option (Caller S I))) (group : GroupView S I) → MayAttempt site.program.now sets heap tree group → MeetsUnbuilt site sets heap group → IsUnbuiltThere site.program.now sets heap tree group
-unbuilt_met site sets heap tree group may meets =
-    let found = meets tree may.stands in
-    record { config = found.0; holds = found.1; unbuilt = found.2 }
 
 off_of : (b : Bool) → not b ≡ true → b ≡ false
 off_of true h = cc h
@@ -226,14 +203,13 @@ unbuilt_outcome site operation s0 s1 before middle tree later group family at by
     record {
       config = u.config;
       holds = there.0;
-      unbuilt = third_false (is_single state) (is_built_at p state) (is_built_outcome p (row p state)) (is_built_outcome p (outcome_carried_out p (row p state))) (ap (is_built_outcome p) (row_is site operation s0 before tree group at u.config) ∙ off_of (is_built_outcome p (row_by site operation state)) there.1);
+      unbuilt = third_false (are_calls state) (is_built_at p state) (is_built_outcome p (row p state)) (is_built_outcome p (outcome_carried_out p (row p state))) (ap (is_built_outcome p) (row_is site operation s0 before tree group at u.config) ∙ off_of (is_built_outcome p (row_by site operation state)) there.1);
     }
 
--- what came of it raises what a frame might take, or throws an object
-pub unbuilt_thrown : {S I : Type 0} (site : Site) (operation : Operation) (s0 s1 s2 : Sets I) (before middle after : HeapView S I) (tree later last : List (Option (Caller S I))) (group : GroupView S I) (family carried : List (Outcome S I)) → IsAtSite site operation group → IsAttemptIn site operation s0 s1 before middle tree later group family → AreCarriedOut site.program.now (outcome_carried_out site.program.now) s1 s2 middle after later last family carried → SomeRefused site.program.now s2 carried → IsUnbuiltThere site.program.now s0 before tree group
-unbuilt_thrown site operation s0 s1 s2 before middle after tree later last group family carried at by k refused =
+-- what came of it raises or throws out of an initialisation
+pub unbuilt_thrown : {S I : Type 0} (site : Site) (operation : Operation) (s0 s1 s2 : Sets I) (before middle after : HeapView S I) (tree later last : List (Option (Caller S I))) (group : GroupView S I) (family carried : List (Outcome S I)) → IsAtSite site operation group → IsAttemptIn site operation s0 s1 before middle tree later group family → AreCarriedOut site.program.now (outcome_carried_out site.program.now) s1 s2 middle after later last family carried → SomeComesTo site.program.now (is_refused site.program.now) s2 after last carried → IsUnbuiltThere site.program.now s0 before tree group
+unbuilt_thrown site operation s0 s1 s2 before middle after tree later last group family carried at by k u =
     let p = site.program.now in
-    let u = refused after last k.is_heap k.is_for in
     let there = u.comes s0 group (λ c. carried_out_row p (state_at s0 before tree group c)) (s0.test (path_of group)) (attempted_so_far site operation s0 s1 s2 before middle after tree later last group family carried at by k).came in
     record {
       config = u.config;

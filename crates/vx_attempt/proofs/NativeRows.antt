@@ -1,4 +1,4 @@
--- A native method is left to be carried out in the very state in which its call was attempted.
+-- A native method is left to be carried out with the frame on top with which its call was attempted: only initialisation states may have changed.
 use Rattle.std.proofs.Common.{◌≡◌, ℕ, ℤ, Bool, true, false, List, [], ◌∷◌, refl}
 use Rattle.std.specs.List.{list_any}
 use Rattle.std.specs.Prelude.{Option, Some, None, ◌&&◌, ◌-◌, ◌||◌, ◌==◌, codes, map, nat_lt, not, pos}
@@ -7,9 +7,8 @@ use Rattle.vx_class.specs.Members.{ABSTRACT, STATIC}
 use Rattle.vx_class.specs.declared.class_file.Code.{Code}
 use Rattle.vx_desc.specs.Descriptors.{field_type}
 use Rattle.vx_desc.specs.declared.java_type.JavaType.{JavaType}
-use Rattle.vx_families.specs.Built.{is_built_operation, is_object_init, is_println, is_special, is_virtual}
 use Rattle.vx_java.specs.Arrays.{array_length, array_of, at_index, element_sort, elements_of_numbers, grid_cells, is_array_of, load_element, may_store, new_array, new_grid, new_grid_of, new_primitives, new_references, lengths_off, push_grid, store_element, value_kept}
-use Rattle.vx_java.specs.Calls.{arguments_off, call_instance, carry_out, clone_array, dispatch, enter, if_arguments, if_method, invoke, is_receiver, on_class, on_receiver, selection, state_in_callee, wrong_kind}
+use Rattle.vx_java.specs.Calls.{arguments_off, call_instance, call_static, carry_out, clone_array, dispatch, enter, if_arguments, if_method, invoke, is_receiver, on_class, on_receiver, selection, state_in_callee, wrong_kind}
 use Rattle.vx_java.specs.Checks.{fits_type, if_there, is_instance_of, is_object, is_of, is_within, non_null, same_bool, same_reference, sort_of, width_of_sort, width_of_type, with_class}
 use Rattle.vx_java.specs.FirstObjects.{literal_object, narrowed_value, new_object}
 use Rattle.vx_java.specs.Calculation.{int_arithmetic, int_result, int_shift, long_arithmetic, long_compare, long_result, long_shift, on_int, on_long}
@@ -18,8 +17,9 @@ use Rattle.vx_java.specs.Locals.{increase, load, locals_with, store, with_locals
 use Rattle.vx_java.specs.Constants.{push_entry}
 use Rattle.vx_java.specs.Fields.{Found, cell_of, declaring, get_field, get_from, get_static, if_agreeing, if_field, if_sort, if_type, put_field, put_into, put_static, put_value, static_value, with_written}
 use Rattle.vx_java.specs.Initialisation.{by_state, when_initialised, when_not}
-use Rattle.vx_java.specs.Machine.{Frame, Here, Outcome, State, Value, Go, Native, cell_at, depth, fit, frame_bound, go, has_room, illegal, init_at, length_bound, method_text, object_at, past, push, push_new, raise, raise_with, settle, unsupported, when, with_cell, Top, Int, Long, Null, Ref, Text}
-use Rattle.vx_java.specs.Objects.{against, check_cast, instance_of, int_of_bool, monitor, new_instance, new_of_class}
+use Rattle.vx_java.specs.Selection.{selected_if_concrete}
+use Rattle.vx_java.specs.Machine.{Frame, Here, Outcome, State, Value, Go, Native, Throw, cell_at, depth, fit, frame_bound, go, has_room, illegal, init_at, length_bound, method_text, object_at, past, push, push_new, raise, raise_with, settle, unsupported, when, with_cell, Top, Int, Long, Null, Ref, Text}
+use Rattle.vx_java.specs.Objects.{against, check_cast, instance_of, int_of_bool, monitor, new_instance, new_of_class, throw_top}
 use Rattle.vx_java.specs.Operation.{float_word, native_word}
 use Rattle.vx_java.specs.Returns.{agrees, fits_caller, frame_resumed, return_to, return_value, values_returned}
 use Rattle.vx_java.specs.Row.{row_of}
@@ -38,10 +38,10 @@ use Rattle.vx_java.specs.declared.operation.Sort.{Sort}
 use Rattle.vx_java.specs.declared.operation.Sort.TheVariants.{Reference}
 use Rattle.vx_java.specs.declared.selected.Selected.{Selected}
 use Rattle.vx_java.specs.declared.selected.Selected.TheVariants as selected
-use Rattle.vx_link.specs.ClassNames.{array_class, array_over, class_named, double_element, float_element, int_element, is_array}
+use Rattle.vx_link.specs.ClassNames.{array_class, array_over, class_named, core_class, double_element, float_element, int_element, is_array}
 use Rattle.vx_link.specs.Names.{Member, class_name, member, utf8}
 use Rattle.vx_link.specs.Assignability.{assignable}
-use Rattle.vx_link.specs.Parts.{class_at, has, is_interface, method_at}
+use Rattle.vx_link.specs.Parts.{PRIVATE, class_at, has, is_interface, method_at}
 use Rattle.vx_link.specs.Resolution.{is_array_clone, resolve_field, resolve_method}
 use Rattle.vx_link.specs.Signature.{signature}
 use Rattle.vx_list.specs.Places.{item_or}
@@ -53,16 +53,10 @@ use Rattle.vx_value.specs.declared.key.Kind.TheVariants as kind
 use Rattle.vx_value.specs.declared.slot.InitState.{InitState}
 use Rattle.vx_value.specs.declared.slot.InitState.TheVariants as init
 
--- an outcome that is a native method's stands in this state
+-- an outcome that is a native method's has this state's frame on top
 abbrev pub StaysIn : State → Outcome → Type 0
-StaysIn s (Native m t) = t ≡ s
+StaysIn s (Native m t) = t.top ≡ s.top
 StaysIn s _ = Unit {0}
-
--- a call that names the class of its receiver
-abbrev calls_object : Mode → Bool
-calls_object mode.Virtual = true
-calls_object mode.Special = true
-calls_object _ = false
 
 module _ (s : State) where
   by_when : (b : Bool) (x y : Outcome) → StaysIn s x → StaysIn s y → StaysIn s (when b x y)
@@ -83,14 +77,14 @@ module _ (s : State) where
   by_non_null h Null rest f = tt
   by_non_null h (Text t) rest f = tt
 
-  by_init : (h : Here) (c : ℕ) (i : InitState) (quiet : Bool) (rest : Here → Outcome) → ((g : Here) → StaysIn s (rest g)) → StaysIn s (by_state h c i rest)
-  by_init h c init.Done quiet rest f = f h
-  by_init h c init.Running quiet rest f = f h
-  by_init h c init.Failed quiet rest f = tt
-  by_init h c init.Not quiet rest f = quietly _
+  by_init : (h : Here) (c : ℕ) (i : InitState) (rest : Here → Outcome) → ((g : Here) → g.state.top ≡ h.state.top → StaysIn s (rest g)) → StaysIn s (by_state h c i rest)
+  by_init h c init.Done rest f = f h refl
+  by_init h c init.Running rest f = f h refl
+  by_init h c init.Failed rest f = tt
+  by_init h c init.Not rest f = quietly _
     where
       quietly : (b : Bool) → StaysIn s (when_not h c b rest)
-      quietly true = f _
+      quietly true = f _ refl
       quietly false = tt
 
 module _ (h : Here) where
@@ -244,13 +238,13 @@ module _ (h : Here) where
       let value : Found → Here → Outcome = λ found g. go g (static_value g.state found ∷ g.state.top.operands) in
       let then : Found → Outcome = λ found. when_initialised h (declaring h found) (value found) in
       of_type m true (field_type m.descriptor) (λ found. when (has_room h (width_of_type found.type) h.state.top.operands) (then found) (illegal h)) (λ found.
-      by_when h.state (has_room h (width_of_type found.type) h.state.top.operands) (then found) (illegal h) (by_init h.state h (declaring h found) (init_at h.state.inits (declaring h found)) true (value found) (λ g. tt)) tt)
+      by_when h.state (has_room h (width_of_type found.type) h.state.top.operands) (then found) (illegal h) (by_init h.state h (declaring h found) (init_at h.state.inits (declaring h found)) (value found) (λ g e. tt)) tt)
 
   put_stays : (found : Found) (operands : List Value) → Stays (put_value h found operands)
   put_stays found [] = tt
   put_stays found (v ∷ rest) =
       let then : Here → Outcome = λ g. Go (past g (with_written g found v) rest) in
-      by_when h.state (fits_type found.type v) (when_initialised h (declaring h found) then) (illegal h) (by_init h.state h (declaring h found) (init_at h.state.inits (declaring h found)) true then (λ g. tt)) tt
+      by_when h.state (fits_type found.type v) (when_initialised h (declaring h found) then) (illegal h) (by_init h.state h (declaring h found) (init_at h.state.inits (declaring h found)) then (λ g e. tt)) tt
 
   put : (i : ℕ) → Stays (put_static h i)
   put i = of_type (member h.pool i) true (field_type (member h.pool i).descriptor) (λ found. put_value h found h.state.top.operands) (λ found. put_stays found h.state.top.operands)
@@ -282,7 +276,7 @@ module _ (h : Here) where
       let then : Here → Outcome = λ g. push_new g (new_object g.program c) g.state.top.operands in
       let room : Outcome = when (has_room h 1 h.state.top.operands) (when_initialised h c then) (illegal h) in
       by_when h.state (has ABSTRACT (class_at h.program c).flags || is_interface h.program c) (raise h "java/lang/InstantiationError") room tt
-      (by_when h.state (has_room h 1 h.state.top.operands) (when_initialised h c then) (illegal h) (by_init h.state h c (init_at h.state.inits c) true then (λ g. tt)) tt)
+      (by_when h.state (has_room h 1 h.state.top.operands) (when_initialised h c then) (illegal h) (by_init h.state h c (init_at h.state.inits c) then (λ g e. tt)) tt)
 
   of_new : (i : ℕ) → Stays (new_instance h i)
   of_new i = by_there h.state h (class_name h.pool i) (class_named h.program (class_name h.pool i)) (new_of_class h) made
@@ -386,16 +380,16 @@ module _ (h : Here) where
       let then : ℕ → Outcome = λ r. go h (Int (pos (object_at h.state r).size) ∷ rest) in
       by_when h.state (is_object h (is_array h.program) a && has_room h 1 rest) (non_null h a then) (illegal h) (by_non_null h.state h a then (λ r. tt)) tt
 
-  -- ---- calls on objects
+  -- ---- calls
 
-  entered : (m : ℕ) (code : Option Code) (values rest : List Value) → Stays (enter h m code values rest)
-  entered m None values rest = by_when h.state ((method_at h.program m).native == 0) (unsupported h native_word (method_text h.program (method_at h.program m))) (Native m h.state) tt refl
-  entered m (Some code) values rest = by_when h.state (nat_lt (depth h.state) frame_bound) (Go (state_in_callee h m values rest)) (raise h "java/lang/StackOverflowError") tt tt
+  entered : (g : Here) → g.state.top ≡ h.state.top → (m : ℕ) (code : Option Code) (values rest : List Value) → Stays (enter g m code values rest)
+  entered g top m None values rest = by_when h.state ((method_at g.program m).native == 0) (unsupported g native_word (method_text g.program (method_at g.program m))) (Native m g.state) tt top
+  entered g top m (Some code) values rest = by_when h.state (nat_lt (depth g.state) frame_bound) (Go (state_in_callee g m values rest)) (raise g "java/lang/StackOverflowError") tt tt
 
-  selected_stays : (values rest : List Value) (o : Selected) → Stays (carry_out h values rest o)
-  selected_stays values rest (selected.Method m) = entered m.0 (method_at h.program m.0).code values rest
-  selected_stays values rest selected.Abstract = tt
-  selected_stays values rest selected.Conflict = tt
+  selected_stays : (g : Here) → g.state.top ≡ h.state.top → (values rest : List Value) (o : Selected) → Stays (carry_out g values rest o)
+  selected_stays g top values rest (selected.Method m) = entered g top m.0 (method_at g.program m.0).code values rest
+  selected_stays g top values rest selected.Abstract = tt
+  selected_stays g top values rest selected.Conflict = tt
 
   on_receiver_stays : (m : Member) (named : ℕ) (operands : List Value) (next : ℕ → List Value → Outcome) → ((r : ℕ) (rest : List Value) → Stays (next r rest)) → Stays (on_receiver h m named operands next)
   on_receiver_stays m named [] next f = tt
@@ -412,86 +406,92 @@ module _ (h : Here) where
       dispatched values r rest =
           let receiver = (object_at h.state r).class in
           let which = selection h mode m named resolved receiver in
-          by_when h.state (m.by_interface && not (assignable h.program receiver named)) (wrong_kind h) (carry_out h (Ref r ∷ values) rest which) tt (selected_stays (Ref r ∷ values) rest which)
+          by_when h.state (m.by_interface && not (assignable h.program receiver named)) (wrong_kind h) (carry_out h (Ref r ∷ values) rest which) tt (selected_stays h refl (Ref r ∷ values) rest which)
 
-  resolved_stays : (mode : Mode) → calls_object mode ≡ true → (m : Member) (named : ℕ) (o : Option ℕ) → Stays (if_method h mode m named o)
-  resolved_stays mode k m named None = tt
-  resolved_stays mode.Virtual k m named (Some resolved) = by_when h.state (has STATIC (method_at h.program resolved).flags) (wrong_kind h) (call_instance h mode.Virtual m named resolved) tt (instance_stays mode.Virtual m named resolved)
-  resolved_stays mode.Special k m named (Some resolved) = by_when h.state (has STATIC (method_at h.program resolved).flags) (wrong_kind h) (call_instance h mode.Special m named resolved) tt (instance_stays mode.Special m named resolved)
-  resolved_stays mode.Static k m named (Some resolved) = cc k
-  resolved_stays mode.Interface k m named (Some resolved) = cc k
+  static_stays : (m : Member) (resolved : ℕ) → Stays (call_static h m resolved)
+  static_stays m resolved =
+      let class = (method_at h.program resolved).class.0 in
+      let then : List Value → List Value → Here → Outcome = λ values rest g. carry_out g values rest (selected_if_concrete g.program resolved) in
+      arguments_stay (arguments_off (signature m.descriptor).arguments h.state.top.operands) (λ values rest. when_initialised h class (then values rest)) (λ values rest. by_init h.state h class (init_at h.state.inits class) (then values rest) (λ g top. selected_stays g top values rest (selected_if_concrete g.program resolved)))
 
-  cloned : (mode : Mode) → calls_object mode ≡ true → (m : Member) (named : ℕ) → Stays (clone_array h mode m named)
-  cloned mode.Virtual k m named = on_receiver_stays m named h.state.top.operands (λ r rest. push_new h (object_at h.state r) rest) (λ r rest. tt)
-  cloned mode.Special k m named = on_receiver_stays m named h.state.top.operands (λ r rest. push_new h (object_at h.state r) rest) (λ r rest. tt)
-  cloned mode.Static k m named = cc k
-  cloned mode.Interface k m named = cc k
+  resolved_stays : (mode : Mode) (m : Member) (named : ℕ) (o : Option ℕ) → Stays (if_method h mode m named o)
+  resolved_stays mode m named None = tt
+  resolved_stays mode.Virtual m named (Some resolved) = by_when h.state (has STATIC (method_at h.program resolved).flags) (wrong_kind h) (call_instance h mode.Virtual m named resolved) tt (instance_stays mode.Virtual m named resolved)
+  resolved_stays mode.Special m named (Some resolved) = by_when h.state (has STATIC (method_at h.program resolved).flags) (wrong_kind h) (call_instance h mode.Special m named resolved) tt (instance_stays mode.Special m named resolved)
+  resolved_stays mode.Static m named (Some resolved) = by_when h.state (has STATIC (method_at h.program resolved).flags) (call_static h m resolved) (wrong_kind h) (static_stays m resolved) tt
+  resolved_stays mode.Interface m named (Some resolved) = by_when h.state (has STATIC (method_at h.program resolved).flags || has PRIVATE (method_at h.program resolved).flags) (wrong_kind h) (call_instance h mode.Interface m named resolved) tt (instance_stays mode.Interface m named resolved)
 
-  on_class_stays : (mode : Mode) → calls_object mode ≡ true → (m : Member) (named : ℕ) → Stays (on_class h mode m named)
-  on_class_stays mode k m named = by_clone (is_array_clone h.program named m.name m.descriptor)
+  cloned : (mode : Mode) (m : Member) (named : ℕ) → Stays (clone_array h mode m named)
+  cloned mode.Static m named = tt
+  cloned mode.Virtual m named = on_receiver_stays m named h.state.top.operands (λ r rest. push_new h (object_at h.state r) rest) (λ r rest. tt)
+  cloned mode.Special m named = on_receiver_stays m named h.state.top.operands (λ r rest. push_new h (object_at h.state r) rest) (λ r rest. tt)
+  cloned mode.Interface m named = on_receiver_stays m named h.state.top.operands (λ r rest. push_new h (object_at h.state r) rest) (λ r rest. tt)
+
+  on_class_stays : (mode : Mode) (m : Member) (named : ℕ) → Stays (on_class h mode m named)
+  on_class_stays mode m named = by_clone (is_array_clone h.program named m.name m.descriptor)
     where
       by_clone : (b : Bool) → Stays (elim b [ true ↦ clone_array h mode m named | false ↦ if_method h mode m named (resolve_method h.program named m.name m.descriptor) ])
-      by_clone true = cloned mode k m named
-      by_clone false = resolved_stays mode k m named (resolve_method h.program named m.name m.descriptor)
+      by_clone true = cloned mode m named
+      by_clone false = resolved_stays mode m named (resolve_method h.program named m.name m.descriptor)
 
-  invoked : (mode : Mode) → calls_object mode ≡ true → (i : ℕ) → Stays (invoke h mode i)
-  invoked mode k i =
+  invoked : (mode : Mode) (i : ℕ) → Stays (invoke h mode i)
+  invoked mode i =
       let m = member h.pool i in
       let then : ℕ → Outcome = λ named. when (same_bool m.by_interface (is_interface h.program named)) (on_class h mode m named) (wrong_kind h) in
-      by_there h.state h m.class (class_named h.program m.class) then (λ named. by_when h.state (same_bool m.by_interface (is_interface h.program named)) (on_class h mode m named) (wrong_kind h) (on_class_stays mode k m named) tt)
+      by_there h.state h m.class (class_named h.program m.class) then (λ named. by_when h.state (same_bool m.by_interface (is_interface h.program named)) (on_class h mode m named) (wrong_kind h) (on_class_stays mode m named) tt)
 
-  call_stays : (mode : Mode) (i : ℕ) → ((is_virtual mode && is_println (member h.pool i)) || (is_special mode && is_object_init (member h.pool i))) ≡ true → Stays (invoke h mode i)
-  call_stays mode.Virtual i e = invoked mode.Virtual refl i
-  call_stays mode.Special i e = invoked mode.Special refl i
-  call_stays mode.Static i e = cc e
-  call_stays mode.Interface i e = cc e
+  -- ---- exceptions
 
-  -- ---- each operation that is built
+  thrown : (operands : List Value) → Stays (throw_top h operands)
+  thrown [] = tt
+  thrown (o ∷ rest) = by_when h.state (is_instance_of h (core_class h.program "java/lang/Throwable") o) (non_null h o (λ r. Throw r h.state)) (illegal h) (by_non_null h.state h o (λ r. Throw r h.state) (λ r. tt)) tt
 
-  pub row_stays : (o : Operation) → is_built_operation h.pool o ≡ true → Stays (row_of h o h.state.top.operands)
-  row_stays operation.Nop e = tt
-  row_stays operation.PushNull e = pushed Null h.state.top.operands
-  row_stays (operation.PushInt n) e = pushed (Int n) h.state.top.operands
-  row_stays (operation.PushLong n) e = pushed (Long n) h.state.top.operands
-  row_stays (operation.PushEntry i) e = constant _
-  row_stays (operation.Load sort n) e = loaded sort n
-  row_stays (operation.Store sort n) e = stored sort n h.state.top.operands
-  row_stays (operation.Stack form) e = upper_stays form _
-  row_stays (operation.IntArithmetic op) e = of_ints op h.state.top.operands
-  row_stays (operation.LongArithmetic op) e = of_longs op h.state.top.operands
-  row_stays operation.IntNegate e = of_int (λ a. Int (negation w32 a)) h.state.top.operands
-  row_stays operation.LongNegate e = of_long (λ a. Long (negation w64 a)) h.state.top.operands
-  row_stays (operation.IntShift op) e = int_shifted op h.state.top.operands
-  row_stays (operation.LongShift op) e = long_shifted op h.state.top.operands
-  row_stays (operation.Increase n by) e = increased n by _
-  row_stays operation.IntToLong e = of_int (λ a. Long a) h.state.top.operands
-  row_stays operation.LongToInt e = of_long (λ a. Int (long_to_int a)) h.state.top.operands
-  row_stays (operation.IntNarrow to) e = of_int (λ a. Int (narrow_of to a)) h.state.top.operands
-  row_stays operation.LongCompare e = longs_compared h.state.top.operands
-  row_stays (operation.IfInt test offset) e = of_test test offset h.state.top.operands
-  row_stays (operation.IfInts test offset) e = of_tests test offset h.state.top.operands
-  row_stays (operation.IfNull wanted offset) e = of_null wanted offset h.state.top.operands
-  row_stays (operation.Goto offset) e = tt
-  row_stays (operation.SwitchTable fallback low high first) e = of_table fallback low high first h.state.top.operands
-  row_stays (operation.SwitchLookup fallback pairs first) e = of_lookup fallback pairs first h.state.top.operands
-  row_stays (operation.Return sort) e =
+  -- ---- each operation
+
+  pub row_stays : (o : Operation) → Stays (row_of h o h.state.top.operands)
+  row_stays operation.Nop = tt
+  row_stays operation.PushNull = pushed Null h.state.top.operands
+  row_stays (operation.PushInt n) = pushed (Int n) h.state.top.operands
+  row_stays (operation.PushLong n) = pushed (Long n) h.state.top.operands
+  row_stays (operation.PushEntry i) = constant _
+  row_stays (operation.Load sort n) = loaded sort n
+  row_stays (operation.Store sort n) = stored sort n h.state.top.operands
+  row_stays (operation.Stack form) = upper_stays form _
+  row_stays (operation.IntArithmetic op) = of_ints op h.state.top.operands
+  row_stays (operation.LongArithmetic op) = of_longs op h.state.top.operands
+  row_stays operation.IntNegate = of_int (λ a. Int (negation w32 a)) h.state.top.operands
+  row_stays operation.LongNegate = of_long (λ a. Long (negation w64 a)) h.state.top.operands
+  row_stays (operation.IntShift op) = int_shifted op h.state.top.operands
+  row_stays (operation.LongShift op) = long_shifted op h.state.top.operands
+  row_stays (operation.Increase n by) = increased n by _
+  row_stays operation.IntToLong = of_int (λ a. Long a) h.state.top.operands
+  row_stays operation.LongToInt = of_long (λ a. Int (long_to_int a)) h.state.top.operands
+  row_stays (operation.IntNarrow to) = of_int (λ a. Int (narrow_of to a)) h.state.top.operands
+  row_stays operation.LongCompare = longs_compared h.state.top.operands
+  row_stays (operation.IfInt test offset) = of_test test offset h.state.top.operands
+  row_stays (operation.IfInts test offset) = of_tests test offset h.state.top.operands
+  row_stays (operation.IfNull wanted offset) = of_null wanted offset h.state.top.operands
+  row_stays (operation.Goto offset) = tt
+  row_stays (operation.SwitchTable fallback low high first) = of_table fallback low high first h.state.top.operands
+  row_stays (operation.SwitchLookup fallback pairs first) = of_lookup fallback pairs first h.state.top.operands
+  row_stays (operation.Return sort) =
       let value = values_returned sort h.state.top.operands in
       by_when h.state (agrees sort (signature (method_at h.program h.state.top.method).descriptor).result) (return_value h value) (illegal h) (returned value) tt
-  row_stays (operation.GetStatic i) e = got i
-  row_stays (operation.PutStatic i) e = put i
-  row_stays (operation.GetField i) e = of_get i
-  row_stays (operation.PutField i) e = of_put i
-  row_stays (operation.New i) e = of_new i
-  row_stays (operation.CheckCast i) e = cast (class_name h.pool i) h.state.top.operands
-  row_stays (operation.InstanceOf i) e = told (class_name h.pool i) h.state.top.operands
-  row_stays operation.Monitor e = monitored h.state.top.operands
-  row_stays (operation.IfSame wanted offset) e = of_references wanted offset h.state.top.operands
-  row_stays (operation.NewPrimitives number) e = of_primitives number
-  row_stays (operation.NewReferences i) e = of_components i
-  row_stays (operation.NewGrid i d) e = of_grid i d
-  row_stays (operation.LoadElement e) k = element_loaded e h.state.top.operands
-  row_stays (operation.StoreElement e) k = element_stored e h.state.top.operands
-  row_stays operation.Length e = measured h.state.top.operands
-  row_stays (operation.Invoke mode i) e = call_stays mode i e
-  row_stays (operation.Refuse word) e = tt
-  row_stays _ e = cc e
+  row_stays (operation.GetStatic i) = got i
+  row_stays (operation.PutStatic i) = put i
+  row_stays (operation.GetField i) = of_get i
+  row_stays (operation.PutField i) = of_put i
+  row_stays (operation.New i) = of_new i
+  row_stays (operation.CheckCast i) = cast (class_name h.pool i) h.state.top.operands
+  row_stays (operation.InstanceOf i) = told (class_name h.pool i) h.state.top.operands
+  row_stays operation.Monitor = monitored h.state.top.operands
+  row_stays (operation.IfSame wanted offset) = of_references wanted offset h.state.top.operands
+  row_stays (operation.NewPrimitives number) = of_primitives number
+  row_stays (operation.NewReferences i) = of_components i
+  row_stays (operation.NewGrid i d) = of_grid i d
+  row_stays (operation.LoadElement e) = element_loaded e h.state.top.operands
+  row_stays (operation.StoreElement e) = element_stored e h.state.top.operands
+  row_stays operation.Length = measured h.state.top.operands
+  row_stays (operation.Invoke mode i) = invoked mode i
+  row_stays (operation.Refuse word) = tt
+  row_stays operation.Throw = thrown h.state.top.operands

@@ -4,7 +4,7 @@ use Rattle.std.specs.Prelude.{◌==◌, ◌⊎◌, ◌&&◌, ◌||◌, bytes_eq,
 use Rattle.std.proofs.lemmas.Bool.Decides.{nat_tests}
 use Rattle.std.proofs.Common.{arith}
 use Rattle.vx_class.specs.Members.{STATIC}
-use Rattle.vx_families.specs.Built.{is_built, is_built_at, is_built_outcome, is_init_method, is_println_method, is_single, object_init, println_int}
+use Rattle.vx_families.specs.Built.{are_calls, is_built, is_built_at, is_built_outcome, is_init_method, is_println_method, object_init, println_int}
 use Rattle.vx_java.specs.Calls.{arguments_off, if_arguments}
 use Rattle.vx_java.specs.Checks.{is_instance_of}
 use Rattle.vx_java.specs.Machine.{Begin, Ended, Go, Here, Native, Outcome, Raise, State, Throw, Value, Write, illegal, when}
@@ -94,25 +94,17 @@ native_unbuilt p (Native m s) h = cases (is_println_method (method_at p m) || is
 native_unbuilt p (Write stream units s) h = cc h
 native_unbuilt p (Ended end) h = cc h
 
+off : (b : Bool) → not b ≡ true → b ≡ false
+off true h = cc h
+off false h = refl
+
 refused_how : (p : Program) (o : Outcome) → is_refused p o ≡ true → (is_native o ≡ true) ⊎ (is_built_outcome p o ≡ false)
 refused_how p (Go s) h = inr (off (is_built_outcome p (Go s)) h)
-  where
-    off : (b : Bool) → not b ≡ true → b ≡ false
-    off true h = cc h
-    off false h = refl
 refused_how p (Raise class message s) h = inr (off (is_built_outcome p (Raise class message s)) h)
-  where
-    off : (b : Bool) → not b ≡ true → b ≡ false
-    off true h = cc h
-    off false h = refl
-refused_how p (Throw r s) h = inr refl
+refused_how p (Throw r s) h = inr (off (is_built_outcome p (Throw r s)) h)
 refused_how p (Begin class s) h = inr refl
 refused_how p (Native m s) h = inl refl
 refused_how p (Write stream units s) h = inr (off (is_built_outcome p (Write stream units s)) h)
-  where
-    off : (b : Bool) → not b ≡ true → b ≡ false
-    off true h = cc h
-    off false h = refl
 refused_how p (Ended end) h = cc h
 
 unbuilt : (p : Program) (a : Bool) (o : Outcome) → is_refused p (outcome_carried_out p o) ≡ true → ((a && is_built_outcome p o) && is_built_outcome p (outcome_carried_out p o)) ≡ false
@@ -132,4 +124,4 @@ unbuilt p a o h = cases (refused_how p (outcome_carried_out p o) h)
     cases (inr k) = second (a && is_built_outcome p o) (is_built_outcome p (outcome_carried_out p o)) k
 
 pub refused_unbuilt : (p : Program) (s : State) → is_refused p (outcome_carried_out p (row p s)) ≡ true → is_built p s ≡ false
-refused_unbuilt p s h = unbuilt p (is_single s && is_built_at p s) (row p s) h
+refused_unbuilt p s h = unbuilt p (are_calls s && is_built_at p s) (row p s) h

@@ -17,30 +17,43 @@ use Rattle.vx_outcome.specs.declared.outcome.Outcome.{Outcome}
 use Rattle.vx_outcome.specs.declared.outcome.Outcome.TheVariants as shared
 use Rattle.vx_group_states.specs.Stands.{CameTo, Grows, IsMessage, IsThrown, StandsIn}
 use Rattle.vx_group_states.specs.declared.site.Site.{Site}
-use Rattle.vx_standing.specs.Attempted.{thrown_out}
 
 -- ---- outcomes by themselves
 
--- over this heap and this tree: the group of an outcome stands there, and what it names is there; a native method to which some configuration comes is left at its call
-abbrev pub IsThere : {S I : Type 0} → Site → Sets I → HeapView S I → List (Option (Caller S I)) → Outcome S I → Type 0
-IsThere site sets heap tree (shared.Go group) = StandsIn site.program.now sets heap tree group
-IsThere site sets heap tree (shared.Raise group class message) = StandsIn site.program.now sets heap tree group × IsMessage heap message
-IsThere site sets heap tree (shared.Throw group thrown) = StandsIn site.program.now sets heap tree group × IsThrown sets heap group thrown
-IsThere site sets heap tree (shared.Begin group class) = StandsIn site.program.now sets heap tree group
-IsThere site sets heap tree (shared.Native group method) = StandsIn site.program.now sets heap tree group × ((c : List Bool) → sets.test (path_of group) c ≡ true → (operation : Operation) × IsAtSite site operation group)
-IsThere site sets heap tree (shared.Write group stream text) = StandsIn site.program.now sets heap tree group × (text < length heap.texts)
-IsThere site sets heap tree (shared.Ended condition end) = IsKnown sets condition
+-- over this heap and this tree: the group of an outcome stands there, and what it names is there
+abbrev pub IsThere : {S I : Type 0} → Program → Sets I → HeapView S I → List (Option (Caller S I)) → Outcome S I → Type 0
+IsThere p sets heap tree (shared.Go group) = StandsIn p sets heap tree group
+IsThere p sets heap tree (shared.Raise group class message) = StandsIn p sets heap tree group × IsMessage heap message
+IsThere p sets heap tree (shared.Throw group thrown) = StandsIn p sets heap tree group × IsThrown sets heap group thrown
+IsThere p sets heap tree (shared.Begin group class) = StandsIn p sets heap tree group
+IsThere p sets heap tree (shared.Native group method) = StandsIn p sets heap tree group
+IsThere p sets heap tree (shared.Write group stream text) = StandsIn p sets heap tree group × (text < length heap.texts)
+IsThere p sets heap tree (shared.Ended condition end) = IsKnown sets condition
 
-abbrev pub AreThere : {S I : Type 0} → Site → Sets I → HeapView S I → List (Option (Caller S I)) → List (Outcome S I) → Type 0
-AreThere site sets heap tree [] = Unit {0}
-AreThere site sets heap tree (item ∷ items) = IsThere site sets heap tree item × AreThere site sets heap tree items
+abbrev pub AreThere : {S I : Type 0} → Program → Sets I → HeapView S I → List (Option (Caller S I)) → List (Outcome S I) → Type 0
+AreThere p sets heap tree [] = Unit {0}
+AreThere p sets heap tree (item ∷ items) = IsThere p sets heap tree item × AreThere p sets heap tree items
 
--- what has to be so before outcomes are carried out
-pub record MayCarryOut {S I : Type 0} (site : Site) (sets : Sets I) (heap : HeapView S I) (tree : List (Option (Caller S I))) (items : List (Outcome S I)) : Type 0 where
-  pub bounded : IsBounded site.program.now
+-- a native method to which some configuration comes was left at its call
+abbrev pub IsAtCall : {S I : Type 0} → Site → Sets I → Outcome S I → Type 0
+IsAtCall site sets (shared.Native group method) = (c : List Bool) → sets.test (path_of group) c ≡ true → (operation : Operation) × IsAtSite site operation group
+IsAtCall site sets item = Unit {0}
+
+abbrev pub AreAtCalls : {S I : Type 0} → Site → Sets I → List (Outcome S I) → Type 0
+AreAtCalls site sets [] = Unit {0}
+AreAtCalls site sets (item ∷ items) = IsAtCall site sets item × AreAtCalls site sets items
+
+-- what has to be so before exceptions are thrown
+pub record MayThrow {S I : Type 0} (p : Program) (sets : Sets I) (heap : HeapView S I) (tree : List (Option (Caller S I))) (items : List (Outcome S I)) : Type 0 where
+  pub bounded : IsBounded p
   pub is_heap : IsHeap sets heap
-  pub is_for : IsHeapFor site.program.now heap
-  pub there : AreThere site sets heap tree items
+  pub is_for : IsHeapFor p heap
+  pub there : AreThere p sets heap tree items
+
+-- what has to be so before native methods and beginnings are carried out
+pub record MayCarryOut {S I : Type 0} (site : Site) (sets : Sets I) (heap : HeapView S I) (tree : List (Option (Caller S I))) (items : List (Outcome S I)) : Type 0 where
+  pub may : MayThrow site.program.now sets heap tree items
+  pub at_calls : AreAtCalls site sets items
 
 -- ---- what they come to
 
@@ -73,12 +86,3 @@ is_unbuilt p o = not (is_built_outcome p o)
 abbrev pub is_refused : Program → PlainOutcome → Bool
 is_refused p (Native m s) = true
 is_refused p o = is_unbuilt p o
-
--- ---- exceptions
-
--- outcomes with their exceptions thrown, over every heap of the program and every tree
-abbrev pub AreThrown : {S I : Type 0} → Program → Sets I → (items made : List (Outcome S I)) → Type 0
-AreThrown {S = S} {I = I} p sets items made = (heap : HeapView S I) (tree : List (Option (Caller S I))) → IsHeap sets heap → IsHeapFor p heap → AreCarriedOut p (thrown_out p) sets sets heap heap tree tree items made
-
-abbrev pub SomeRefused : {S I : Type 0} → Program → Sets I → List (Outcome S I) → Type 0
-SomeRefused {S = S} {I = I} p sets items = (heap : HeapView S I) (tree : List (Option (Caller S I))) → IsHeap sets heap → IsHeapFor p heap → SomeComesTo p (is_refused p) sets heap tree items

@@ -2,16 +2,17 @@
 use Rattle.std.specs.Prelude.{Bool}
 use Rattle.vx_arith.specs.Family.{is_of_numbers}
 use Rattle.vx_attempt.specs.declared.family.Family.{Family}
-use Rattle.vx_attempt.specs.declared.family.Family.TheVariants.{Arrays, Calls, Constructors, Forms, Locals, Numbers, Objects, Returns, Statics}
+use Rattle.vx_attempt.specs.declared.family.Family.TheVariants.{Arrays, Calls, Forms, Locals, Numbers, Objects, Returns, Statics, Throws}
 use Rattle.vx_arrays.specs.Family.{is_of_arrays}
 use Rattle.vx_fields.specs.Statics.{is_of_statics}
-use Rattle.vx_objects.specs.Family.{is_init_call, is_of_objects}
+use Rattle.vx_objects.specs.Family.{is_of_objects}
 use Rattle.vx_stack.specs.Forms.{is_form}
 use Rattle.vx_invoke.specs.Named.{is_built_call}
 use Rattle.vx_java.specs.declared.operation.Operation.{Operation}
 use Rattle.vx_locals.specs.Family.{is_of_locals}
 use Rattle.vx_pool.specs.declared.pool.Pool.{Pool}
-use Rattle.vx_returns.specs.Ends.{is_return}
+use Rattle.vx_returns.specs.Handing.{is_return}
+use Rattle.vx_throw.specs.Thrown.{is_throw}
 
 -- an operation is of a family, by the pool of its class
 abbrev pub is_of : Family → Pool → Operation → Bool
@@ -23,4 +24,4 @@ is_of Statics pool operation = is_of_statics operation
 is_of Objects pool operation = is_of_objects operation
 is_of Arrays pool operation = is_of_arrays operation
 is_of Calls pool operation = is_built_call pool operation
-is_of Constructors pool operation = is_init_call pool operation
+is_of Throws pool operation = is_throw operation

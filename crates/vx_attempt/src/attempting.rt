@@ -1,34 +1,33 @@
 //! One attempt of a group: the instruction where it stands, by its family, what a native method makes of it, and what is thrown.
 
-ghost use Rattle.std.specs.Prelude.{◌≡◌, Err, IfOk, Some, [], length, option_copied, true};
+ghost use Rattle.std.specs.Prelude.{◌≡◌, Err, IfOk, Some, option_copied, true};
 ghost use Rattle.vx_space.specs.Sets.{Extends};
 ghost use Rattle.vx_java.specs.Machine.{State, illegal_in};
 ghost use Rattle.vx_java.specs.Row.{row};
 ghost use Rattle.vx_link.specs.Parts.{method_at};
-ghost use Rattle.vx_families.specs.Attempts.{IsAttemptBy, IsGiven, MeetsUnbuilt};
-ghost use Rattle.vx_families.specs.Built.{is_built_operation};
-ghost use Rattle.vx_families.specs.Entering.{pool_of};
+ghost use Rattle.vx_families.specs.Attempts.{IsAttemptIn, IsGiven};
+ghost use Rattle.vx_families.specs.Pools.{pool_of};
+ghost use Rattle.vx_group_states.specs.Stands.{StandsIn};
 ghost use Rattle.vx_standing.specs.Attempted.{IsAttempted, IsUnbuiltThere, MayAttempt};
 ghost use Rattle.vx_attempt.specs.Families.{is_of};
 
 use crate::family::{Family, family_of};
-use crate::natives::carried_out;
-use crate::single::is_single;
+use crate::natives::{carried_out, only};
 use crate::throwing::all_thrown;
 use std::alloc::Global;
 use vx_class::Code;
 use vx_families::AttemptFault;
 use vx_group::{Callers, Group};
-use vx_group_states::{Site, illegal};
+use vx_group_states::Site;
 use vx_heap::Heap;
-use vx_java::Operation;
 use vx_java::decoding::operation;
 use vx_java::parts::class_of_method;
+use vx_java::{Operation, place};
 use vx_link::Program;
 use vx_opcode::decode;
-use vx_outcome::Outcomes;
-use vx_space::Space;
-use vx_value::MethodId;
+use vx_outcome::{Outcome, Outcomes};
+use vx_space::{Space, SpaceFault};
+use vx_value::{End, MethodId};
 
 /// The code of a method.
 fn code_of(program: &Program, method: MethodId) -> Option<&Code>
@@ -40,55 +39,35 @@ fn code_of(program: &Program, method: MethodId) -> Option<&Code>
     }
 }
 
-/// The attempt of an instruction by its family: none so far pushes a frame or takes one off, so none is lent the tree.
-/// `NotYet` where some run comes to what isn't built.
+/// The attempt of an instruction by its family. Calls and returns alone push a frame or take one off, so they alone are lent the tree.
 fn by_family<S: Space>(
     alloc: Global,
     site: &Site,
     space: &mut S,
     heap: &mut Heap<S>,
+    callers: &mut Callers<S>,
     family: Family,
     operation: Operation,
     group: Group<S>,
-) -> Result<Outcomes<S>, AttemptFault>
+) -> Result<Outcomes<S>, SpaceFault>
     requires given { IsGiven site.now operation (S.sets space.old) heap.old group }
+    requires stands { StandsIn site.now.program.now (S.sets space.old) heap.old callers.old group }
     requires family { is_of family (pool_of site.now group) operation ≡ true }
-    requires single { group.below ≡ [] }
     ensures extends { Extends (S.sets space.old) (S.sets space.new) }
-    ensures ok { IfOk result (λ r. IsAttemptBy site.now operation (S.sets space.old) (S.sets space.new) heap.old heap.new group r.items.items) }
-    ensures not_yet { result ≡ Err AttemptFault.NotYet → MeetsUnbuilt site.now (S.sets space.old) heap.old group }
+    ensures ok { IfOk result (λ r. IsAttemptIn site.now operation (S.sets space.old) (S.sets space.new) heap.old heap.new callers.old callers.new group r.items.items) }
 {
     match family {
-        Family::Numbers => {
-            let made = vx_arith::attempt(alloc, site, space, heap, operation, group)?;
-            Ok(made)
-        }
-        Family::Locals => {
-            let made = vx_locals::attempt(alloc, site, space, heap, operation, group)?;
-            Ok(made)
-        }
-        Family::Forms => {
-            let made = vx_stack::attempt(alloc, site, space, heap, operation, group)?;
-            Ok(made)
-        }
+        Family::Numbers => vx_arith::attempt(alloc, site, space, heap, operation, group),
+        Family::Locals => vx_locals::attempt(alloc, site, space, heap, operation, group),
+        Family::Forms => vx_stack::attempt(alloc, site, space, heap, operation, group),
+        Family::Statics => vx_fields::attempt(alloc, site, space, heap, operation, group),
+        Family::Throws => vx_throw::attempt(alloc, site, space, heap, group),
         Family::Returns => {
-            let made = vx_returns::attempt(alloc, site, space, heap, operation, group)?;
-            Ok(made)
+            vx_returns::attempt(alloc, site, space, heap, callers, operation, group)
         }
-        Family::Statics => {
-            let made = vx_fields::attempt(alloc, site, space, heap, operation, group)?;
-            Ok(made)
-        }
-        Family::Objects => {
-            let made = vx_objects::attempt(alloc, site, space, heap, operation, group)?;
-            Ok(made)
-        }
-        Family::Arrays => {
-            let made = vx_arrays::attempt(alloc, site, space, heap, operation, group)?;
-            Ok(made)
-        }
-        Family::Constructors => vx_objects::call_init(alloc, site, space, heap, operation, group),
-        Family::Calls => vx_invoke::attempt(alloc, site, space, heap, operation, group),
+        Family::Objects => vx_objects::attempt(alloc, site, space, heap, operation, group),
+        Family::Arrays => vx_arrays::attempt(alloc, site, space, heap, operation, group),
+        Family::Calls => vx_invoke::attempt(alloc, site, space, heap, callers, operation, group),
     }
 }
 
@@ -105,17 +84,15 @@ fn attempt_at<S: Space>(
     group: Group<S>,
 ) -> Result<Outcomes<S>, AttemptFault>
     requires may { MayAttempt site.now.program.now (S.sets space.old) heap.old callers.old group }
-    requires single { group.below ≡ [] }
     requires given { IsGiven site.now operation (S.sets space.old) heap.old group }
     requires family { is_of family (pool_of site.now group) operation ≡ true }
-    requires built { is_built_operation (pool_of site.now group) operation ≡ true }
     ensures extends { Extends (S.sets space.old) (S.sets space.new) }
     ensures ok { IfOk result (λ r. IsAttempted site.now.program.now (S.sets space.old) (S.sets space.new) heap.old heap.new callers.old callers.new group r.items.items) }
     ensures not_yet { result ≡ Err AttemptFault.NotYet → IsUnbuiltThere site.now.program.now (S.sets space.old) heap.old callers.old group }
 {
-    let outcomes = by_family(alloc, site, space, heap, family, operation, group)?;
+    let outcomes = by_family(alloc, site, space, heap, callers, family, operation, group)?;
     let carried = carried_out(alloc, site, space, heap, callers, outcomes)?;
-    let made = all_thrown(alloc, site.program, space, carried)?;
+    let made = all_thrown(alloc, site.program, space, heap, callers, carried)?;
     Ok(made)
 }
 
@@ -133,9 +110,16 @@ fn end_there<S: Space>(
     ensures ok { IfOk result (λ r. IsAttempted program.now (S.sets space.now) (S.sets space.now) heap.now heap.now callers.now callers.now group.now r.items.items) }
     ensures not_yet { result ≡ Err AttemptFault.NotYet → IsUnbuiltThere program.now (S.sets space.now) heap.now callers.now group.now }
 {
-    let ended = illegal(alloc, program, group)?;
-    let made = all_thrown(alloc, program, space, ended)?;
-    Ok(made)
+    let top = group.top_frame();
+    let place = place(alloc, program, top.method, top.position)?;
+    let ended = only(
+        alloc,
+        Outcome::Ended {
+            condition: group.path(),
+            end: End::Illegal(place),
+        },
+    )?;
+    Ok(ended)
 }
 
 /// The attempt in the code of the group's method. Behind the last instruction the run ends (JVMS 4.9.2).
@@ -149,7 +133,6 @@ fn attempt_in<S: Space>(
     group: Group<S>,
 ) -> Result<Outcomes<S>, AttemptFault>
     requires may { MayAttempt program.now (S.sets space.old) heap.old callers.old group }
-    requires single { group.below ≡ [] }
     requires code { (method_at program.now group.top.method.0).code ≡ Some code.now }
     ensures extends { Extends (S.sets space.old) (S.sets space.new) }
     ensures ok { IfOk result (λ r. IsAttempted program.now (S.sets space.old) (S.sets space.new) heap.old heap.new callers.old callers.new group r.items.items) }
@@ -192,9 +175,6 @@ pub fn attempt<S: Space>(
     ensures ok { IfOk result (λ r. IsAttempted program.now (S.sets space.old) (S.sets space.new) heap.old heap.new callers.old callers.new group r.items.items) }
     ensures not_yet { result ≡ Err AttemptFault.NotYet → IsUnbuiltThere program.now (S.sets space.old) heap.old callers.old group }
 {
-    if !is_single(&group) {
-        return Err(AttemptFault::NotYet);
-    }
     match code_of(program, group.top_frame().method) {
         Some(code) => attempt_in(alloc, program, space, heap, callers, code, group),
         None => end_there(alloc, program, space, heap, callers, &group),

@@ -4,7 +4,6 @@
 pub mod attempting;
 pub mod family;
 mod natives;
-mod single;
 mod throwing;
 
 pub use attempting::attempt;

@@ -1,108 +1,48 @@
 //! Exceptions that an attempt raises or throws, thrown in the same attempt (JVMS 2.10).
 
-ghost use Rattle.std.specs.Prelude.{◌≡◌, ◌≢◌, ◌∷◌, ◌&&◌, [], Err, IfOk, true};
+ghost use Rattle.std.specs.Prelude.{◌≡◌, ◌≢◌, ◌∷◌, [], Err, IfOk, true};
 ghost use Rattle.std.specs.List.{list_all};
-ghost use Rattle.vx_space.specs.Sets.{IsKnown};
-ghost use Rattle.vx_families.specs.Built.{has_none, is_call};
-ghost use Rattle.vx_group.specs.Group.{path_of};
-ghost use Rattle.vx_java.specs.Selection.{catches_of};
-ghost use Rattle.vx_link.specs.Parts.{method_at};
+ghost use Rattle.vx_space.specs.Sets.{Extends};
 ghost use Rattle.vx_outcome.specs.Outcome.{condition_of};
-ghost use Rattle.vx_outcome.specs.declared.outcome.Outcome.TheVariants.{Raise};
-ghost use Rattle.vx_standing.specs.Attempted.{AreConditionsKnown, is_placed};
-ghost use Rattle.vx_attempt.specs.Carrying.{AreThrown, SomeRefused};
+ghost use Rattle.vx_standing.specs.Attempted.{is_placed, thrown_out};
+ghost use Rattle.vx_attempt.specs.Carrying.{AreCarriedOut, MayThrow, SomeComesTo, is_refused};
 
 use crate::natives::only;
-use crate::single::is_single;
 use std::alloc::Global;
 use vx_families::AttemptFault;
-use vx_group::Group;
+use vx_group::Callers;
+use vx_heap::Heap;
 use vx_link::Program;
 use vx_outcome::{Outcome, Outcomes};
 use vx_space::Space;
-use vx_spelling::class_text;
-use vx_value::{ClassId, End, MethodId};
-
-/// Whether the method has no catch row.
-fn catches_nothing(program: &Program, method: MethodId) -> bool
-    ensures { result ≡ has_none (catches_of (method_at program.now method.0).code) }
-{
-    let Some(method) = program.method(method) else {
-        return true;
-    };
-    match &method.code {
-        Some(code) => code.catches.as_slice().is_empty(),
-        None => true,
-    }
-}
-
-/// Whether nothing takes an exception of the group: it has one frame, of a call, whose method has no catch row.
-fn is_uncaught<S: Space>(program: &Program, group: &Group<S>) -> bool
-    ensures { result ≡ ((is_call group.now.top.kind && has_none group.now.below) && has_none (catches_of (method_at program.now group.now.top.method.0).code)) }
-{
-    is_single(group) && catches_nothing(program, group.top_frame().method)
-}
-
-/// Runs that raise an exception of a class: they have come to its end `Uncaught`. `NotYet` where some frame might take it.
-fn raised<S: Space>(
-    alloc: Global,
-    program: &Program,
-    space: &S,
-    group: Group<S>,
-    class: ClassId,
-    message: Option<u64>,
-) -> Result<Outcomes<S>, AttemptFault>
-    requires known { IsKnown (S.sets space.now) (path_of group) }
-    requires some { path_of group ≢ (S.sets space.now).never }
-    ensures thrown { IfOk result (λ r. AreThrown program.now (S.sets space.now) (Raise group class message ∷ []) r.items.items) }
-    ensures placed { IfOk result (λ r. list_all is_placed r.items.items ≡ true) }
-    ensures not_yet { result ≡ Err AttemptFault.NotYet → SomeRefused program.now (S.sets space.now) (Raise group class message ∷ []) }
-{
-    if !is_uncaught(program, &group) {
-        return Err(AttemptFault::NotYet);
-    }
-    let text = class_text(alloc, program, class)?;
-    let ended = only(
-        alloc,
-        Outcome::Ended {
-            condition: group.path(),
-            end: End::Uncaught(text),
-        },
-    )?;
-    Ok(ended)
-}
+use vx_throw::{raise, throw};
 
 /// One outcome, to which some configuration comes.
 fn some_thrown<S: Space>(
     alloc: Global,
     program: &Program,
-    space: &S,
+    space: &mut S,
+    heap: &mut Heap<S>,
+    callers: &mut Callers<S>,
     outcome: Outcome<S>,
 ) -> Result<Outcomes<S>, AttemptFault>
-    requires known { IsKnown (S.sets space.now) (condition_of outcome) }
-    requires some { condition_of outcome ≢ (S.sets space.now).never }
-    ensures thrown { IfOk result (λ r. AreThrown program.now (S.sets space.now) (outcome ∷ []) r.items.items) }
+    requires may { MayThrow program.now (S.sets space.old) heap.old callers.old (outcome ∷ []) }
+    requires some { condition_of outcome ≢ (S.sets space.old).never }
+    ensures extends { Extends (S.sets space.old) (S.sets space.new) }
+    ensures carried { IfOk result (λ r. AreCarriedOut program.now (thrown_out program.now) (S.sets space.old) (S.sets space.new) heap.old heap.new callers.old callers.new (outcome ∷ []) r.items.items) }
     ensures placed { IfOk result (λ r. list_all is_placed r.items.items ≡ true) }
-    ensures not_yet { result ≡ Err AttemptFault.NotYet → SomeRefused program.now (S.sets space.now) (outcome ∷ []) }
+    ensures not_yet { result ≡ Err AttemptFault.NotYet → SomeComesTo program.now (is_refused program.now) (S.sets space.old) heap.old callers.old (outcome ∷ []) }
 {
     match outcome {
         Outcome::Raise {
             group,
             class,
             message,
-        } => raised(alloc, program, space, group, class, message),
-        Outcome::Throw {
-            group: _group,
-            thrown: _thrown,
-        } => Err(AttemptFault::NotYet),
-        Outcome::Begin {
-            group: _group,
-            class: _class,
-        } => Err(AttemptFault::NotYet),
-        Outcome::Native {
-            group: _group,
-            method: _method,
-        } => Err(AttemptFault::NotYet),
+        } => raise(alloc, program, space, heap, callers, group, class, message),
+        Outcome::Throw { group, thrown } => {
+            throw(alloc, program, space, heap, callers, group, thrown)
+        }
+        Outcome::Begin { .. } | Outcome::Native { .. } => Err(AttemptFault::NotYet),
         other => {
             let same = only(alloc, other)?;
             Ok(same)
@@ -114,36 +54,43 @@ fn some_thrown<S: Space>(
 fn one_thrown<S: Space>(
     alloc: Global,
     program: &Program,
-    space: &S,
+    space: &mut S,
+    heap: &mut Heap<S>,
+    callers: &mut Callers<S>,
     outcome: Outcome<S>,
 ) -> Result<Outcomes<S>, AttemptFault>
-    requires { IsKnown (S.sets space.now) (condition_of outcome) }
-    ensures thrown { IfOk result (λ r. AreThrown program.now (S.sets space.now) (outcome ∷ []) r.items.items) }
+    requires { MayThrow program.now (S.sets space.old) heap.old callers.old (outcome ∷ []) }
+    ensures extends { Extends (S.sets space.old) (S.sets space.new) }
+    ensures carried { IfOk result (λ r. AreCarriedOut program.now (thrown_out program.now) (S.sets space.old) (S.sets space.new) heap.old heap.new callers.old callers.new (outcome ∷ []) r.items.items) }
     ensures placed { IfOk result (λ r. list_all is_placed r.items.items ≡ true) }
-    ensures not_yet { result ≡ Err AttemptFault.NotYet → SomeRefused program.now (S.sets space.now) (outcome ∷ []) }
+    ensures not_yet { result ≡ Err AttemptFault.NotYet → SomeComesTo program.now (is_refused program.now) (S.sets space.old) heap.old callers.old (outcome ∷ []) }
 {
     if space.is_never(outcome.condition()) {
         return Ok(Outcomes::new(alloc));
     }
-    some_thrown(alloc, program, space, outcome)
+    some_thrown(alloc, program, space, heap, callers, outcome)
 }
 
 /// The outcomes of an attempt with each exception that is raised or thrown made and thrown, so that each of them takes its
-/// place. `NotYet` where some run raises what a frame might take, or throws an object.
+/// place. Heap and tree may grow, and change at no configuration that comes to none of them. `NotYet` where some run raises or throws with a
+/// frame of an initialisation; after a refusal heap and tree are given up.
 pub(crate) fn all_thrown<S: Space>(
     alloc: Global,
     program: &Program,
-    space: &S,
+    space: &mut S,
+    heap: &mut Heap<S>,
+    callers: &mut Callers<S>,
     outcomes: Outcomes<S>,
 ) -> Result<Outcomes<S>, AttemptFault>
-    requires { AreConditionsKnown (S.sets space.now) outcomes.items.items }
-    ensures thrown { IfOk result (λ r. AreThrown program.now (S.sets space.now) outcomes.items.items r.items.items) }
+    requires { MayThrow program.now (S.sets space.old) heap.old callers.old outcomes.items.items }
+    ensures extends { Extends (S.sets space.old) (S.sets space.new) }
+    ensures carried { IfOk result (λ r. AreCarriedOut program.now (thrown_out program.now) (S.sets space.old) (S.sets space.new) heap.old heap.new callers.old callers.new outcomes.items.items r.items.items) }
     ensures placed { IfOk result (λ r. list_all is_placed r.items.items ≡ true) }
-    ensures not_yet { result ≡ Err AttemptFault.NotYet → SomeRefused program.now (S.sets space.now) outcomes.items.items }
+    ensures not_yet { result ≡ Err AttemptFault.NotYet → SomeComesTo program.now (is_refused program.now) (S.sets space.old) heap.old callers.old outcomes.items.items }
 {
     let mut made = Outcomes::new(alloc);
     for outcome in outcomes.items {
-        let some = one_thrown(alloc, program, space, outcome)?;
+        let some = one_thrown(alloc, program, space, heap, callers, outcome)?;
         made.append(some)?;
     }
     Ok(made)

@@ -4,3 +4,5 @@ pub mod Giving
 pub mod PlaceRows
 pub mod ObjectClasses
 pub mod Lowest
+pub mod Somewhere
+pub mod WrittenInside

@@ -13,8 +13,8 @@ use std::alloc::Global;
 use vx_families::AttemptFault;
 use vx_link::Program;
 use vx_lockstep::Findings;
-use vx_rounds::step_group;
-use vx_sched::{Picker, keys_of};
+use vx_rounds::{Upkeep, next_round};
+use vx_sched::Picker;
 use vx_space::Space;
 use vx_starting::start;
 
@@ -43,12 +43,10 @@ pub fn run_with<S: Space, K: Picker>(
     ensures not_yet { result ≡ Err AttemptFault.NotYet → MeetsUnbuilt program.now ((S.sets space.old).test allowed) limit }
 {
     let mut state = start(alloc, program, space, allowed, limit)?;
+    let mut upkeep = Upkeep::new();
     'rounds: while !state.groups().is_empty() {
-        let Ok(keys) = keys_of(alloc, state.groups()) else {
-            return Err(AttemptFault::NoMemory);
-        };
-        let which = picker.pick(keys.as_slice());
-        step_group(alloc, program, space, &mut state, which)?;
+        let which = state.next_place(picker)?;
+        next_round(alloc, program, space, &mut state, &mut upkeep, which)?;
     }
     let rounds = state.rounds();
     let (found, ends, spent) = state.into_found();

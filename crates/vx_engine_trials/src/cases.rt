@@ -2,12 +2,12 @@
 
 /// A program with the model of its options, and what has to come of it.
 #[derive(Clone, Copy)]
-pub(crate) struct Case {
-    pub source: &'static [u8],
-    pub model: &'static [u8],
+pub(crate) struct Case<'a> {
+    pub source: &'a [u8],
+    pub model: &'a [u8],
     pub limit: u64,
     pub version: u8,
-    pub report: &'static [u8],
+    pub report: &'a [u8],
 }
 
 const ONE_OPTION: &[u8] = b"option A Main A\n";

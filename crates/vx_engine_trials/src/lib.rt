@@ -1,9 +1,15 @@
-//! Programs of one frame run whole, from an assembler source to the text of a report, with groups picked in two orders, over
+//! Programs of one class run whole, from an assembler source to the text of a report, with groups picked in two orders, over
 //! the space of masks and the space of diagrams.
 #![tactic(auto)]
 
 #[cfg(test)]
+mod call_cases;
+#[cfg(test)]
+mod callers;
+#[cfg(test)]
 mod cases;
+#[cfg(test)]
+mod exception_cases;
 #[cfg(test)]
 mod findings;
 #[cfg(test)]

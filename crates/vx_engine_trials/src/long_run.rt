@@ -4,7 +4,7 @@ ghost use Rattle.std.specs.Prelude.{◌≡◌, ◌<◌, OnOk, length, true};
 ghost use Rattle.vx_families.specs.Bounds.{IsBounded};
 ghost use Rattle.vx_heap.specs.Heap.{has_options};
 ghost use Rattle.vx_model.specs.Models.{IsModel};
-ghost use Rattle.vx_standing.specs.State.{IsState};
+ghost use Rattle.vx_standing.specs.State.{IsState, IsTreeKnown};
 
 use crate::programs::{Example, linked};
 use std::alloc::Global;
@@ -65,19 +65,22 @@ fn source(alloc: Global, turns: u32) -> Result<Vec<u8>, Fail> {
     Ok(text)
 }
 
-/// A round with the group of the first key.
-fn round<S: Space>(
+/// A round with the group that is picked, between a compaction and a sweep.
+fn round<S: Space, K: Picker>(
     alloc: Global,
     program: &Program,
     space: &mut S,
     state: &mut State<S>,
+    picker: &mut K,
 ) -> Result<(), Fail>
     requires state { IsState program.now (S.sets space.old) state.old.heap.allowed state.old }
+    requires tree { IsTreeKnown (S.sets space.old) state.old }
     requires some { 0 < length state.old.groups }
-    ensures { OnOk result (IsState program.now (S.sets space.new) state.new.heap.allowed state.new) }
+    ensures state { OnOk result (IsState program.now (S.sets space.new) state.new.heap.allowed state.new) }
+    ensures tree { OnOk result (IsTreeKnown (S.sets space.new) state.new) }
 {
     let keys = keys_of(alloc, state.groups())?;
-    let which = LeastKey.pick(keys.as_slice());
+    let which = picker.pick(keys.as_slice());
     step_group(alloc, program, space, state, which)?;
     Ok(())
 }
@@ -99,7 +102,7 @@ fn make_rounds<S: Space>(alloc: Global, example: &Example, space: &mut S) -> Res
         if state.groups().is_empty() {
             return Ok(Counts { rounds, most_sets });
         }
-        round(alloc, &example.program, space, &mut state)?;
+        round(alloc, &example.program, space, &mut state, &mut LeastKey)?;
         most_sets = most_sets.max(space.count());
     }
     Err(Fail::new("the runs make more rounds"))

@@ -1,4 +1,6 @@
+use crate::call_cases::CALL_CASES;
 use crate::cases::{CASES, Case, DIFFERENT_VALUES};
+use crate::exception_cases::{EXCEPTION_CASES, RAISES, caught, source};
 use crate::last_key::LastKey;
 use crate::object_cases::OBJECT_CASES;
 use crate::runs::{agree, report_of};
@@ -56,6 +58,35 @@ fn is_said(rt: &impl Abort, alloc: Global, case: &Case) -> Result<bool, Fail> {
 #[test]
 fn objects_and_arrays_are_those_of_each_configuration(rt: HostRuntime) -> Result<(), Fail> {
     for case in OBJECT_CASES {
+        assert!(rt; is_said(&rt, rt.alloc(), &case)?, "{:?}", case.report);
+    }
+    Ok(())
+}
+
+#[test]
+fn calls_come_to_what_the_machine_says(rt: HostRuntime) -> Result<(), Fail> {
+    for case in CALL_CASES {
+        assert!(rt; is_said(&rt, rt.alloc(), &case)?, "{:?}", case.report);
+    }
+    Ok(())
+}
+
+#[test]
+fn each_exception_that_is_raised_has_its_handler(rt: HostRuntime) -> Result<(), Fail> {
+    for raise in RAISES {
+        let source = source(rt.alloc(), raise)?;
+        assert!(rt;
+            is_said(&rt, rt.alloc(), &caught(source.as_slice()))?,
+            "{:?}",
+            raise.instructions
+        );
+    }
+    Ok(())
+}
+
+#[test]
+fn exceptions_go_to_the_first_frame_that_takes_them(rt: HostRuntime) -> Result<(), Fail> {
+    for case in EXCEPTION_CASES {
         assert!(rt; is_said(&rt, rt.alloc(), &case)?, "{:?}", case.report);
     }
     Ok(())

@@ -13,7 +13,7 @@ use Rattle.vx_outcome.specs.declared.outcome.Outcome.{Outcome}
 use Rattle.vx_outcome.specs.declared.outcome.Outcome.TheVariants as shared
 use Rattle.vx_group_states.specs.Sites.{Gives, GivesAt, here}
 use Rattle.vx_group_states.specs.declared.site.Site.{Site}
-use Rattle.vx_families.specs.Entering.{pool_of}
+use Rattle.vx_families.specs.Pools.{pool_of}
 use Rattle.vx_group_states.specs.Stands.{CameTo, state_at}
 use Rattle.vx_group_states.proofs.OutcomeStates.{CameTo-one}
 use Rattle.vx_group_states.proofs.PartLaws.{raised-gives}

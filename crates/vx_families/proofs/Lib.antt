@@ -4,6 +4,7 @@ pub mod AttemptLaws
 pub mod EndingLaws
 pub mod Pushes
 pub mod SlotSorts
-pub mod Entries
+pub mod BuiltRows
 pub mod Answered
 pub mod Tops
+pub mod Operands

@@ -1,5 +1,5 @@
 -- What each family of instructions is given, and what it promises: the row of its operation at each configuration.
-use Rattle.std.specs.Prelude.{◌≡◌, ◌<◌, ◌≤◌, ◌+◌, Bool, true, false, List, length, Option, Some}
+use Rattle.std.specs.Prelude.{◌≡◌, ◌<◌, ◌≤◌, ◌+◌, Bool, true, List, length, Option, Some}
 use Rattle.vx_space.specs.Sets.{Sets}
 use Rattle.vx_cond.specs.Cond.{IsInside}
 use Rattle.vx_frame.specs.Frame.{frame_at, shape_of}
@@ -16,10 +16,9 @@ use Rattle.vx_opcode.specs.Decode.{instruction_at}
 use Rattle.vx_opcode.specs.declared.instruction.Instruction.{Instruction}
 use Rattle.vx_outcome.specs.declared.outcome.Outcome.{Outcome}
 use Rattle.vx_group_states.specs.Sites.{here}
-use Rattle.vx_group_states.specs.Stands.{Attempts, StandsIn, frame_held, is_shaped, state_at}
+use Rattle.vx_group_states.specs.Stands.{Attempts, StandsIn, frame_held, is_shaped}
 use Rattle.vx_group_states.specs.declared.site.Site.{Site}
 use Rattle.vx_families.specs.Bounds.{IsBounded}
-use Rattle.vx_families.specs.Built.{is_built}
 
 -- the row of an operation at a state
 abbrev pub row_by : Site → Operation → State → PlainOutcome
@@ -64,9 +63,3 @@ pub record AttemptsIn {S I : Type 0} (site : Site) (says : State → PlainOutcom
 -- an attempt by an operation that may push frames, or take them off
 abbrev pub IsAttemptIn : {S I : Type 0} → Site → Operation → Sets I → Sets I → HeapView S I → HeapView S I → (tree later : List (Option (Caller S I))) → GroupView S I → List (Outcome S I) → Type 0
 IsAttemptIn site operation old new before after tree later group outcomes = AttemptsIn site (row_by site operation) old new before after tree later group outcomes
-
--- some run of the group comes to what isn't built
-abbrev pub MeetsUnbuilt : {S I : Type 0} → Site → Sets I → HeapView S I → GroupView S I → Type 0
-MeetsUnbuilt {S = S} {I = I} site sets heap group =
-    (tree : List (Option (Caller S I))) → StandsIn site.program.now sets heap tree group
-    → (c : List Bool) × (sets.test (path_of group) c ≡ true) × (is_built site.program.now (state_at sets heap tree group c) ≡ false)

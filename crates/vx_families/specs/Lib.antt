@@ -4,4 +4,4 @@ pub mod Pushing
 pub mod Built
 pub mod Texts
 pub mod Sorts
-pub mod Entering
+pub mod Pools

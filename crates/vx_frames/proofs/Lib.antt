@@ -5,3 +5,6 @@ pub mod FitLaws
 pub mod UncoverLaws
 pub mod UnwindLaws
 pub mod WakeLaws
+pub mod GivingLaws
+pub mod ClassLaws
+pub mod TreeGathering

@@ -1,4 +1,5 @@
 pub mod Entering
+pub mod Giving
 pub mod Fitting
 pub mod Locals
 pub mod Uncovering

@@ -1,13 +1,13 @@
 -- Changes one after another, and outcomes and attempts after a change.
 use Rattle.std.proofs.Common.{◌≡◌, Bool, true, false, List, refl, sym, ◌∙◌, ap, subst}
 use Rattle.std.specs.Prelude.{◌||◌, if◌then◌else◌, slice_get}
-use Rattle.vx_space.specs.Sets.{Sets}
+use Rattle.vx_space.specs.Sets.{Sets, Extends}
 use Rattle.vx_group.specs.Group.{path_of}
 use Rattle.vx_group.proofs.GroupLaws.{IsGroup-path_known, IsGroupIn-group, attempts_at-extends}
-use Rattle.vx_heap.specs.Heap.{Globals, HeapView, IsHeapFor, globals_at}
+use Rattle.vx_heap.specs.Heap.{Globals, HeapView, IsHeap, IsHeapFor, globals_at}
 use Rattle.vx_heap.proofs.HeapLaws.{IsHeap-extends, globals_at-extends}
 use Rattle.vx_group_states.specs.Stands.{Continues, state_at}
-use Rattle.vx_group_states.proofs.GrownStates.{CameTo-grown, Grows-trans, StandsIn-grown, state_at-changed}
+use Rattle.vx_group_states.proofs.GrownStates.{CameTo-grown, Grows-refl, Grows-trans, StandsIn-grown, state_at-changed}
 use Rattle.vx_group_states.proofs.OutcomeStates.{CameTo-through}
 use Rattle.vx_growth.specs.Changing.{IsChangedIn, changed_in}
 use Rattle.vx_growth.specs.Laws.{AttemptsFollow, ChangesFollow, OutcomesStay, StaticsChangeIn}
@@ -84,3 +84,44 @@ attempts_follow {S = S} {I = I} p says there s0 s1 s2 before after set change tr
         from : (b : Bool) → set c ≡ b → b ≡ false
         from false q = refl
         from true q = cc (inside c q, t)
+
+-- one change after another in one set
+pub changes_in_one : {S I : Type 0} {s0 s1 s2 : Sets I} (before middle after : HeapView S I) (set later : List Bool → Bool) (f g : List Bool → Globals → Globals) → ((c : List Bool) → later c ≡ set c) → IsChangedIn s0 s1 before middle set f → IsChangedIn s1 s2 middle after later g → IsChangedIn s0 s2 before after set (λ c x. g c (f c x))
+changes_in_one before middle after set later f g same h k = record {
+  is_heap = k.is_heap;
+  grows = Grows-trans before middle after h.grows k.grows;
+  keeps = λ p q. k.keeps p (h.keeps p q);
+  inside = λ c t. k.inside c (same c ∙ t) ∙ ap (g c) (h.inside c t);
+  outside = λ c t. k.outside c (same c ∙ t) ∙ h.outside c t;
+}
+
+-- ---- the same change, told otherwise
+
+-- a change, told over a later space, or by another function that does the same
+pub changed_later : {S I : Type 0} {s0 s1 s2 : Sets I} → Extends s1 s2 → (before after : HeapView S I) (set : List Bool → Bool) (change : List Bool → Globals → Globals) → IsChangedIn s0 s1 before after set change → IsChangedIn s0 s2 before after set change
+changed_later e before after set change h = record {
+  is_heap = IsHeap-extends e after h.is_heap;
+  grows = h.grows;
+  keeps = h.keeps;
+  inside = λ c t. globals_at-extends e after h.is_heap c ∙ h.inside c t;
+  outside = λ c t. globals_at-extends e after h.is_heap c ∙ h.outside c t;
+}
+
+pub changed_as : {S I : Type 0} (s0 s1 : Sets I) (before after : HeapView S I) (set : List Bool → Bool) (change other : List Bool → Globals → Globals) → ((c : List Bool) → set c ≡ true → change c (globals_at s0 before c) ≡ other c (globals_at s0 before c)) → IsChangedIn s0 s1 before after set change → IsChangedIn s0 s1 before after set other
+changed_as s0 s1 before after set change other same h = record {
+  is_heap = h.is_heap;
+  grows = h.grows;
+  keeps = h.keeps;
+  inside = λ c t. h.inside c t ∙ same c t;
+  outside = h.outside;
+}
+
+-- nothing changes
+pub unchanged : {S I : Type 0} (sets : Sets I) (heap : HeapView S I) (set : List Bool → Bool) (change : List Bool → Globals → Globals) → IsHeap sets heap → ((c : List Bool) → set c ≡ true → change c (globals_at sets heap c) ≡ globals_at sets heap c) → IsChangedIn sets sets heap heap set change
+unchanged sets heap set change v same = record {
+  is_heap = v;
+  grows = Grows-refl heap;
+  keeps = λ p h. h;
+  inside = λ c t. sym (same c t);
+  outside = λ c t. refl;
+}

@@ -3,17 +3,27 @@ use Rattle.std.proofs.Common.{◌≡◌, ℕ, ◌<◌, zero, suc, Bool, true, fa
 use Rattle.std.proofs.lemmas.Bool.{cases_order}
 use Rattle.std.proofs.lemmas.List.{length-map}
 use Rattle.std.specs.Prelude.{if◌then◌else◌, slice_get}
-use Rattle.vx_space.specs.Sets.{Sets}
+use Rattle.vx_space.specs.Sets.{Sets, Extends}
 use Rattle.vx_heap.specs.declared.object.HeapObject.{HeapObject}
-use Rattle.vx_heap.specs.Heap.{count_if, is_object_held, name_at, object_of}
+use Rattle.vx_heap.specs.Heap.{HeapView, IsHeap, count_if, is_held, is_object_held, name_at, object_of}
 use Rattle.vx_heap.proofs.HeapLaws.{name_at-extends}
 use Rattle.vx_group_states.proofs.GrownStates.{is_held-grown, name_at-grown, value_of-grown}
+use Rattle.vx_group_states.specs.Stands.{Grows}
+use Rattle.vx_java.specs.Machine.{Ref as RefValue}
+use Rattle.vx_value.specs.declared.slot.Slot.TheVariants.{Ref}
 use Rattle.vx_growth.specs.Names.{NamesGrow, NamesTell, NewNameIsNext, ValuesStay}
 
 -- ---- slots that name what is there
 
 pub values_stay : {S I : Type 0} → ValuesStay S I
 values_stay old new before after e v k c slot h = (is_held-grown e before after v k c slot h, value_of-grown e before after v k c slot h)
+
+-- a reference that is there keeps its name
+pub name_stays : {S I : Type 0} {s0 s1 : Sets I} → Extends s0 s1 → (before after : HeapView S I) → IsHeap s0 before → Grows before after → (c : List Bool) (r : ℕ) → is_held s0 before c (Ref r) ≡ true → name_at s1 after.objects c r ≡ name_at s0 before.objects c r
+name_stays {s0 = s0} {s1 = s1} e before after v k c r h = same (name_at s1 after.objects c r) (name_at s0 before.objects c r) (value_of-grown e before after v k c (Ref r) h)
+  where
+    same : (a b : ℕ) → RefValue a ≡ RefValue b → a ≡ b
+    same a b q = cc q
 
 -- ---- the next name
 

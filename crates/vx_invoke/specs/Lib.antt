@@ -1,4 +1,5 @@
 pub mod Named
+pub mod Calls
 pub mod Called
-pub mod Receivers
-pub mod Println
+pub mod Arguments
+pub mod Calling

@@ -3,38 +3,26 @@
 ghost use Rattle.std.specs.Prelude.{◌≡◌, is_some};
 ghost use Rattle.vx_java.specs.Ids.{HasClassNumbers};
 ghost use Rattle.vx_link.specs.Parts.{method_at};
-ghost use Rattle.vx_invoke.specs.Called.{accepts, call_of, entered, receiver_of};
+ghost use Rattle.vx_invoke.specs.Called.{by_selected, call_of, call_on, entered};
 
-use vx_java::parts::is_array;
-use vx_java::{Selected, assignable, select};
+use crate::target::{Target, accepts, selected};
+use vx_heap::Heap;
+use vx_java::{Selected, assignable};
 use vx_link::Program;
+use vx_space::Space;
 use vx_value::{ClassId, Exact, MethodId, Slot};
 
-/// The operand under the argument, where the argument is an int.
+/// What a call comes to at one configuration, where its arguments fit.
 #[derive(Clone, Copy, PartialEq, Eq, PartialOrd, Ord)]
-pub enum Receiver {
-    /// The argument is no int, or no reference is under it.
-    Illegal,
-    Null,
-    /// The number of the object.
-    Object(u64),
-}
-
-impl Exact for Receiver {
-    ghost use Rattle.vx_invoke.specs.Receivers.{receiver_exact};
-
-    ghost exact = { receiver_exact };
-}
-
-/// What a call of a method comes to on an object of a class.
-#[derive(Clone, Copy)]
 pub enum Call {
-    /// The object is not of the named class.
+    /// The receiver is no reference, or its object is not of the named class.
     Illegal,
+    /// The receiver is null.
+    Null,
+    /// The object doesn't implement the named interface, or several superinterfaces give a method.
+    WrongKind,
     /// The method that is selected has no body.
     Abstract,
-    /// Several superinterfaces give one.
-    Conflict,
     /// The native method isn't one of those that the machine has.
     Missing(MethodId),
     /// The native method is carried out.
@@ -43,25 +31,10 @@ pub enum Call {
     Enter(MethodId),
 }
 
-/// The receiver by the two operands.
-pub(crate) fn receiver_of(argument: Slot, receiver: Slot) -> Receiver
-    ensures { result ≡ receiver_of argument receiver }
-{
-    match (argument, receiver) {
-        (Slot::Int(_), Slot::Null) => Receiver::Null,
-        (Slot::Int(_), Slot::Ref(reference)) => Receiver::Object(reference),
-        _ => Receiver::Illegal,
-    }
-}
+impl Exact for Call {
+    ghost use Rattle.vx_invoke.specs.Calls.{call_exact};
 
-/// Whether an object of a class may be the receiver where a class is named: any array where that is an array class.
-pub fn accepts(program: &Program, named: ClassId, class: ClassId) -> bool
-    ensures { result ≡ accepts program.now named.0 class.0 }
-{
-    if is_array(program, named) {
-        return is_array(program, class);
-    }
-    assignable(program, class, named)
+    ghost exact = { call_exact };
 }
 
 fn has_code(program: &Program, method: MethodId) -> bool
@@ -82,8 +55,8 @@ fn native_number(program: &Program, method: MethodId) -> u32
     }
 }
 
-/// What a selected method comes to, by what it has.
-pub fn entered(program: &Program, method: MethodId) -> Call
+/// A method that was selected, by what it has.
+fn entered(program: &Program, method: MethodId) -> Call
     ensures { result ≡ entered program.now method.0 }
 {
     if has_code(program, method) {
@@ -95,17 +68,46 @@ pub fn entered(program: &Program, method: MethodId) -> Call
     Call::Native(method)
 }
 
-/// What a virtual call comes to: the method is selected by the class of the receiver (JVMS 6.5 invokevirtual).
-pub fn call_of(program: &Program, named: ClassId, resolved: MethodId, class: ClassId) -> Call
-    requires { HasClassNumbers program.now }
-    ensures { result ≡ call_of program.now named.0 resolved.0 class.0 }
+/// What a selection comes to.
+pub(crate) fn by_selected(program: &Program, selected: Selected) -> Call
+    ensures { result ≡ by_selected program.now selected }
 {
-    if !accepts(program, named, class) {
-        return Call::Illegal;
-    }
-    match select(program, class, resolved) {
+    match selected {
         Selected::Method(method) => entered(program, method),
         Selected::Abstract => Call::Abstract,
-        Selected::Conflict => Call::Conflict,
+        Selected::Conflict => Call::WrongKind,
+    }
+}
+
+/// What a call comes to on an object of a class.
+fn call_on(program: &Program, target: &Target, class: ClassId) -> Call
+    requires { HasClassNumbers program.now }
+    ensures { result ≡ call_on program.now target.now class.0 }
+{
+    if !accepts(program, target, class) {
+        return Call::Illegal;
+    }
+    if target.by_interface && !assignable(program, class, target.named) {
+        return Call::WrongKind;
+    }
+    by_selected(program, selected(program, target, class))
+}
+
+/// What a call on an object comes to, by the operand that is the receiver: the class of its object selects the method.
+pub(crate) fn call_of<S: Space>(
+    program: &Program,
+    heap: &Heap<S>,
+    target: &Target,
+    receiver: Slot,
+) -> Call
+    requires { HasClassNumbers program.now }
+    ensures { result ≡ call_of program.now heap.now target.now receiver }
+{
+    if let Slot::Null = receiver {
+        return Call::Null;
+    }
+    match heap.class_at(receiver) {
+        Some(class) => call_on(program, target, class),
+        None => Call::Illegal,
     }
 }

@@ -1,9 +1,16 @@
-//! The family of calls, as far as it is built: invokevirtual of println of an int.
+//! The family of calls (JVMS 6.5 invokestatic, invokespecial, invokevirtual, invokeinterface, Java SE 8): what the name comes to is the
+//! same in all runs; then the operands are judged, and a group is divided by the methods that its receivers select.
 #![tactic(auto)]
 
+mod arguments;
 pub mod call;
+mod entering;
+mod instances;
 pub mod invoking;
-pub mod println;
+mod statics;
+pub mod target;
+mod unresolved;
 
-pub use call::{Call, Receiver, accepts, entered};
-pub use invoking::{attempt, called_part};
+pub use call::Call;
+pub use invoking::attempt;
+pub use target::Target;

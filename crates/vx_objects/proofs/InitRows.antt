@@ -29,7 +29,7 @@ use Rattle.vx_java.specs.declared.operation.Operation.{Operation}
 use Rattle.vx_link.specs.Parts.{class_at, has, method_at}
 use Rattle.vx_link.specs.declared.program.LinkedMethod.{LinkedMethod}
 use Rattle.vx_list.specs.Places.{item_or}
-use Rattle.vx_objects.proofs.Operands.{few-attempts, made-attempts}
+use Rattle.vx_families.proofs.Operands.{few-attempts, made-attempts}
 use Rattle.vx_objects.proofs.Rows.{instance_is}
 use Rattle.vx_objects.specs.Answers.{initialised, is_instance}
 use Rattle.vx_opcode.specs.Decode.{instruction_at}

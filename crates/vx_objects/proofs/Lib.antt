@@ -1,4 +1,3 @@
-pub mod Operands
 pub mod Rows
 pub mod FieldRows
 pub mod FieldPlaces
@@ -6,5 +5,3 @@ pub mod Reaching
 pub mod Missing
 pub mod MakingRows
 pub mod InitRows
-pub mod InitNames
-pub mod InitCalls

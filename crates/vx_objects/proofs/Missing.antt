@@ -28,7 +28,7 @@ use Rattle.vx_link.specs.ClassNames.{class_named}
 use Rattle.vx_link.specs.Names.{class_name}
 use Rattle.vx_link.specs.Parts.{class_at, method_at}
 use Rattle.vx_objects.specs.Answers.{cast_top, is_null, names_nothing, told_top, without_class}
-use Rattle.vx_objects.proofs.Operands.{one_answer}
+use Rattle.vx_families.proofs.Operands.{one_answer}
 use Rattle.vx_outcome.specs.declared.outcome.Outcome.{Outcome as SharedOutcome}
 use Rattle.vx_ready.proofs.Splitting.{split-gives}
 use Rattle.vx_space.specs.Sets.{Extends, IsSet, Sets}

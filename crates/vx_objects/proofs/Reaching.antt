@@ -1,5 +1,5 @@
 -- From conditional places of cells, and what was read or written there, to the attempt.
-use Rattle.std.proofs.Common.{◌≡◌, ℕ, ◌+◌, ◌<◌, ◌≤◌, Bool, true, false, List, [], ◌∷◌, refl, sym, ◌∙◌, ap, subst, arith, drop, length, map, if◌then◌else◌}
+use Rattle.std.proofs.Common.{◌≡◌, ℕ, ◌+◌, ◌≤◌, Bool, true, List, ◌∷◌, refl, sym, ◌∙◌, ap, subst, drop, length, map, if◌then◌else◌}
 use Rattle.std.proofs.lemmas.Bool.{lt-ltb}
 use Rattle.std.specs.Prelude.{Option, Some, None, is_some, nat_le, unwrap_or}
 use Rattle.vx_cells.specs.Places.{place_cmp, place_if}
@@ -24,7 +24,7 @@ use Rattle.vx_group.proofs.CallerLaws.{Keeps-refl}
 use Rattle.vx_group.proofs.GroupLaws.{IsGroup-path_known}
 use Rattle.vx_group_states.specs.Answering.{AreHeld, answer_at, answered, answered_by, is_answer_held, operands_at}
 use Rattle.vx_group_states.specs.Sites.{GivesAt, here}
-use Rattle.vx_group_states.specs.Stands.{StandsIn, state_at}
+use Rattle.vx_group_states.specs.Stands.{state_at}
 use Rattle.vx_group_states.specs.Widths.{slots_size}
 use Rattle.vx_group_states.specs.declared.answer.Answer.{Answer}
 use Rattle.vx_group_states.specs.declared.site.Site.{Site}
@@ -32,7 +32,7 @@ use Rattle.vx_group_states.proofs.GrownStates.{StandsIn-grown}
 use Rattle.vx_group_states.proofs.Operands.{length-operands}
 use Rattle.vx_growth.specs.Changing.{IsChangedIn, changed_in, with_globals}
 use Rattle.vx_growth.proofs.ChangeLaws.{attempts_follow}
-use Rattle.vx_heap.specs.Heap.{Globals, HeapView, IsHeap, are_held, globals_at, name_at, objects_at, value_of}
+use Rattle.vx_heap.specs.Heap.{Globals, HeapView, IsHeap, globals_at, name_at, objects_at, value_of}
 use Rattle.vx_heap.proofs.Growing.{Grows-trans}
 use Rattle.vx_heap.proofs.HeapLaws.{IsHeap-extends, globals_at-extends, is_held-extends, name_at-extends, value_of-extends}
 use Rattle.vx_java.specs.Checks.{sort_of, width_of_type}

@@ -1,29 +1,26 @@
 -- What instructions of objects make of slots is what their rows make of the plain values.
 use Rattle.std.proofs.Common.{◌≡◌, ℕ, ℤ, ◌<◌, ◌≤◌, Bool, true, false, List, [], ◌∷◌, refl, sym, ◌∙◌, ap, arith, drop, map, length, if◌then◌else◌}
 use Rattle.std.proofs.lemmas.Bool.{eq-eqb, eqb-true}
-use Rattle.std.specs.Prelude.{◌↔◌, ◌==◌, ◌&&◌, None, Option, Some, not}
+use Rattle.std.specs.Prelude.{◌↔◌, ◌==◌, ◌&&◌, None, not}
 use Rattle.vx_arith.specs.Numbers.{branch_by}
 use Rattle.vx_arith.specs.declared.spot.Spot.{Spot}
 use Rattle.vx_arith.proofs.RowLaws.{IsSpotOf, branch_row}
 use Rattle.vx_cells.proofs.ObjectClasses.{class_there}
 use Rattle.vx_group_states.specs.Answering.{answered, is_answer_held}
-use Rattle.vx_group_states.specs.declared.answer.Answer.{Answer}
 use Rattle.vx_group_states.specs.declared.answer.Answer.TheVariants as answer
 use Rattle.vx_group_states.proofs.Operands.{item_held}
 use Rattle.vx_growth.proofs.NameLaws.{names_tell}
 use Rattle.vx_heap.specs.Heap.{HeapView, are_held, is_held, name_at, objects_at, value_of}
-use Rattle.vx_java.specs.Checks.{if_there, is_of, same_bool, same_reference, with_class}
+use Rattle.vx_java.specs.Checks.{is_of, same_bool, same_reference}
 use Rattle.vx_java.specs.Jumps.{branch, if_same}
-use Rattle.vx_java.specs.Machine.{Here, Outcome, Raise, Value, go, illegal, no_object, push, raise, unsupported, when}
-use Rattle.vx_java.specs.Machine.{Top as TopValue, Int as IntValue, Long as LongValue, Null as NullValue, Ref as RefValue, Text as TextValue}
-use Rattle.vx_java.specs.Objects.{against, check_cast, instance_of, int_of_bool, monitor}
-use Rattle.vx_java.specs.Operation.{class_word}
+use Rattle.vx_java.specs.Machine.{Here, Raise, Value, go, illegal, no_object, push, raise, when}
+use Rattle.vx_java.specs.Objects.{int_of_bool, monitor}
 use Rattle.vx_java.specs.declared.operation.Sort.TheVariants.{Reference}
 use Rattle.vx_link.specs.Assignability.{assignable}
-use Rattle.vx_link.specs.ClassNames.{class_named, core_class}
+use Rattle.vx_link.specs.ClassNames.{core_class}
 use Rattle.vx_link.specs.declared.program.Program.{Program}
 use Rattle.vx_list.specs.Places.{item_or}
-use Rattle.vx_objects.specs.Answers.{cast, cast_top, compared, int_of, is_instance, is_reference, monitored, names_nothing, same_slots, told, told_top}
+use Rattle.vx_objects.specs.Answers.{cast, cast_top, compared, int_of, is_instance, is_reference, monitored, same_slots, told, told_top}
 use Rattle.vx_space.specs.Sets.{Sets}
 use Rattle.vx_value.specs.declared.ids.ClassId.{ClassId}
 use Rattle.vx_value.specs.declared.slot.Slot.{Slot}

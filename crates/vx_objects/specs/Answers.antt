@@ -107,12 +107,6 @@ stored_place p heap named cell sort value object = place_if (field_place p heap 
 
 -- ---- Object's <init>
 
--- the call, on an operand that is no object of the named class
-abbrev pub constructed : (null : ClassId) → Slot → Answer
-constructed null Null = answer.Raise null None
-constructed null _ = answer.Illegal
-
--- the native method
 abbrev pub initialised : {S I : Type 0} → Program → HeapView S I → (class : ℕ) → Slot → Answer
 initialised p heap class Null = answer.Pass
 initialised p heap class (Ref r) = if is_instance p heap class (Ref r) then answer.Pass else answer.Illegal

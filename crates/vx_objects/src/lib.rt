@@ -11,5 +11,5 @@ mod instances;
 mod making;
 
 pub use attempting::attempt;
-pub use constructing::{call_init, is_object_init, object_init};
+pub use constructing::object_init;
 pub use family::is_of_objects;

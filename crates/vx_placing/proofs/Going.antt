@@ -40,7 +40,7 @@ use Rattle.vx_standing.proofs.Waiting.{no_group, none_waits, waiting_at-extends}
 
 pub IsVacant-inside : {S I : Type 0} (p : Program) {old new : Sets I} → Extends old new → (heap : HeapView S I) → IsHeap old heap → (limit : ℕ) (round : Round S I) (a b : List Bool → Bool) → IsUnderway p old heap limit round → ((c : List Bool) → b c ≡ true → a c ≡ true) → IsVacant old round a → IsVacant new round b
 IsVacant-inside p {old = old} {new = new} e heap v limit round a b u h n = record {
-  groups = λ c t. none_waits new heap round.callers round.groups.items c (waiting_at-extends e heap v round.callers round.groups.items u.waiting.are_groups c ∙ no_group old heap round.callers round.groups.items c (n.groups c (h c t)));
+  groups = λ c t. none_waits new heap round.callers round.groups c (waiting_at-extends e heap v round.callers round.groups u.waiting.are_groups c ∙ no_group old heap round.callers round.groups c (n.groups c (h c t)));
   ends = λ c t. value_at-extends compare_ends e (leaves_of round.ends.items) u.ends c ∙ n.ends c (h c t);
   spent = λ c t. value_at-extends nat_cmp e (leaves_of round.spent.items) u.spent c ∙ n.spent c (h c t);
 }
@@ -96,7 +96,7 @@ pub used_same : {S I : Type 0} (p : Program) (old new : Sets I) (heap : HeapView
 used_same {S = S} {I = I} p old new heap limit made a b before after h q = record {
   underway = q.underway;
   keeps = q.keeps;
-  waits = λ c. q.waits c ∙ waits c (h c) (waiting_at old heap before.callers before.groups.items c);
+  waits = λ c. q.waits c ∙ waits c (h c) (waiting_at old heap before.callers before.groups c);
   ends = λ c. q.ends c ∙ ends c (h c) (value_at old (leaves_of before.ends.items) c);
   spent = λ c. q.spent c ∙ spent c (h c) (value_at old (leaves_of before.spent.items) c);
 }
@@ -224,7 +224,7 @@ pub IsVacant-text : {S I : Type 0} (p : Program) {s0 s1 : Sets I} → Extends s0
 IsVacant-text p {s0 = s0} {s1 = s1} e heap v limit before middle path known u n groups ends spent =
     let later = IsVacant-inside p e heap v limit before (s0.test path) (s1.test path) u (λ c t. sym (e.test path c known) ∙ t) n in
     record {
-      groups = λ c t. ap (λ g. group_of s1 g.items c) groups ∙ later.groups c t;
+      groups = λ c t. ap (λ g. group_of s1 g c) groups ∙ later.groups c t;
       ends = λ c t. ap (λ x. value_at s1 (leaves_of x.items) c) ends ∙ later.ends c t;
       spent = λ c t. ap (λ x. value_at s1 (leaves_of x.items) c) spent ∙ later.spent c t;
     }
@@ -236,7 +236,7 @@ IsPut-text {S = S} {I = I} p {s0 = s0} {s1 = s1} s2 e heap v limit group before 
     let told : IsPut p s1 s2 heap limit (attempts_at s1 group) goes before after = record {
       underway = q.underway;
       keeps = (let P : List (Option (Caller S I)) → Type 0 = λ tree. Keeps tree after.callers in subst P callers q.keeps);
-      waits = λ c. q.waits c ∙ ap (λ t. put_if (waits_after limit (attempts_at s1 group c)) (goes c) (waiting_at s1 heap t middle.groups.items c)) callers ∙ ap (λ g. put_if (waits_after limit (attempts_at s1 group c)) (goes c) (waiting_at s1 heap before.callers g.items c)) groups;
+      waits = λ c. q.waits c ∙ ap (λ t. put_if (waits_after limit (attempts_at s1 group c)) (goes c) (waiting_at s1 heap t middle.groups c)) callers ∙ ap (λ g. put_if (waits_after limit (attempts_at s1 group c)) (goes c) (waiting_at s1 heap before.callers g c)) groups;
       ends = λ c. q.ends c ∙ ap (λ x. put_if (end_after limit (attempts_at s1 group c)) (goes c) (value_at s1 (leaves_of x.items) c)) ends;
       spent = λ c. q.spent c ∙ ap (λ x. put_if (spent_after limit (attempts_at s1 group c)) (goes c) (value_at s1 (leaves_of x.items) c)) spent;
     } in

@@ -108,25 +108,25 @@ below_limit : (a n : ℕ) → a < n → nat_lt a n ≡ true
 below_limit a n h = grind (arith, nat_tests)
 
 -- the runs of a group go on, with attempts left
-pub IsPut-waits : {S I : Type 0} (p : Program) {old new : Sets I} → Extends old new → (heap : HeapView S I) → IsHeap old heap → (limit : ℕ) (group : GroupView S I) (before after : Round S I) → StandsIn p old heap before.callers group → ((c : List Bool) → old.test (path_of group) c ≡ true → attempts_at old group c < limit) → IsUnderway p old heap limit before → IsVacant old before (old.test (path_of group)) → sched.IsPlaced old new before.callers after.callers before.groups.items group after.groups.items → Keeps before.callers after.callers → after.ends.items ≡ before.ends.items → after.spent.items ≡ before.spent.items → after.texts.items ≡ before.texts.items → IsPut p old new heap limit (attempts_at old group) (leads_in old (path_of group) (λ c. Goes (state_at old heap before.callers group c))) before after
+pub IsPut-waits : {S I : Type 0} (p : Program) {old new : Sets I} → Extends old new → (heap : HeapView S I) → IsHeap old heap → (limit : ℕ) (group : GroupView S I) (before after : Round S I) → StandsIn p old heap before.callers group → ((c : List Bool) → old.test (path_of group) c ≡ true → attempts_at old group c < limit) → IsUnderway p old heap limit before → IsVacant old before (old.test (path_of group)) → sched.IsPlaced old new before.callers after.callers before.groups group after.groups → Keeps before.callers after.callers → after.ends.items ≡ before.ends.items → after.spent.items ≡ before.spent.items → after.texts.items ≡ before.texts.items → IsPut p old new heap limit (attempts_at old group) (leads_in old (path_of group) (λ c. Goes (state_at old heap before.callers group c))) before after
 IsPut-waits {S = S} {I = I} p {old = old} {new = new} e heap v limit group before after s l u n q keeps ends spent texts =
     let new_ends = findings_stay compare_ends e before.ends.items after.ends.items ends u.ends in
     let new_spent = findings_stay nat_cmp e before.spent.items after.spent.items spent u.spent in
     let new_texts = findings_stay piece_cmp e before.texts.items after.texts.items texts u.texts in
     record {
       underway = record {
-        waiting = AreWaiting-placed p e heap v limit before.groups.items after.groups.items group u.waiting s.shaped (λ c t. record { runs = s.runs.inside c t; held = s.held c t; left = l c t }) q;
+        waiting = AreWaiting-placed p e heap v limit before.groups after.groups group u.waiting s.shaped (λ c t. record { runs = s.runs.inside c t; held = s.held c t; left = l c t }) q;
         ends = new_ends.0;
         spent = new_spent.0;
         texts = new_texts.0;
       };
       keeps = keeps;
-      waits = λ c. waiting_at-placed e heap v before.groups.items after.groups.items group q c ∙ waits c (old.test (path_of group) c) (l c);
+      waits = λ c. waiting_at-placed e heap v before.groups after.groups group q c ∙ waits c (old.test (path_of group) c) (l c);
       ends = λ c. new_ends.1 c ∙ ends_at c (old.test (path_of group) c) (l c) (n.ends c);
       spent = λ c. new_spent.1 c ∙ spent_at c (old.test (path_of group) c) (l c) (n.spent c);
     }
   where
-    waits : (c : List Bool) (b : Bool) → (b ≡ true → attempts_at old group c < limit) → (if b then Some (run_by old heap c (group_at old before.callers group c)) else waiting_at old heap before.callers before.groups.items c) ≡ put_if (waits_after limit (attempts_at old group c)) (if b then Some (Goes (state_at old heap before.callers group c)) else None) (waiting_at old heap before.callers before.groups.items c)
+    waits : (c : List Bool) (b : Bool) → (b ≡ true → attempts_at old group c < limit) → (if b then Some (run_by old heap c (group_at old before.callers group c)) else waiting_at old heap before.callers before.groups c) ≡ put_if (waits_after limit (attempts_at old group c)) (if b then Some (Goes (state_at old heap before.callers group c)) else None) (waiting_at old heap before.callers before.groups c)
     waits c true h = rw (below_limit (attempts_at old group c) limit (h refl)) refl
     waits c false h = refl
 

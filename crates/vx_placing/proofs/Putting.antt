@@ -25,7 +25,7 @@ use Rattle.vx_standing.proofs.Waiting.{AreWaiting-extends, no_group, none_waits,
 
 pub IsUnderway-extends : {S I : Type 0} (p : Program) {old new : Sets I} → Extends old new → (heap : HeapView S I) → IsHeap old heap → (limit : ℕ) (round : Round S I) → IsUnderway p old heap limit round → IsUnderway p new heap limit round
 IsUnderway-extends p e heap v limit round u = record {
-  waiting = AreWaiting-extends p e heap v round.callers limit round.groups.items u.waiting;
+  waiting = AreWaiting-extends p e heap v round.callers limit round.groups u.waiting;
   ends = AreLeaves-extends compare_ends e (leaves_of round.ends.items) u.ends;
   spent = AreLeaves-extends nat_cmp e (leaves_of round.spent.items) u.spent;
   texts = AreLeaves-extends piece_cmp e (leaves_of round.texts.items) u.texts;
@@ -36,7 +36,7 @@ pub IsPut-before : {S I : Type 0} (p : Program) {s0 s1 : Sets I} (s2 : Sets I) �
 IsPut-before p s2 e heap v limit made leads before after u q = record {
   underway = q.underway;
   keeps = q.keeps;
-  waits = λ c. q.waits c ∙ ap (λ o. put_if (waits_after limit (made c)) (leads c) o) (waiting_at-extends e heap v before.callers before.groups.items u.waiting.are_groups c);
+  waits = λ c. q.waits c ∙ ap (λ o. put_if (waits_after limit (made c)) (leads c) o) (waiting_at-extends e heap v before.callers before.groups u.waiting.are_groups c);
   ends = λ c. q.ends c ∙ ap (λ o. put_if (end_after limit (made c)) (leads c) o) (value_at-extends compare_ends e (leaves_of before.ends.items) u.ends c);
   spent = λ c. q.spent c ∙ ap (λ o. put_if (spent_after limit (made c)) (leads c) o) (value_at-extends nat_cmp e (leaves_of before.spent.items) u.spent c);
 }
@@ -51,7 +51,7 @@ pub IsPut-then : {S I : Type 0} (p : Program) (s0 s1 s2 : Sets I) (heap : HeapVi
 IsPut-then p s0 s1 s2 heap limit made a b before middle after x y = record {
   underway = y.underway;
   keeps = Keeps-trans x.keeps y.keeps;
-  waits = λ c. y.waits c ∙ ap (λ o. put_if (waits_after limit (made c)) (b c) o) (x.waits c) ∙ then_put (waits_after limit (made c)) (a c) (b c) (waiting_at s0 heap before.callers before.groups.items c);
+  waits = λ c. y.waits c ∙ ap (λ o. put_if (waits_after limit (made c)) (b c) o) (x.waits c) ∙ then_put (waits_after limit (made c)) (a c) (b c) (waiting_at s0 heap before.callers before.groups c);
   ends = λ c. y.ends c ∙ ap (λ o. put_if (end_after limit (made c)) (b c) o) (x.ends c) ∙ then_put (end_after limit (made c)) (a c) (b c) (value_at s0 (leaves_of before.ends.items) c);
   spent = λ c. y.spent c ∙ ap (λ o. put_if (spent_after limit (made c)) (b c) o) (x.spent c) ∙ then_put (spent_after limit (made c)) (a c) (b c) (value_at s0 (leaves_of before.spent.items) c);
 }
@@ -61,7 +61,7 @@ pub IsPut-same : {S I : Type 0} (p : Program) (old new : Sets I) (heap : HeapVie
 IsPut-same p old new heap limit m n a b before after e k q = record {
   underway = q.underway;
   keeps = q.keeps;
-  waits = λ c. q.waits c ∙ ap (λ o. put_if (waits_after limit (m c)) o (waiting_at old heap before.callers before.groups.items c)) (e c) ∙ numbers (waits_after limit) (m c) (n c) (b c) (waiting_at old heap before.callers before.groups.items c) (k c);
+  waits = λ c. q.waits c ∙ ap (λ o. put_if (waits_after limit (m c)) o (waiting_at old heap before.callers before.groups c)) (e c) ∙ numbers (waits_after limit) (m c) (n c) (b c) (waiting_at old heap before.callers before.groups c) (k c);
   ends = λ c. q.ends c ∙ ap (λ o. put_if (end_after limit (m c)) o (value_at old (leaves_of before.ends.items) c)) (e c) ∙ numbers (end_after limit) (m c) (n c) (b c) (value_at old (leaves_of before.ends.items) c) (k c);
   spent = λ c. q.spent c ∙ ap (λ o. put_if (spent_after limit (m c)) o (value_at old (leaves_of before.spent.items) c)) (e c) ∙ numbers (spent_after limit) (m c) (n c) (b c) (value_at old (leaves_of before.spent.items) c) (k c);
 }
@@ -73,7 +73,7 @@ IsPut-same p old new heap limit m n a b before after e k q = record {
 -- what is vacant stays so where nothing is put
 pub IsVacant-put : {S I : Type 0} (p : Program) (old new : Sets I) (heap : HeapView S I) (limit : ℕ) (made : List Bool → ℕ) (leads : List Bool → Option Next) (before after : Round S I) (set : List Bool → Bool) → IsPut p old new heap limit made leads before after → IsVacant old before set → ((c : List Bool) → set c ≡ true → leads c ≡ None) → IsVacant new after set
 IsVacant-put p old new heap limit made leads before after set q n h = record {
-  groups = λ c t. none_waits new heap after.callers after.groups.items c (q.waits c ∙ rw (h c t) (no_group old heap before.callers before.groups.items c (n.groups c t)));
+  groups = λ c t. none_waits new heap after.callers after.groups c (q.waits c ∙ rw (h c t) (no_group old heap before.callers before.groups c (n.groups c t)));
   ends = λ c t. q.ends c ∙ rw (h c t) (n.ends c t);
   spent = λ c t. q.spent c ∙ rw (h c t) (n.spent c t);
 }
@@ -89,7 +89,7 @@ some_inside sets attempts c v t = cases (cond_at sets attempts c) (cond_at-cover
 
 pub IsPut-ended : {S I : Type 0} (p : Program) {old new : Sets I} → Extends old new → (heap : HeapView S I) → IsHeap old heap → (limit : ℕ) (attempts : Conditional ℕ S I) (condition : I) (end : End) (before after : Round S I) → IsUnderway p old heap limit before → IsVacant old before (old.test condition) → IsCond nat_cmp old attempts → IsInside old condition attempts.scope → IsEnded old new attempts condition end before after → IsPut p old new heap limit (made_at old attempts) (leads_in old condition (λ _. Ends end)) before after
 IsPut-ended {S = S} {I = I} p {old = old} {new = new} e heap v limit attempts condition end before after u n k i q =
-    let waiting = AreWaiting-extends p e heap v before.callers limit before.groups.items u.waiting in
+    let waiting = AreWaiting-extends p e heap v before.callers limit before.groups u.waiting in
     record {
       underway = record {
         waiting = rw (q.callers, q.groups) waiting;
@@ -98,12 +98,12 @@ IsPut-ended {S = S} {I = I} p {old = old} {new = new} e heap v limit attempts co
         texts = rw q.texts (AreLeaves-extends piece_cmp e (leaves_of before.texts.items) u.texts);
       };
       keeps = rw q.callers (Keeps-refl before.callers);
-      waits = λ c. ap (λ t. waiting_at new heap t after.groups.items c) q.callers ∙ ap (λ g. waiting_at new heap before.callers g.items c) q.groups ∙ waiting_at-extends e heap v before.callers before.groups.items u.waiting.are_groups c ∙ waits c (old.test condition c) (λ t. no_group old heap before.callers before.groups.items c (n.groups c t));
+      waits = λ c. ap (λ t. waiting_at new heap t after.groups c) q.callers ∙ ap (λ g. waiting_at new heap before.callers g c) q.groups ∙ waiting_at-extends e heap v before.callers before.groups u.waiting.are_groups c ∙ waits c (old.test condition c) (λ t. no_group old heap before.callers before.groups c (n.groups c t));
       ends = λ c. q.ends.values c ∙ ends_at c (old.test condition c);
       spent = λ c. q.spent.values c ∙ spent_at c (old.test condition c) (n.spent c) (λ t. some_inside old attempts c k (i.inside c t));
     }
   where
-    waits : (c : List Bool) (b : Bool) → (b ≡ true → waiting_at old heap before.callers before.groups.items c ≡ None) → waiting_at old heap before.callers before.groups.items c ≡ put_if (waits_after limit (made_at old attempts c)) (if b then Some (Ends end) else None) (waiting_at old heap before.callers before.groups.items c)
+    waits : (c : List Bool) (b : Bool) → (b ≡ true → waiting_at old heap before.callers before.groups c ≡ None) → waiting_at old heap before.callers before.groups c ≡ put_if (waits_after limit (made_at old attempts c)) (if b then Some (Ends end) else None) (waiting_at old heap before.callers before.groups c)
     waits c true h = h refl
     waits c false h = refl
 

@@ -27,14 +27,14 @@ use Rattle.vx_standing.specs.Waiting.{AreWaiting, end_after, piece_after, spent_
 -- ---- what is under way
 
 pub record IsUnderway {S I : Type 0} (p : Program) (sets : Sets I) (heap : HeapView S I) (limit : ℕ) (round : Round S I) : Type 0 where
-  pub waiting : AreWaiting p sets heap round.callers limit round.groups.items
+  pub waiting : AreWaiting p sets heap round.callers limit round.groups
   pub ends : AreLeaves compare_ends sets (leaves_of round.ends.items)
   pub spent : AreLeaves nat_cmp sets (leaves_of round.spent.items)
   pub texts : AreLeaves piece_cmp sets (leaves_of round.texts.items)
 
 -- nothing waits in a set, and nothing has come to its end there
 pub record IsVacant {S I : Type 0} (sets : Sets I) (round : Round S I) (set : List Bool → Bool) : Type 0 where
-  pub groups : (c : List Bool) → set c ≡ true → group_of sets round.groups.items c ≡ None
+  pub groups : (c : List Bool) → set c ≡ true → group_of sets round.groups c ≡ None
   pub ends : (c : List Bool) → set c ≡ true → value_at sets (leaves_of round.ends.items) c ≡ None
   pub spent : (c : List Bool) → set c ≡ true → value_at sets (leaves_of round.spent.items) c ≡ None
 
@@ -53,7 +53,7 @@ put_if put (Some next) before = put next
 pub record IsPut {S I : Type 0} (p : Program) (old new : Sets I) (heap : HeapView S I) (limit : ℕ) (made : List Bool → ℕ) (leads : List Bool → Option Next) (before after : Round S I) : Type 0 where
   pub underway : IsUnderway p new heap limit after
   pub keeps : Keeps before.callers after.callers
-  pub waits : (c : List Bool) → waiting_at new heap after.callers after.groups.items c ≡ put_if (waits_after limit (made c)) (leads c) (waiting_at old heap before.callers before.groups.items c)
+  pub waits : (c : List Bool) → waiting_at new heap after.callers after.groups c ≡ put_if (waits_after limit (made c)) (leads c) (waiting_at old heap before.callers before.groups c)
   pub ends : (c : List Bool) → value_at new (leaves_of after.ends.items) c ≡ put_if (end_after limit (made c)) (leads c) (value_at old (leaves_of before.ends.items) c)
   pub spent : (c : List Bool) → value_at new (leaves_of after.spent.items) c ≡ put_if (spent_after limit (made c)) (leads c) (value_at old (leaves_of before.spent.items) c)
 

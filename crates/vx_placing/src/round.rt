@@ -1,9 +1,10 @@
 //! What is under way in a round.
 
 use vx_findings::{Piece, Shared};
-use vx_group::{Callers, Group};
+use vx_group::Callers;
 use vx_heap::Heap;
 use vx_link::Program;
+use vx_sched::Waiting;
 use vx_space::Space;
 use vx_value::End;
 
@@ -12,7 +13,7 @@ use vx_value::End;
 pub struct Round<S: Space> {
     pub callers: Callers<S>,
     /// The groups that wait for their next attempt.
-    pub groups: Vec<Group<S>>,
+    pub groups: Waiting<S>,
     pub ends: Vec<Shared<End, S>>,
     pub spent: Vec<Shared<u64, S>>,
     /// What this round wrote.

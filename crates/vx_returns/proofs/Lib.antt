@@ -1,2 +1,4 @@
-pub mod EndLaws
 pub mod ReturnLaws
+pub mod ReceiveLaws
+pub mod LeaveLaws
+pub mod MarkLaws

@@ -3,4 +3,5 @@
 
 pub mod stepping;
 
-pub use stepping::step_group;
+pub use stepping::{make_round, next_round, step_group};
+pub use vx_turns::Upkeep;

@@ -1,12 +1,11 @@
-//! One round.
+//! One round, by itself and with the upkeep between rounds.
 
-ghost use Rattle.std.specs.Prelude.{◌≡◌, ◌<◌, Err, OnOk, Some, length, map, slice_get, true};
+ghost use Rattle.std.specs.Prelude.{◌≡◌, ◌<◌, Err, OnOk, length, map, true};
 ghost use Rattle.vx_space.specs.Sets.{Extends};
 ghost use Rattle.vx_space.specs.Under.{IsNumberUnder};
-ghost use Rattle.vx_group.specs.Group.{GroupView};
 ghost use Rattle.vx_standing.specs.Attempted.{IsUnbuiltThere};
-ghost use Rattle.vx_standing.specs.Rounds.{IsRound, IsStuck};
-ghost use Rattle.vx_standing.specs.State.{IsState, state_ids};
+ghost use Rattle.vx_standing.specs.Rounds.{IsRoundAt, IsStuckAt};
+ghost use Rattle.vx_standing.specs.State.{IsState, IsTreeKnown, state_ids};
 ghost use Rattle.vx_rounds.specs.Making.{MayMake};
 ghost use Rattle.vx_turns.specs.Turns.{IsMade};
 
@@ -20,7 +19,7 @@ use vx_link::Program;
 use vx_placing::{Round, Setting, place_all};
 use vx_space::Space;
 use vx_standing::State;
-use vx_turns::{begin_round, compact, end_round, spend};
+use vx_turns::{Upkeep, begin_round, compact, end_round, spend, sweep, tend};
 
 /// The group makes its attempt, and what this comes to takes its place. After a refusal heap and round are given up.
 fn make<S: Space>(
@@ -48,10 +47,10 @@ fn make<S: Space>(
     Ok(())
 }
 
-/// Makes a round with the group of a place: one attempt of each of its runs. It begins with a compaction, so afterwards only
-/// the ids of the state are sure to be known. `NotYet` comes only where a run of the group stands at what isn't built. After
+/// Makes a round with the group of a place: one attempt of each of its runs. The space is only extended, and callers that no group
+/// has any more stay, so it costs what its group costs. `NotYet` comes only where a run of the group stands at what isn't built. After
 /// a refusal the state is given up.
-pub fn step_group<S: Space>(
+pub fn make_round<S: Space>(
     alloc: Global,
     program: &Program,
     space: &mut S,
@@ -60,11 +59,10 @@ pub fn step_group<S: Space>(
 ) -> Result<(), AttemptFault>
     requires state { IsState program.now (S.sets space.old) state.old.heap.allowed state.old }
     requires which { which < length state.old.groups }
-    ensures ok { OnOk result ((group : GroupView S S.Id) × (slice_get state.old.groups which ≡ Some group) × IsRound program.now (S.sets space.old) (S.sets space.new) state.old.heap.allowed state.old state.new group) }
-    ensures not_yet { result ≡ Err AttemptFault.NotYet → (group : GroupView S S.Id) × (slice_get state.old.groups which ≡ Some group) × IsStuck program.now (S.sets space.old) state.old group }
-    ensures based { OnOk result ((S.sets space.new).counts ≡ true → IsNumberUnder (map (S.sets space.old).test (state_ids state.old)) (S.sets space.new).base) }
+    ensures extends { Extends (S.sets space.old) (S.sets space.new) }
+    ensures ok { OnOk result (IsRoundAt program.now (S.sets space.old) (S.sets space.new) state.old state.new which) }
+    ensures not_yet { result ≡ Err AttemptFault.NotYet → IsStuckAt program.now (S.sets space.old) state.old which }
 {
-    compact(alloc, space, state)?;
     let (begun, group) = begin_round(alloc, state, which);
     let mut round = begun;
     let (spent, attempts) = spend(space, group)?;
@@ -79,6 +77,49 @@ pub fn step_group<S: Space>(
         spent,
         &attempts,
     )?;
-    end_round(alloc, state, round)?;
+    end_round(state, round)?;
+    Ok(())
+}
+
+/// A round that begins with a compaction and ends with a sweep, so afterwards only the ids of the state are sure to be known. It
+/// costs what the whole state costs.
+pub fn step_group<S: Space>(
+    alloc: Global,
+    program: &Program,
+    space: &mut S,
+    state: &mut State<S>,
+    which: usize,
+) -> Result<(), AttemptFault>
+    requires state { IsState program.now (S.sets space.old) state.old.heap.allowed state.old }
+    requires tree { IsTreeKnown (S.sets space.old) state.old }
+    requires which { which < length state.old.groups }
+    ensures ok { OnOk result (IsRoundAt program.now (S.sets space.old) (S.sets space.new) state.old state.new which) }
+    ensures tree { OnOk result (IsTreeKnown (S.sets space.new) state.new) }
+    ensures not_yet { result ≡ Err AttemptFault.NotYet → IsStuckAt program.now (S.sets space.old) state.old which }
+    ensures based { OnOk result ((S.sets space.new).counts ≡ true → IsNumberUnder (map (S.sets space.old).test (state_ids state.old)) (S.sets space.new).base) }
+{
+    compact(alloc, space, state)?;
+    make_round(alloc, program, space, state, which)?;
+    sweep(alloc, state)?;
+    Ok(())
+}
+
+/// The next round of a run. A compaction or a sweep comes first where it is time to, so afterwards only the ids of the state are sure
+/// to be known.
+pub fn next_round<S: Space>(
+    alloc: Global,
+    program: &Program,
+    space: &mut S,
+    state: &mut State<S>,
+    upkeep: &mut Upkeep,
+    which: usize,
+) -> Result<(), AttemptFault>
+    requires state { IsState program.now (S.sets space.old) state.old.heap.allowed state.old }
+    requires which { which < length state.old.groups }
+    ensures ok { OnOk result (IsRoundAt program.now (S.sets space.old) (S.sets space.new) state.old state.new which) }
+    ensures not_yet { result ≡ Err AttemptFault.NotYet → IsStuckAt program.now (S.sets space.old) state.old which }
+{
+    tend(alloc, space, state, upkeep)?;
+    make_round(alloc, program, space, state, which)?;
     Ok(())
 }

@@ -1,2 +1,3 @@
 pub mod GroupsLaws
 pub mod PlaceLaws
+pub mod FirstKeys

@@ -4,6 +4,8 @@
 
 pub mod picker;
 pub mod placing;
+pub mod waiting;
 
 pub use picker::{LeastKey, Picker};
 pub use placing::{keys_of, place_group};
+pub use waiting::Waiting;

@@ -6,6 +6,7 @@ ghost use Rattle.vx_group.specs.Callers.{Keeps};
 ghost use Rattle.vx_group.specs.Group.{path_of, key_of, IsGroupIn};
 ghost use Rattle.vx_sched.specs.Groups.{HasKeyAt, AreApart, IsFresh, AreGroups, FitsAmong, IsPlaced};
 
+use crate::waiting::Waiting;
 use std::alloc::{AllocError, Global};
 use vx_group::{Callers, Group};
 use vx_space::{Space, SpaceFault};
@@ -39,20 +40,20 @@ fn place_of<S: Space>(groups: &[Group<S>], group: &Group<S>) -> Option<usize>
 fn join_at<S: Space>(
     callers: &mut Callers<S>,
     space: &mut S,
-    groups: &mut Vec<Group<S>>,
+    groups: &mut Waiting<S>,
     place: usize,
     group: Group<S>,
 ) -> Result<(), SpaceFault>
-    requires groups { AreGroups (S.sets space.old) callers.old groups.old.items }
+    requires groups { AreGroups (S.sets space.old) callers.old groups.old }
     requires group { IsGroupIn (S.sets space.old) callers.old group }
-    requires apart { AreApart (S.sets space.old) (path_of group) groups.old.items }
-    requires fits { FitsAmong callers.old group groups.old.items }
-    requires place { HasKeyAt groups.old.items place (key_of group) }
+    requires apart { AreApart (S.sets space.old) (path_of group) groups.old }
+    requires fits { FitsAmong callers.old group groups.old }
+    requires place { HasKeyAt groups.old place (key_of group) }
     ensures extends { Extends (S.sets space.old) (S.sets space.new) }
     ensures keeps { Keeps callers.old callers.new }
-    ensures placed { OnOk result (IsPlaced (S.sets space.old) (S.sets space.new) callers.old callers.new groups.old.items group groups.new.items) }
+    ensures placed { OnOk result (IsPlaced (S.sets space.old) (S.sets space.new) callers.old callers.new groups.old group groups.new) }
 {
-    let other = groups.remove(place);
+    let other = groups.take(place);
     let joined = other.join(callers, space, group)?;
     groups.push(joined)?;
     Ok(())
@@ -63,16 +64,16 @@ fn join_at<S: Space>(
 pub fn place_group<S: Space>(
     callers: &mut Callers<S>,
     space: &mut S,
-    groups: &mut Vec<Group<S>>,
+    groups: &mut Waiting<S>,
     group: Group<S>,
 ) -> Result<(), SpaceFault>
-    requires groups { AreGroups (S.sets space.old) callers.old groups.old.items }
+    requires groups { AreGroups (S.sets space.old) callers.old groups.old }
     requires group { IsGroupIn (S.sets space.old) callers.old group }
-    requires apart { AreApart (S.sets space.old) (path_of group) groups.old.items }
-    requires fits { FitsAmong callers.old group groups.old.items }
+    requires apart { AreApart (S.sets space.old) (path_of group) groups.old }
+    requires fits { FitsAmong callers.old group groups.old }
     ensures extends { Extends (S.sets space.old) (S.sets space.new) }
     ensures keeps { Keeps callers.old callers.new }
-    ensures placed { OnOk result (IsPlaced (S.sets space.old) (S.sets space.new) callers.old callers.new groups.old.items group groups.new.items) }
+    ensures placed { OnOk result (IsPlaced (S.sets space.old) (S.sets space.new) callers.old callers.new groups.old group groups.new) }
 {
     if space.is_never(group.path()) {
         return Ok(());

@@ -32,7 +32,7 @@ use Rattle.vx_group_states.specs.Stands.{frame_held, plain_frame, state_of}
 use Rattle.vx_value.specs.Ends.{compare_ends}
 use Rattle.vx_value.specs.Slot.{slot_cmp}
 use Rattle.vx_standing.specs.Waiting.{AreWaiting, IsGood, waiting_at}
-use Rattle.vx_standing.specs.State.{IsState, StateView, attempts_left, configurations, group_of, left_of, output_at, shared_ids, standing_at, state_ids}
+use Rattle.vx_standing.specs.State.{IsState, IsTreeKnown, StateView, attempts_left, configurations, group_of, left_of, output_at, shared_ids, standing_at, state_ids}
 use Rattle.vx_standing.proofs.Running.{AreRunning-waiting, AreWaiting-running, left_by, left_of-by, standing_at-by, standing_by}
 use Rattle.vx_standing.proofs.Counting.{attempts_in-same}
 use Rattle.vx_standing.proofs.Waiting.{no_frame, run_by, state_by, waiting_at-standing}
@@ -81,7 +81,7 @@ group_known sets tree group v =
     let is_group = IsGroupIn-group sets tree group v in
     AreKnown-append sets (cond_ids group.attempts) (frame_ids group.top) (cond_known nat_cmp sets group.attempts (IsGroup-attempts sets group is_group)) (frame_known sets group.top (IsGroup-top sets group is_group))
 
-groups_known : {S I : Type 0} (sets : Sets I) (tree : List (Option (Caller S I))) (groups : List (GroupView S I)) → sched.AreGroups sets tree groups → AreKnown sets (flat_map group_ids groups)
+pub groups_known : {S I : Type 0} (sets : Sets I) (tree : List (Option (Caller S I))) (groups : List (GroupView S I)) → sched.AreGroups sets tree groups → AreKnown sets (flat_map group_ids groups)
 groups_known sets tree [] a = tt
 groups_known sets tree (group ∷ groups) a = AreKnown-append sets (group_ids group) (flat_map group_ids groups) (group_known sets tree group a.0.is_group) (groups_known sets tree groups a.1)
 
@@ -89,11 +89,11 @@ pub findings_known : {V S I : Type 0} (cmp : V → V → Ordering) (sets : Sets 
 findings_known cmp sets [] h = tt
 findings_known cmp sets (x ∷ xs) h = (h.0.known, findings_known cmp sets xs h.1)
 
-pub state_known : {S I : Type 0} (p : Program) (sets : Sets I) (allowed : I) (st : StateView S I) → IsState p sets allowed st → AreKnown sets (state_ids st)
-state_known p sets allowed st h =
+pub state_known : {S I : Type 0} (p : Program) (sets : Sets I) (allowed : I) (st : StateView S I) → IsState p sets allowed st → IsTreeKnown sets st → AreKnown sets (state_ids st)
+state_known p sets allowed st h tree =
     AreKnown-append sets (heap_ids st.heap) (flat_map group_ids st.groups ++ (tree_ids st.tree ++ (shared_ids st.found ++ (shared_ids st.ends ++ shared_ids st.spent)))) (heap_known sets st.heap h.is_heap)
     (AreKnown-append sets (flat_map group_ids st.groups) (tree_ids st.tree ++ (shared_ids st.found ++ (shared_ids st.ends ++ shared_ids st.spent))) (groups_known sets st.tree st.groups h.groups)
-    (AreKnown-append sets (tree_ids st.tree) (shared_ids st.found ++ (shared_ids st.ends ++ shared_ids st.spent)) h.tree
+    (AreKnown-append sets (tree_ids st.tree) (shared_ids st.found ++ (shared_ids st.ends ++ shared_ids st.spent)) tree
     (AreKnown-append sets (shared_ids st.found) (shared_ids st.ends ++ shared_ids st.spent) h.found
     (AreKnown-append sets (shared_ids st.ends) (shared_ids st.spent) (findings_known compare_ends sets st.ends h.ends) (findings_known nat_cmp sets st.spent h.spent)))))
 
@@ -230,7 +230,6 @@ IsState-kept p old new allowed st e o k h =
       runs = h.runs;
       groups = AreGroups-kept old new e st.tree k.tree st.groups k.groups h.groups;
       running = AreRunning-waiting p new st st.groups (AreWaiting-kept p old new e st k (AreWaiting-running p old st st.groups h.groups h.running));
-      tree = AreKnown-kept old new (tree_ids st.tree) k.tree;
       found = AreKnown-kept old new (shared_ids st.found) k.found;
       ends = leaves_kept compare_ends old new e st.ends k.ends h.ends;
       spent = leaves_kept nat_cmp old new e st.spent k.spent h.spent;

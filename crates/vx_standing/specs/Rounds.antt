@@ -1,5 +1,5 @@
 -- A round: the runs of one group make an attempt, and all others stay (own).
-use Rattle.std.specs.Prelude.{◌≡◌, ℕ, ◌++◌, suc, Bool, true, false, List, [], ◌∷◌, drop, length, Option, Some, None}
+use Rattle.std.specs.Prelude.{◌≡◌, ℕ, ◌++◌, suc, Bool, true, false, List, [], ◌∷◌, drop, length, Option, Some, None, slice_get}
 use Rattle.vx_space.specs.Sets.{Sets, AreKept}
 use Rattle.vx_cond.specs.Leaves.{AreLeaves, value_at}
 use Rattle.vx_group.specs.Group.{GroupView, path_of}
@@ -13,7 +13,7 @@ use Rattle.vx_java.specs.Lockstep as lockstep
 use Rattle.vx_java.specs.Step.{Config, Live, Progress, start, step, steps}
 use Rattle.vx_link.specs.declared.program.Program.{Program}
 use Rattle.vx_value.specs.declared.end.Stream.{Stream}
-use Rattle.vx_standing.specs.State.{IsState, Standing, StateView, Runs, shared_ids, standing_at, standing_of}
+use Rattle.vx_standing.specs.State.{IsState, IsTreeKnown, Standing, StateView, Runs, shared_ids, standing_at, standing_of}
 
 -- what stands after a round, where the group that made the attempt holds the configuration, and where not
 abbrev pub after_round : Program → (limit : ℕ) → (holds : Bool) → Option Standing → Option Standing
@@ -52,9 +52,18 @@ pub record IsStuck {S I : Type 0} (p : Program) (sets : Sets I) (st : StateView 
   pub stands : standing_at sets st config ≡ Some (Runs progress)
   pub unbuilt : is_built p progress.state ≡ false
 
+-- a round with the group of a place
+abbrev pub IsRoundAt : {S I : Type 0} → Program → (old new : Sets I) → (before after : StateView S I) → (place : ℕ) → Type 0
+IsRoundAt {S = S} {I = I} p old new before after place = (group : GroupView S I) × (slice_get before.groups place ≡ Some group) × IsRound p old new before.heap.allowed before after group
+
+-- a run of the group of a place stands at an attempt that isn't built
+abbrev pub IsStuckAt : {S I : Type 0} → Program → Sets I → StateView S I → (place : ℕ) → Type 0
+IsStuckAt {S = S} {I = I} p sets st place = (group : GroupView S I) × (slice_get st.groups place ≡ Some group) × IsStuck p sets st group
+
 -- the state with which the runs of these configurations begin
 pub record IsStart {S I : Type 0} (p : Program) (sets : Sets I) (allowed : I) (limit : ℕ) (st : StateView S I) : Type 0 where
   pub is_state : IsState p sets allowed st
+  pub tree : IsTreeKnown sets st
   pub limited : st.limit ≡ limit
   pub rounds : st.rounds ≡ 0
   pub found : st.found ≡ []

@@ -148,7 +148,6 @@ pub record IsState {S I : Type 0} (p : Program) (sets : Sets I) (allowed : I) (s
   pub runs : st.heap.allowed ≡ allowed
   pub groups : AreGroups sets st.tree st.groups
   pub running : AreRunning p sets st st.groups
-  pub tree : AreKnown sets (tree_ids st.tree)
   pub found : AreKnown sets (shared_ids st.found)
   pub ends : AreLeaves compare_ends sets (leaves_of st.ends)
   pub spent : AreLeaves nat_cmp sets (leaves_of st.spent)
@@ -156,3 +155,7 @@ pub record IsState {S I : Type 0} (p : Program) (sets : Sets I) (allowed : I) (s
   pub nowhere : (c : List Bool) → sets.test allowed c ≡ false → IsNowhere sets st c
   pub goes_on : (c : List Bool) → is_some (group_of sets st.groups c) ≡ true → GoesOn sets st c
   pub counted : st.rounds + attempts_left sets st ≤ attempts_in sets allowed st.limit
+
+-- the ids in the frames of callers are known: at the start and after a sweep, while between sweeps a frame that no group has any more may hold any
+abbrev pub IsTreeKnown : {S I : Type 0} → Sets I → StateView S I → Type 0
+IsTreeKnown sets st = AreKnown sets (tree_ids st.tree)

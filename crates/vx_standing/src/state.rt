@@ -1,8 +1,10 @@
 //! The state of all runs.
 
-ghost use Rattle.std.specs.Prelude.{◌≡◌, ◌++◌, OnOk};
+ghost use Rattle.std.specs.Prelude.{◌≡◌, ◌<◌, ◌++◌, IfOk, List, OnOk, length, map, ℕ};
 ghost use Rattle.std.specs.List.{flat_map};
-ghost use Rattle.vx_group.specs.Group.{group_ids};
+ghost use Rattle.vx_group.specs.Group.{group_ids, key_of};
+ghost use Rattle.vx_sched.specs.Picks.{IsFirstKey};
+ghost use Rattle.vx_value.specs.declared.key.KeyPart.{KeyPart};
 ghost use Rattle.vx_standing.specs.State.{shared_ids, state_ids};
 
 use std::alloc::AllocError;
@@ -10,6 +12,7 @@ use std::marker::Model;
 use vx_findings::{Piece, Shared};
 use vx_group::{Callers, Group};
 use vx_heap::Heap;
+use vx_sched::{Picker, Waiting};
 use vx_space::Space;
 use vx_value::End;
 
@@ -22,7 +25,7 @@ pub struct State<S: Space> {
     /// The frames below those on top.
     pub callers: Callers<S>,
     /// The groups that go on.
-    pub groups: Vec<Group<S>>,
+    pub groups: Waiting<S>,
     /// How many attempts a run makes at most.
     pub limit: u64,
     /// How many rounds were made.
@@ -40,7 +43,7 @@ impl<S: Space> Model for State<S> {
 
     ghost Value = { StateView S S.Id };
 
-    ghost view = { λ s. record { heap = s.heap; tree = s.callers; groups = s.groups.items; limit = s.limit; rounds = s.rounds; found = s.found.items; ends = s.ends.items; spent = s.spent.items } };
+    ghost view = { λ s. record { heap = s.heap; tree = s.callers; groups = s.groups; limit = s.limit; rounds = s.rounds; found = s.found.items; ends = s.ends.items; spent = s.spent.items } };
 }
 
 impl<S: Space> State<S> {
@@ -49,6 +52,16 @@ impl<S: Space> State<S> {
         ensures { result.now ≡ self.now.groups }
     {
         self.groups.as_slice()
+    }
+
+    /// The place that a picker chooses of the groups.
+    pub fn next_place<K: Picker>(&mut self, picker: &mut K) -> Result<usize, AllocError>
+        requires { 0 < length self.old.groups }
+        ensures same { self.new ≡ self.old }
+        ensures in_range { IfOk result (λ place. place < length self.old.groups) }
+        ensures first { ((keys : List (List KeyPart)) (place : ℕ) → K.picks keys place → IsFirstKey keys place) → IfOk result (IsFirstKey (map key_of self.old.groups)) }
+    {
+        self.groups.pick(picker)
     }
 
     /// How many rounds were made.

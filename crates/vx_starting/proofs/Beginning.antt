@@ -4,7 +4,7 @@ use Rattle.std.proofs.lemmas.Bool.{lt-ltb}
 use Rattle.std.proofs.lemmas.List.{length-append, length-replicate, length-reverse}
 use Rattle.std.specs.List.{list_all, range_with_len}
 use Rattle.std.specs.Prelude.{Option, Some, None, ◌&&◌, option_map, unwrap_or, find, nat_lt, not, reverse}
-use Rattle.vx_families.specs.Built.{is_built, is_single}
+use Rattle.vx_families.specs.Built.{is_built, are_calls}
 use Rattle.vx_heap.proofs.Places.{and_true}
 use Rattle.vx_java.proofs.Chains.{begins_goes_on, begins_stops, begins_with, is_quiet, not_begun}
 use Rattle.vx_java.specs.Ids.{as_class}
@@ -147,14 +147,14 @@ some_class p q = cases (main_chain p) refl
     cases [] e = cc (q, quiet_done p e)
     cases (c ∷ cs) e = omega arith
 
-above_main : (p : Program) (s : State) (cs : List ℕ) → 0 < length cs → is_single (with_frames p s cs) ≡ false
+above_main : (p : Program) (s : State) (cs : List ℕ) → 0 < length cs → are_calls (with_frames p s cs) ≡ false
 above_main p s [] l = absurd (omega (arith, l))
 above_main p s (c ∷ below) l = refl
 
-pushed_more : (p : Program) (c : Config) → quiet_chain p (first_inits p) (main_class p) ≡ false → is_single (first_state p c false) ≡ false
+pushed_more : (p : Program) (c : Config) → quiet_chain p (first_inits p) (main_class p) ≡ false → are_calls (first_state p c false) ≡ false
 pushed_more p c q = above_main p _ (reverse (main_chain p)) (rw length-reverse (some_class p q))
 
-unbuilt : (p : Program) (s : State) → is_single s ≡ false → is_built p s ≡ false
+unbuilt : (p : Program) (s : State) → are_calls s ≡ false → is_built p s ≡ false
 unbuilt p s h = rw h refl
 
 -- the chain as the code has it

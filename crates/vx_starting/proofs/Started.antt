@@ -63,7 +63,6 @@ ended_is_state {S = S} p sets allowed limit end heap m f = record {
   runs = f.runs;
   groups = tt;
   running = tt;
-  tree = tt;
   found = tt;
   ends = (record { known = m.known; nonempty = m.some; below = tt; apart = record { none = λ c t. refl } }, tt);
   spent = (record { known = m.known; nonempty = m.some; below = tt; apart = record { none = λ c t. refl } }, tt);
@@ -76,6 +75,7 @@ ended_is_state {S = S} p sets allowed limit end heap m f = record {
 ended_is_start : {S I : Type 0} (p : Program) (sets : Sets I) (allowed : I) (limit : ℕ) (end : End) (heap : HeapView S I) → MayStart p sets allowed limit → EndAtStart p end → IsFirstHeap p sets allowed heap → IsStart p sets allowed limit (ended_state heap allowed limit end)
 ended_is_start p sets allowed limit end heap m o f = record {
   is_state = ended_is_state p sets allowed limit end heap m f;
+  tree = tt;
   limited = refl;
   rounds = refl;
   found = refl;
@@ -122,7 +122,6 @@ quiet_is_state p sets allowed limit heap group m h g = record {
   runs = h.runs;
   groups = (record { is_group = g.stands.is_group; nonempty = λ e. m.some (sym g.path ∙ e); apart = tt; fresh = tt }, tt);
   running = (record { stands = g.stands; left = λ c t. rw (g.fresh c (ap (λ id. sets.test id c) (sym g.path) ∙ t)) m.least }, tt);
-  tree = tt;
   found = tt;
   ends = tt;
   spent = tt;
@@ -135,6 +134,7 @@ quiet_is_state p sets allowed limit heap group m h g = record {
 quiet_is_start : {S I : Type 0} (p : Program) (sets : Sets I) (allowed : I) (limit : ℕ) (heap : HeapView S I) (group : GroupView S I) → MayStart p sets allowed limit → GoOn p true → IsMarkedHeap p sets allowed (main_chain p) heap → IsMainGroup p sets allowed heap group → IsStart p sets allowed limit (quiet_state heap limit group)
 quiet_is_start p sets allowed limit heap group m o h g = record {
   is_state = quiet_is_state p sets allowed limit heap group m h g;
+  tree = tt;
   limited = refl;
   rounds = refl;
   found = refl;

@@ -27,6 +27,7 @@ use vx_initial_heap::first_inits;
 use vx_java::parts::{class_of_method, name_of_class};
 use vx_java::{blocked, init_chain, place, quiet_chain};
 use vx_link::Program;
+use vx_sched::Waiting;
 use vx_space::{Space, SpaceFault};
 use vx_standing::State;
 use vx_value::{ClassId, End, InitState, Kind, Name, Slot};
@@ -120,7 +121,7 @@ fn ended_start<S: Space>(
     Ok(State {
         heap,
         callers: Callers::new(alloc),
-        groups: Vec::new(alloc),
+        groups: Waiting::new(alloc),
         limit,
         rounds: 0,
         found: Vec::new(alloc),
@@ -246,7 +247,7 @@ fn quiet_start<S: Space>(
 {
     let heap = marked_heap(alloc, program, space, allowed, chain)?;
     let group = main_group(alloc, program, space, &heap, allowed)?;
-    let mut groups = Vec::new(alloc);
+    let mut groups = Waiting::new(alloc);
     groups.push(group)?;
     Ok(State {
         heap,

@@ -55,7 +55,7 @@ mod tests {
         b"\xca\xfe\xba\xbe\x00\x00\x003\x00\x05\x07\x00\x02\x01\x00\x04Main\x07\x00\x04\x01\x00\x10java/lang/String\x00!\x00\x01\x00\x03\x00\x00\x00\x00\x00\x00\x00\x00";
 
     /// Classes as assembler sources. The first two join their branches again, with unlike and with equal values.
-    const SOURCES: [(&str, &str); 6] = [
+    const SOURCES: [(&str, &str); 7] = [
         (
             "j/Main.class",
             "class 0021 Main java/lang/Object\nfield 0009 A Z\nmethod 0009 main ([Ljava/lang/String;)V 2 2\ngetstatic Main A Z\nifeq Off\niconst_1\nistore_1\ngoto Print\nOff:\niconst_2\nistore_1\nnop\nnop\nPrint:\ngetstatic java/lang/System out Ljava/io/PrintStream;\niload_1\ninvokevirtual java/io/PrintStream println (I)V\nreturn\nend\n",
@@ -79,14 +79,19 @@ mod tests {
             "p/Main.class",
             "class 0021 Main java/lang/Object\nfield 0009 X0 Z\nfield 0009 X1 Z\nfield 0009 Y0 Z\nfield 0009 Y1 Z\nmethod 0009 main ([Ljava/lang/String;)V 2 1\ngetstatic Main X0 Z\ngetstatic Main Y0 Z\nif_icmpne End\ngetstatic Main X1 Z\ngetstatic Main Y1 Z\nif_icmpne End\ngetstatic java/lang/System out Ljava/io/PrintStream;\niconst_1\ninvokevirtual java/io/PrintStream println (I)V\nEnd:\nreturn\nend\n",
         ),
-        // With the option on it comes to a call, which isn't built.
+        // A class that is initialised by a method, which isn't built.
+        (
+            "z/1.class",
+            "class 0021 P java/lang/Object\nmethod 0008 <clinit> ()V 0 0\nreturn\nend\n",
+        ),
+        // With the option on it makes an object of that class.
         (
             "z/2.class",
-            "class 0021 Main java/lang/Object\nfield 0009 A Z\nmethod 0009 main ([Ljava/lang/String;)V 1 1\ngetstatic Main A Z\nifeq Off\ninvokestatic Main called ()V\nOff:\nreturn\nend\nmethod 0009 called ()V 0 0\nreturn\nend\n",
+            "class 0021 Main java/lang/Object\nfield 0009 A Z\nmethod 0009 main ([Ljava/lang/String;)V 1 1\ngetstatic Main A Z\nifeq Off\nnew P\npop\nOff:\nreturn\nend\n",
         ),
     ];
 
-    const FILES: [(&str, &[u8]); 42] = [
+    const FILES: [(&str, &[u8]); 41] = [
         ("m", b"option A Main A\n"),
         ("e", b""),
         ("r", b"option A Main A\nrule true\n"),
@@ -134,7 +139,6 @@ mod tests {
         ("g/Main.class", PRINTS_NUMBER),
         ("g/P.class", ANOTHER_CLASS),
         ("o/Main.class", SMALLEST_CLASS),
-        ("z/1.class", ANOTHER_CLASS),
         ("s/Main.class", BELOW_NOTHING),
         ("x/Main.class", BELOW_STRING),
         ("c/Main.class", PRINTS_NUMBER),

@@ -9,7 +9,6 @@ use Rattle.vx_cond.specs.Cond.{Conditional}
 use Rattle.vx_cond.specs.Leaves.{value_at}
 use Rattle.vx_group.specs.declared.callers.Caller.{Caller}
 use Rattle.vx_group.specs.Group.{GroupView, attempts_at, path_of}
-use Rattle.vx_group.specs.Sweep.{IsSwept, StandIn}
 use Rattle.vx_heap.specs.Heap.{HeapView}
 use Rattle.vx_heap.proofs.Known.{AreKept-extends, AreKnown-append}
 use Rattle.vx_findings.specs.Orders.{piece_cmp}
@@ -19,7 +18,6 @@ use Rattle.vx_java.specs.Lockstep.{piece_of}
 use Rattle.vx_java.specs.Machine.{Outcome as PlainOutcome}
 use Rattle.vx_java.specs.Step.{Progress, next, text_of}
 use Rattle.vx_link.specs.declared.program.Program.{Program}
-use Rattle.vx_sched.specs.Groups as sched
 use Rattle.vx_group_states.specs.Stands.{state_at}
 use Rattle.vx_placing.specs.declared.round.Round.{Round}
 use Rattle.vx_standing.specs.Attempted.{carried_out_row}
@@ -31,7 +29,6 @@ use Rattle.vx_standing.proofs.Counting.{attempts_in-most, attempts_in-same}
 use Rattle.vx_standing.proofs.Keeping.{AreKnown-kept, findings_known, output_kept}
 use Rattle.vx_standing.proofs.Running.{AreRunning-waiting, standing_at-by, standing_by}
 use Rattle.vx_standing.proofs.Standing.{bytes_after, bytes_in, output_append, output_of_round, some_after, stands_after, waits_goes, wrote_there}
-use Rattle.vx_standing.proofs.Trees.{AreWaiting-swept, all_reached, nodes_of, swept_known, waiting_at-swept}
 use Rattle.vx_turns.proofs.Turning.{IsTurn, left_falls, turned_ends, turned_spent, turned_texts, turned_waits, waited}
 use Rattle.vx_standing.proofs.Waiting.{no_group, none_waits}
 use Rattle.vx_heap.proofs.Written.{allowed_known}
@@ -71,24 +68,17 @@ rounds_small p sets allowed st l h =
 
 -- ---- the state after a round
 
-abbrev pub closed_state : {S I : Type 0} → StateView S I → HeapView S I → List (Option (Caller S I)) → Round S I → StateView S I
-closed_state st heap tree round = record { heap = heap; tree = tree; groups = round.groups.items; limit = st.limit; rounds = st.rounds + 1; found = st.found ++ round.texts.items; ends = round.ends.items; spent = round.spent.items }
+abbrev pub closed_state : {S I : Type 0} → StateView S I → HeapView S I → Round S I → StateView S I
+closed_state st heap round = record { heap = heap; tree = round.callers; groups = round.groups; limit = st.limit; rounds = st.rounds + 1; found = st.found ++ round.texts.items; ends = round.ends.items; spent = round.spent.items }
 
 module _ {S I : Type 0} (p : Program) {s1 s2 s3 : Sets I} (allowed : I) (st begun_st : StateView S I) (which : ℕ) (was : Round S I) (group spent_group : GroupView S I) (attempts : Conditional ℕ S I) (heap : HeapView S I) (round : Round S I) (t : IsTurn p s1 s2 s3 allowed st begun_st which was group spent_group attempts heap round) where
   whole : Extends s1 s3
   whole = Extends-trans t.extends t.later
 
-  -- the groups that wait stand in the tree of the round
-  stand : sched.AreGroups s3 round.callers round.groups.items
-  stand = t.made.underway.waiting.are_groups
-
-  pub closed_nodes : StandIn round.callers round.groups.items
-  closed_nodes = nodes_of s3 round.callers round.groups.items stand
-
   inside : (c : List Bool) → s1.test (path_of group) c ≡ true → s1.test allowed c ≡ true
   inside c h = ap (λ i. s1.test i c) (sym t.state.runs) ∙ (chosen_running p s1 allowed st begun_st which was group t.state t.begun).stands.runs.inside c h
 
-  same_allowed : (c : List Bool) → s3.test allowed c ≡ s1.test allowed c
+  pub same_allowed : (c : List Bool) → s3.test allowed c ≡ s1.test allowed c
   same_allowed c = whole.test allowed c (ap (λ i. s1.is_known i) (sym t.state.runs) ∙ allowed_known s1 st.heap t.state.is_heap)
 
   -- the plain run at a configuration of the path
@@ -117,13 +107,13 @@ module _ {S I : Type 0} (p : Program) {s1 s2 s3 : Sets I} (allowed : I) (st begu
       ap (λ o. standing_by (waiting_at s1 st.heap st.tree st.groups c) o (value_at s1 (leaves_of st.ends) c) (value_at s1 (leaves_of st.spent) c)) (append-nil (output_at s1 st.found c))
       ∙ sym (standing_at-by s1 st c)
 
-  pub closed_standing : (tree : List (Option (Caller S I))) → IsSwept round.callers tree round.groups.items → (c : List Bool) → standing_at s3 (closed_state st heap tree round) c ≡ after_round p st.limit (s1.test (path_of group) c) (standing_at s1 st c)
-  closed_standing tree w c =
-      let waits = waiting_at-swept s3 heap round.callers tree round.groups.items (all_reached round.callers tree round.groups.items w) stand c ∙ turned_waits p allowed st begun_st which was group spent_group attempts heap round t c in
+  pub closed_standing : (c : List Bool) → standing_at s3 (closed_state st heap round) c ≡ after_round p st.limit (s1.test (path_of group) c) (standing_at s1 st c)
+  closed_standing c =
+      let waits = turned_waits p allowed st begun_st which was group spent_group attempts heap round t c in
       let out = output c in
       let ends = turned_ends p allowed st begun_st which was group spent_group attempts heap round t c in
       let spent = turned_spent p allowed st begun_st which was group spent_group attempts heap round t c in
-      standing_at-by s3 (closed_state st heap tree round) c ∙ (λ i. standing_by (waits i) (out i) (ends i) (spent i)) ∙ by_parts c (s1.test (path_of group) c) (stood c)
+      standing_at-by s3 (closed_state st heap round) c ∙ (λ i. standing_by (waits i) (out i) (ends i) (spent i)) ∙ by_parts c (s1.test (path_of group) c) (stood c)
 
   -- ---- it is a state
 
@@ -134,34 +124,34 @@ module _ {S I : Type 0} (p : Program) {s1 s2 s3 : Sets I} (allowed : I) (st begu
       cases true k = cc (h, k refl)
       cases false k = refl
 
-  closed_nowhere : (tree : List (Option (Caller S I))) (c : List Bool) → s3.test allowed c ≡ false → IsNowhere s3 (closed_state st heap tree round) c
-  closed_nowhere tree c h =
+  closed_nowhere : (c : List Bool) → s3.test allowed c ≡ false → IsNowhere s3 (closed_state st heap round) c
+  closed_nowhere c h =
       let out = sym (same_allowed c) ∙ h in
       let off = not_inside c out in
       let n = t.state.nowhere c out in
       record {
-        group = none_waits s3 heap round.callers round.groups.items c (turned_waits p allowed st begun_st which was group spent_group attempts heap round t c ∙ ap (λ b. if b then waits_after st.limit (suc (attempts_at s1 group c)) (next p (row_at c)) else waiting_at s1 st.heap st.tree st.groups c) off ∙ no_group s1 st.heap st.tree st.groups c n.group);
+        group = none_waits s3 heap round.callers round.groups c (turned_waits p allowed st begun_st which was group spent_group attempts heap round t c ∙ ap (λ b. if b then waits_after st.limit (suc (attempts_at s1 group c)) (next p (row_at c)) else waiting_at s1 st.heap st.tree st.groups c) off ∙ no_group s1 st.heap st.tree st.groups c n.group);
         output = output c ∙ ap (λ b. output_at s1 st.found c ++ bytes_in (if b then piece_after (row_at c) else None)) off ∙ append-nil (output_at s1 st.found c) ∙ n.output;
         end = turned_ends p allowed st begun_st which was group spent_group attempts heap round t c ∙ ap (λ b. if b then end_after st.limit (suc (attempts_at s1 group c)) (next p (row_at c)) else value_at s1 (leaves_of st.ends) c) off ∙ n.end;
         spent = turned_spent p allowed st begun_st which was group spent_group attempts heap round t c ∙ ap (λ b. if b then spent_after st.limit (suc (attempts_at s1 group c)) (next p (row_at c)) else value_at s1 (leaves_of st.spent) c) off ∙ n.spent;
       }
 
-  closed_goes : (tree : List (Option (Caller S I))) (c : List Bool) → is_some (group_of s3 round.groups.items c) ≡ true → GoesOn s3 (closed_state st heap tree round) c
-  closed_goes tree c h = cases (s1.test (path_of group) c) (ap is_some (sym (turned_waits p allowed st begun_st which was group spent_group attempts heap round t c)) ∙ some_waits s3 heap round.callers round.groups.items c ∙ h) (turned_ends p allowed st begun_st which was group spent_group attempts heap round t c) (turned_spent p allowed st begun_st which was group spent_group attempts heap round t c)
+  closed_goes : (c : List Bool) → is_some (group_of s3 round.groups c) ≡ true → GoesOn s3 (closed_state st heap round) c
+  closed_goes c h = cases (s1.test (path_of group) c) (ap is_some (sym (turned_waits p allowed st begun_st which was group spent_group attempts heap round t c)) ∙ some_waits s3 heap round.callers round.groups c ∙ h) (turned_ends p allowed st begun_st which was group spent_group attempts heap round t c) (turned_spent p allowed st begun_st which was group spent_group attempts heap round t c)
     where
-      cases : (b : Bool) → is_some (if b then waits_after st.limit (suc (attempts_at s1 group c)) (next p (row_at c)) else waiting_at s1 st.heap st.tree st.groups c) ≡ true → value_at s3 (leaves_of round.ends.items) c ≡ (if b then end_after st.limit (suc (attempts_at s1 group c)) (next p (row_at c)) else value_at s1 (leaves_of st.ends) c) → value_at s3 (leaves_of round.spent.items) c ≡ (if b then spent_after st.limit (suc (attempts_at s1 group c)) (next p (row_at c)) else value_at s1 (leaves_of st.spent) c) → GoesOn s3 (closed_state st heap tree round) c
+      cases : (b : Bool) → is_some (if b then waits_after st.limit (suc (attempts_at s1 group c)) (next p (row_at c)) else waiting_at s1 st.heap st.tree st.groups c) ≡ true → value_at s3 (leaves_of round.ends.items) c ≡ (if b then end_after st.limit (suc (attempts_at s1 group c)) (next p (row_at c)) else value_at s1 (leaves_of st.ends) c) → value_at s3 (leaves_of round.spent.items) c ≡ (if b then spent_after st.limit (suc (attempts_at s1 group c)) (next p (row_at c)) else value_at s1 (leaves_of st.spent) c) → GoesOn s3 (closed_state st heap round) c
       cases true k e s = let none = waits_goes st.limit (suc (attempts_at s1 group c)) (next p (row_at c)) k in record { end = e ∙ none.0; spent = s ∙ none.1 }
       cases false k e s = let g = t.state.goes_on c (sym (some_waits s1 st.heap st.tree st.groups c) ∙ k) in record { end = e ∙ g.end; spent = s ∙ g.spent }
 
-  closed_counted : IsLawful s1 → (tree : List (Option (Caller S I))) → IsSwept round.callers tree round.groups.items → st.rounds + 1 + attempts_left s3 (closed_state st heap tree round) ≤ attempts_in s3 allowed st.limit
-  closed_counted l tree w =
-      let falls = left_falls p allowed st begun_st which was group spent_group attempts heap round t l tree (waiting_at-swept s3 heap round.callers tree round.groups.items (all_reached round.callers tree round.groups.items w) stand) in
+  closed_counted : IsLawful s1 → st.rounds + 1 + attempts_left s3 (closed_state st heap round) ≤ attempts_in s3 allowed st.limit
+  closed_counted l =
+      let falls = left_falls p allowed st begun_st which was group spent_group attempts heap round t l in
       let counted = t.state.counted in
       rw (attempts_in-same s1 s3 allowed st.limit whole.options same_allowed, whole.options) (omega (arith, falls, counted))
 
-  pub IsState-closed : IsLawful s1 → (tree : List (Option (Caller S I))) → IsSwept round.callers tree round.groups.items → IsState p s3 allowed (closed_state st heap tree round)
-  IsState-closed l tree w =
-      let waiting = AreWaiting-swept p s3 heap round.callers tree st.limit round.groups.items (all_reached round.callers tree round.groups.items w) t.made.underway.waiting in
+  pub IsState-closed : IsLawful s1 → IsState p s3 allowed (closed_state st heap round)
+  IsState-closed l =
+      let waiting = t.made.underway.waiting in
       record {
         bounded = t.state.bounded;
         some = t.state.some;
@@ -170,15 +160,14 @@ module _ {S I : Type 0} (p : Program) {s1 s2 s3 : Sets I} (allowed : I) (st begu
         is_for = t.made.is_for;
         runs = t.made.allowed ∙ t.state.runs;
         groups = waiting.are_groups;
-        running = AreRunning-waiting p s3 (closed_state st heap tree round) round.groups.items waiting;
-        tree = swept_known s3 round.callers tree round.groups.items stand w;
+        running = AreRunning-waiting p s3 (closed_state st heap round) round.groups waiting;
         found = rw (ids_append st.found round.texts.items) (AreKnown-append s3 (shared_ids st.found) (shared_ids round.texts.items) (AreKnown-kept s1 s3 (shared_ids st.found) (AreKept-extends whole (shared_ids st.found) t.state.found)) (findings_known piece_cmp s3 round.texts.items t.made.underway.texts));
         ends = t.made.underway.ends;
         spent = t.made.underway.spent;
-        everywhere = λ c h. ap is_some (closed_standing tree w c) ∙ some_after p st.limit (s1.test (path_of group) c) (standing_at s1 st c) ∙ t.state.everywhere c (sym (same_allowed c) ∙ h);
-        nowhere = closed_nowhere tree;
-        goes_on = closed_goes tree;
-        counted = closed_counted l tree w;
+        everywhere = λ c h. ap is_some (closed_standing c) ∙ some_after p st.limit (s1.test (path_of group) c) (standing_at s1 st c) ∙ t.state.everywhere c (sym (same_allowed c) ∙ h);
+        nowhere = closed_nowhere;
+        goes_on = closed_goes;
+        counted = closed_counted l;
       }
 
   pub closed_wrote : (c : List Bool) → pieces_in (value_at s3 (leaves_of round.texts.items) c) ≡ piece_of (written p (s1.test (path_of group) c) (standing_at s1 st c))

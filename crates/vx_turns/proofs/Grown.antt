@@ -63,7 +63,7 @@ waiting_at-grown p {old = old} {new = new} {t0 = t0} {t1 = t1} e k before after 
 
 pub IsUnderway-grown : {S I : Type 0} (p : Program) {old new : Sets I} → Extends old new → (before after : HeapView S I) → IsHeap old before → Grows before after → (limit : ℕ) (round : Round S I) (later : List (Option (Caller S I))) → Keeps round.callers later → IsUnderway p old before limit round → IsUnderway p new after limit (record round { callers = later })
 IsUnderway-grown p e before after v grows limit round later k u = record {
-  waiting = AreWaiting-grown p e k before after v grows limit round.groups.items u.waiting;
+  waiting = AreWaiting-grown p e k before after v grows limit round.groups u.waiting;
   ends = AreLeaves-extends compare_ends e (leaves_of round.ends.items) u.ends;
   spent = AreLeaves-extends nat_cmp e (leaves_of round.spent.items) u.spent;
   texts = AreLeaves-extends piece_cmp e (leaves_of round.texts.items) u.texts;

@@ -5,3 +5,4 @@ pub mod Opening
 pub mod Turning
 pub mod Closing
 pub mod Whole
+pub mod Tended

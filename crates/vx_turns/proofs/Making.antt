@@ -94,15 +94,15 @@ pub made_placeable : {S I : Type 0} (p : Program) {s0 s1 : Sets I} → Extends s
 made_placeable p {s0 = s0} e before after tree later limit group attempts outcomes m k a = are_placeable p e after later limit group attempts k (s0.test (path_of group)) outcomes (λ c t. sym (same_scope p e before tree limit group attempts m k c) ∙ t) a.came.divide a.came.continue
 
 -- what waited stays, as the group isn't among it
-pub waiting_made : {S I : Type 0} (p : Program) {s0 s1 : Sets I} → Extends s0 s1 → (before after : HeapView S I) (later : List (Option (Caller S I))) (limit : ℕ) (group : GroupView S I) (outcomes : List (Outcome S I)) (round : Round S I) → MayAttempt p s0 before round.callers group → Attempts p (attempted_row p) s0 s1 before after round.callers later group outcomes → IsUnderway p s0 before limit round → IsVacant s0 round (s0.test (path_of group)) → (c : List Bool) → waiting_at s1 after later round.groups.items c ≡ waiting_at s0 before round.callers round.groups.items c
+pub waiting_made : {S I : Type 0} (p : Program) {s0 s1 : Sets I} → Extends s0 s1 → (before after : HeapView S I) (later : List (Option (Caller S I))) (limit : ℕ) (group : GroupView S I) (outcomes : List (Outcome S I)) (round : Round S I) → MayAttempt p s0 before round.callers group → Attempts p (attempted_row p) s0 s1 before after round.callers later group outcomes → IsUnderway p s0 before limit round → IsVacant s0 round (s0.test (path_of group)) → (c : List Bool) → waiting_at s1 after later round.groups c ≡ waiting_at s0 before round.callers round.groups c
 waiting_made {S = S} {I = I} p {s0 = s0} {s1 = s1} e before after later limit group outcomes round m a u n c = cases (s0.test (path_of group) c) refl
   where
-    cases : (b : Bool) → s0.test (path_of group) c ≡ b → waiting_at s1 after later round.groups.items c ≡ waiting_at s0 before round.callers round.groups.items c
+    cases : (b : Bool) → s0.test (path_of group) c ≡ b → waiting_at s1 after later round.groups c ≡ waiting_at s0 before round.callers round.groups c
     cases true t =
-        let none = no_group s0 before round.callers round.groups.items c (n.groups c t) in
-        let no_later = none_waits s1 before round.callers round.groups.items c (waiting_at-extends e before m.is_heap round.callers round.groups.items u.waiting.are_groups c ∙ none) in
-        no_group s1 after later round.groups.items c no_later ∙ sym none
-    cases false t = waiting_at-grown p e a.keeps before after m.is_heap a.grows limit round.groups.items u.waiting c (a.outside c t)
+        let none = no_group s0 before round.callers round.groups c (n.groups c t) in
+        let no_later = none_waits s1 before round.callers round.groups c (waiting_at-extends e before m.is_heap round.callers round.groups u.waiting.are_groups c ∙ none) in
+        no_group s1 after later round.groups c no_later ∙ sym none
+    cases false t = waiting_at-grown p e a.keeps before after m.is_heap a.grows limit round.groups u.waiting c (a.outside c t)
 
 pub vacant_made : {S I : Type 0} (p : Program) {s0 s1 : Sets I} → Extends s0 s1 → (before : HeapView S I) (later : List (Option (Caller S I))) (limit : ℕ) (group : GroupView S I) (attempts : Conditional ℕ S I) (round : Round S I) → MayAttempt p s0 before round.callers group → IsCount s0 group limit attempts → IsUnderway p s0 before limit round → IsVacant s0 round (s0.test (path_of group)) → IsVacant s1 (record round { callers = later }) (s1.test attempts.scope)
 vacant_made p {s0 = s0} {s1 = s1} e before later limit group attempts round m k u n =
@@ -133,8 +133,8 @@ IsMade-placed {S = S} {I = I} p {s0 = s0} {s1 = s1} {s2 = s2} e1 e2 before after
   underway = q.put.underway;
   waits = λ c. q.put.waits c
       ∙ ap (λ o. put_if (waits_after limit (made_at s1 attempts c)) (led_by p (said_in s1 after later outcomes) c) o) (waiting_made p e1 before after later limit group outcomes was m a u n c)
-      ∙ ap (λ o. put_if (waits_after limit (made_at s1 attempts c)) (option_map (next p) o) (waiting_at s0 before was.callers was.groups.items c)) (said_made p s0 s1 before after was.callers later group outcomes a c)
-      ∙ numbers (waits_after limit) (made_at s1 attempts c) (attempts_at s0 group c) (led_by p (came_of p s0 before was.callers group) c) (waiting_at s0 before was.callers was.groups.items c) (λ l h. same c (s0.test (path_of group) c) (k.at c) l h);
+      ∙ ap (λ o. put_if (waits_after limit (made_at s1 attempts c)) (option_map (next p) o) (waiting_at s0 before was.callers was.groups c)) (said_made p s0 s1 before after was.callers later group outcomes a c)
+      ∙ numbers (waits_after limit) (made_at s1 attempts c) (attempts_at s0 group c) (led_by p (came_of p s0 before was.callers group) c) (waiting_at s0 before was.callers was.groups c) (λ l h. same c (s0.test (path_of group) c) (k.at c) l h);
   ends = λ c. q.put.ends c
       ∙ ap (λ o. put_if (end_after limit (made_at s1 attempts c)) (led_by p (said_in s1 after later outcomes) c) o) (value_at-extends compare_ends e1 (leaves_of was.ends.items) u.ends c)
       ∙ ap (λ o. put_if (end_after limit (made_at s1 attempts c)) (option_map (next p) o) (value_at s0 (leaves_of was.ends.items) c)) (said_made p s0 s1 before after was.callers later group outcomes a c)

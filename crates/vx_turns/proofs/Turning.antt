@@ -72,17 +72,17 @@ module _ {S I : Type 0} (p : Program) {s1 s2 s3 : Sets I} (allowed : I) (st begu
       cases false k n = n refl
 
   -- what waited beside the group
-  beside : (c : List Bool) → s1.test (path_of group) c ≡ false → waiting_at s2 st.heap was.callers was.groups.items c ≡ waiting_at s1 st.heap st.tree st.groups c
+  beside : (c : List Bool) → s1.test (path_of group) c ≡ false → waiting_at s2 st.heap was.callers was.groups c ≡ waiting_at s1 st.heap st.tree st.groups c
   beside c h =
-      waiting_at-extends t.extends st.heap t.state.is_heap was.callers was.groups.items (begun_underway p s1 allowed st begun_st which was group t.state t.begun).waiting.are_groups c
-      ∙ ap (λ tree. waiting_at s1 st.heap tree was.groups.items c) t.begun.callers
+      waiting_at-extends t.extends st.heap t.state.is_heap was.callers was.groups (begun_underway p s1 allowed st begun_st which was group t.state t.begun).waiting.are_groups c
+      ∙ ap (λ tree. waiting_at s1 st.heap tree was.groups c) t.begun.callers
       ∙ ap (λ gs. waiting_at s1 st.heap st.tree gs c) t.begun.groups
       ∙ waiting_at-standing s1 st.heap st.tree (remove st.groups which) c
       ∙ ap (λ o. option_map (run_by s1 st.heap c) o) (sym (taken.outside c h))
       ∙ sym (waiting_at-standing s1 st.heap st.tree st.groups c)
 
-  pub turned_waits : (c : List Bool) → waiting_at s3 heap round.callers round.groups.items c ≡ (if s1.test (path_of group) c then waits_after st.limit (suc (attempts_at s1 group c)) (next p (row_at c)) else waiting_at s1 st.heap st.tree st.groups c)
-  turned_waits c = t.made.waits c ∙ put_there (waits_after st.limit) c (waiting_at s2 st.heap was.callers was.groups.items c) (waiting_at s1 st.heap st.tree st.groups c) (beside c)
+  pub turned_waits : (c : List Bool) → waiting_at s3 heap round.callers round.groups c ≡ (if s1.test (path_of group) c then waits_after st.limit (suc (attempts_at s1 group c)) (next p (row_at c)) else waiting_at s1 st.heap st.tree st.groups c)
+  turned_waits c = t.made.waits c ∙ put_there (waits_after st.limit) c (waiting_at s2 st.heap was.callers was.groups c) (waiting_at s1 st.heap st.tree st.groups c) (beside c)
 
   pub turned_ends : (c : List Bool) → value_at s3 (leaves_of round.ends.items) c ≡ (if s1.test (path_of group) c then end_after st.limit (suc (attempts_at s1 group c)) (next p (row_at c)) else value_at s1 (leaves_of st.ends) c)
   turned_ends c = t.made.ends c ∙ put_there (end_after st.limit) c (value_at s2 (leaves_of was.ends.items) c) (value_at s1 (leaves_of st.ends) c) (λ h. ap (λ xs. value_at s2 (leaves_of xs) c) t.begun.ends ∙ value_at-extends compare_ends t.extends (leaves_of st.ends) t.state.ends c)
@@ -111,13 +111,13 @@ module _ {S I : Type 0} (p : Program) {s1 s2 s3 : Sets I} (allowed : I) (st begu
       cases false = omega arith
   left_waits limit m (Ends end) = omega arith
 
-  pub left_falls : IsLawful s1 → (tree : List (Option (Caller S I))) → ((c : List Bool) → waiting_at s3 heap tree round.groups.items c ≡ waiting_at s3 heap round.callers round.groups.items c) → sum (map (λ c. left_of s3 st.limit c (group_of s3 round.groups.items c)) (configurations s1.options)) < attempts_left s1 st
-  left_falls lawful tree same =
+  pub left_falls : IsLawful s1 → sum (map (λ c. left_of s3 st.limit c (group_of s3 round.groups c)) (configurations s1.options)) < attempts_left s1 st
+  left_falls lawful =
       let member = member_of lawful (path_of group) known taken.beside.nonempty in
-      sum_falls (λ c. left_of s3 st.limit c (group_of s3 round.groups.items c)) (λ c. left_of s1 st.limit c (group_of s1 st.groups c)) none_more (configurations s1.options) member.config (Contains-configurations s1.options member.config member.whole) (less member.config member.holds)
+      sum_falls (λ c. left_of s3 st.limit c (group_of s3 round.groups c)) (λ c. left_of s1 st.limit c (group_of s1 st.groups c)) none_more (configurations s1.options) member.config (Contains-configurations s1.options member.config member.whole) (less member.config member.holds)
     where
-      now : (c : List Bool) → left_of s3 st.limit c (group_of s3 round.groups.items c) ≡ left_by st.limit (if s1.test (path_of group) c then waits_after st.limit (suc (attempts_at s1 group c)) (next p (row_at c)) else waiting_at s1 st.heap st.tree st.groups c)
-      now c = left_of-by s3 heap round.callers round.groups.items st.limit c ∙ ap (left_by st.limit) (turned_waits c)
+      now : (c : List Bool) → left_of s3 st.limit c (group_of s3 round.groups c) ≡ left_by st.limit (if s1.test (path_of group) c then waits_after st.limit (suc (attempts_at s1 group c)) (next p (row_at c)) else waiting_at s1 st.heap st.tree st.groups c)
+      now c = left_of-by s3 heap round.callers round.groups st.limit c ∙ ap (left_by st.limit) (turned_waits c)
 
       cases : (c : List Bool) (b : Bool) → (b ≡ true → waiting_at s1 st.heap st.tree st.groups c ≡ Some (record { state = state_at s1 st.heap st.tree group c; attempts = attempts_at s1 group c })) → left_by st.limit (if b then waits_after st.limit (suc (attempts_at s1 group c)) (next p (row_at c)) else waiting_at s1 st.heap st.tree st.groups c) ≤ left_by st.limit (waiting_at s1 st.heap st.tree st.groups c)
       cases c true h =
@@ -125,10 +125,10 @@ module _ {S I : Type 0} (p : Program) {s1 s2 s3 : Sets I} (allowed : I) (st begu
           rw (h refl) (omega (arith, there))
       cases c false h = omega arith
 
-      none_more : (c : List Bool) → left_of s3 st.limit c (group_of s3 round.groups.items c) ≤ left_of s1 st.limit c (group_of s1 st.groups c)
+      none_more : (c : List Bool) → left_of s3 st.limit c (group_of s3 round.groups c) ≤ left_of s1 st.limit c (group_of s1 st.groups c)
       none_more c = rw (now c, left_of-by s1 st.heap st.tree st.groups st.limit c) (cases c (s1.test (path_of group) c) (waited c))
 
-      less : (c : List Bool) → s1.test (path_of group) c ≡ true → left_of s3 st.limit c (group_of s3 round.groups.items c) < left_of s1 st.limit c (group_of s1 st.groups c)
+      less : (c : List Bool) → s1.test (path_of group) c ≡ true → left_of s3 st.limit c (group_of s3 round.groups c) < left_of s1 st.limit c (group_of s1 st.groups c)
       less c h =
           let there = left_waits st.limit (suc (attempts_at s1 group c)) (next p (row_at c)) in
           let below = running.left c h in

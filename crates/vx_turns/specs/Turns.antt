@@ -7,7 +7,6 @@ use Rattle.vx_cond.specs.Cond.{Conditional, IsCond}
 use Rattle.vx_cond.specs.Leaves.{value_at}
 use Rattle.vx_group.specs.declared.callers.Caller.{Caller}
 use Rattle.vx_group.specs.Group.{GroupView, IsGroup, attempts_at, path_of}
-use Rattle.vx_group.specs.Sweep.{IsSwept}
 use Rattle.vx_heap.specs.Heap.{HeapView, IsHeap, IsHeapFor}
 use Rattle.vx_findings.specs.Shared.{leaves_of}
 use Rattle.vx_java.specs.Machine.{Outcome}
@@ -23,7 +22,7 @@ use Rattle.vx_standing.specs.State.{StateView}
 pub record IsBegun {S I : Type 0} (before after : StateView S I) (which : ℕ) (round : Round S I) (group : GroupView S I) : Type 0 where
   pub chosen : slice_get before.groups which ≡ Some group
   pub callers : round.callers ≡ before.tree
-  pub groups : round.groups.items ≡ remove before.groups which
+  pub groups : round.groups ≡ remove before.groups which
   pub ends : round.ends.items ≡ before.ends
   pub spent : round.spent.items ≡ before.spent
   pub texts : round.texts.items ≡ []
@@ -56,12 +55,19 @@ pub record IsMade {S I : Type 0} (p : Program) (old new : Sets I) (before after 
   pub is_for : IsHeapFor p after
   pub allowed : after.allowed ≡ before.allowed
   pub underway : IsUnderway p new after limit round
-  pub waits : (c : List Bool) → waiting_at new after round.callers round.groups.items c ≡ put_if (waits_after limit (attempts_at old group c)) (led_by p (came_of p old before was.callers group) c) (waiting_at old before was.callers was.groups.items c)
+  pub waits : (c : List Bool) → waiting_at new after round.callers round.groups c ≡ put_if (waits_after limit (attempts_at old group c)) (led_by p (came_of p old before was.callers group) c) (waiting_at old before was.callers was.groups c)
   pub ends : (c : List Bool) → value_at new (leaves_of round.ends.items) c ≡ put_if (end_after limit (attempts_at old group c)) (led_by p (came_of p old before was.callers group) c) (value_at old (leaves_of was.ends.items) c)
   pub spent : (c : List Bool) → value_at new (leaves_of round.spent.items) c ≡ put_if (spent_after limit (attempts_at old group c)) (led_by p (came_of p old before was.callers group) c) (value_at old (leaves_of was.spent.items) c)
   pub texts : (c : List Bool) → value_at new (leaves_of round.texts.items) c ≡ put_if piece_after (came_of p old before was.callers group c) (value_at old (leaves_of was.texts.items) c)
 
--- what changed was put back
-pub record IsClosed {S I : Type 0} (before after : StateView S I) (round : Round S I) : Type 0 where
-  pub swept : IsSwept round.callers after.tree round.groups.items
-  pub rest : after ≡ record { heap = before.heap; tree = after.tree; groups = round.groups.items; limit = before.limit; rounds = before.rounds + 1; found = before.found ++ round.texts.items; ends = round.ends.items; spent = round.spent.items }
+-- a state with what changed in a round put back
+abbrev pub put_back : {S I : Type 0} → StateView S I → Round S I → StateView S I
+put_back st round =
+    record st {
+      tree = round.callers;
+      groups = round.groups;
+      rounds = st.rounds + 1;
+      found = st.found ++ round.texts.items;
+      ends = round.ends.items;
+      spent = round.spent.items;
+    }

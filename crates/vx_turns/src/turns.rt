@@ -1,33 +1,19 @@
-//! The steps of a round around its attempt: the compaction, the group that is taken out, its attempt that is counted, and what
-//! changed that is put back.
+//! The steps of a round around its attempt: the group that is taken out, its attempt that is counted, and what changed that is
+//! put back.
 
-ghost use Rattle.std.specs.Prelude.{◌≡◌, ◌<◌, ◌+◌, ◌^◌, IfOk, List, OnOk, length, map, suc, true, Bool};
-ghost use Rattle.vx_space.specs.Sets.{AreKnown, Extends, IsCompacted};
-ghost use Rattle.vx_space.specs.Under.{IsNumberUnder};
+ghost use Rattle.std.specs.Prelude.{◌≡◌, ◌<◌, ◌+◌, ◌^◌, IfOk, List, OnOk, length, suc, true, Bool};
+ghost use Rattle.vx_space.specs.Sets.{Extends};
 ghost use Rattle.vx_group.specs.Group.{IsGroup, attempts_at, path_of};
-ghost use Rattle.vx_group.specs.Sweep.{StandIn};
-ghost use Rattle.vx_standing.specs.State.{state_ids};
-ghost use Rattle.vx_turns.specs.Turns.{IsBegun, IsClosed, IsSpent};
+ghost use Rattle.vx_turns.specs.Turns.{IsBegun, IsSpent, put_back};
 
 use std::alloc::{AllocError, Global};
 use std::mem;
 use vx_cond::Cond;
 use vx_group::{Callers, Group};
 use vx_placing::Round;
+use vx_sched::Waiting;
 use vx_space::{Space, SpaceFault};
 use vx_standing::State;
-
-/// Compacts the space on the ids of a state.
-pub fn compact<S: Space>(alloc: Global, space: &mut S, state: &State<S>) -> Result<(), AllocError>
-    requires { AreKnown (S.sets space.old) (state_ids state.now) }
-    ensures compacted { OnOk result (IsCompacted (S.sets space.old) (S.sets space.new) (state_ids state.now)) }
-    ensures based { OnOk result ((S.sets space.new).counts ≡ true → IsNumberUnder (map (S.sets space.old).test (state_ids state.now)) (S.sets space.new).base) }
-{
-    let mut ids = Vec::new(alloc);
-    state.ids_out(&mut ids)?;
-    space.compact(&ids)?;
-    Ok(())
-}
 
 /// Takes the group of a place out, by a move, and all else that changes in a round.
 pub fn begin_round<S: Space>(
@@ -38,10 +24,10 @@ pub fn begin_round<S: Space>(
     requires { which < length state.old.groups }
     ensures { IsBegun state.old state.new which result.0 result.1 }
 {
-    let group = state.groups.remove(which);
+    let group = state.groups.take(which);
     let round = Round {
         callers: mem::replace(&mut state.callers, Callers::new(alloc)),
-        groups: mem::replace(&mut state.groups, Vec::new(alloc)),
+        groups: mem::replace(&mut state.groups, Waiting::new(alloc)),
         ends: mem::replace(&mut state.ends, Vec::new(alloc)),
         spent: mem::replace(&mut state.spent, Vec::new(alloc)),
         texts: Vec::new(alloc),
@@ -66,24 +52,18 @@ pub fn spend<S: Space>(
     Ok((spent, attempts))
 }
 
-/// Puts what changed in a round back into its state, without the callers that no group has.
-pub fn end_round<S: Space>(
-    alloc: Global,
-    state: &mut State<S>,
-    round: Round<S>,
-) -> Result<(), AllocError>
-    requires callers { StandIn round.callers round.groups.items }
-    requires rounds { state.old.rounds + 1 < 2 ^ 128 }
-    ensures { OnOk result (IsClosed state.old state.new round) }
+/// Puts what changed in a round back into its state.
+pub fn end_round<S: Space>(state: &mut State<S>, round: Round<S>) -> Result<(), AllocError>
+    requires { state.old.rounds + 1 < 2 ^ 128 }
+    ensures { OnOk result (state.new ≡ put_back state.old round) }
 {
     let Round {
-        mut callers,
+        callers,
         groups,
         ends,
         spent,
         mut texts,
     } = round;
-    callers.sweep(alloc, &groups)?;
     state.found.append(&mut texts)?;
     state.callers = callers;
     state.groups = groups;

@@ -5,8 +5,9 @@ use Rattle.std.specs.Prelude.{unsigned_abs}
 use mir.Val.{SFits, of_z, to_z}
 use Rattle.vx_space.proofs.Spaces.{Extends-trans}
 use Rattle.vx_value.specs.Arithmetic.{natural}
+use Rattle.vx_cells.proofs.Somewhere.{somewhere_later}
 use Rattle.vx_arrays.specs.Making.{is_length}
-use Rattle.vx_arrays.proofs.GridParts.{IsGridMade-last, IsMakingParts-all, IsMakingParts-array, IsMakingParts-part, IsMakingParts-start, IsMakingParts-step, abs_natural, first_rest, rest_fits, rest_shorter, somewhere_later}
+use Rattle.vx_arrays.proofs.GridParts.{IsGridMade-last, IsMakingParts-all, IsMakingParts-array, IsMakingParts-part, IsMakingParts-start, IsMakingParts-step, abs_natural, first_rest, rest_fits, rest_shorter}
 use Rattle.vx_arrays.proofs.grids.+grid.Goals as goal
 
 pub returns-in_default-clause-ok : goal.returns-in_default-clause-ok
@@ -32,26 +33,26 @@ grid-requires g t c κs within =
 pub returns-in_err-part-clause-extends : goal.returns-in_err-part-clause-extends
 returns-in_err-part-clause-extends g t c = Extends-trans c.loop-index.invariant.extends c.in_err-part.ensures.extends
 
-pub put_part-requires-clause-known : goal.put_part-requires-clause-known
-put_part-requires-clause-known g t c = (Extends-trans c.loop-index.invariant.extends c.in_ok-part.ensures.extends).known _ c.requires.known
+pub write_inside-requires-clause-known : goal.write_inside-requires-clause-known
+write_inside-requires-clause-known g t c = (Extends-trans c.loop-index.invariant.extends c.in_ok-part.ensures.extends).known _ c.requires.known
 
-pub put_part-requires-clause-somewhere : goal.put_part-requires-clause-somewhere
-put_part-requires-clause-somewhere g t c = somewhere_later (Extends-trans c.loop-index.invariant.extends c.in_ok-part.ensures.extends) c.args.condition c.requires.known c.requires.somewhere
+pub write_inside-requires-clause-somewhere : goal.write_inside-requires-clause-somewhere
+write_inside-requires-clause-somewhere g t c = somewhere_later (Extends-trans c.loop-index.invariant.extends c.in_ok-part.ensures.extends) c.args.condition c.requires.known c.requires.somewhere
 
-pub put_part-requires-clause-array : goal.put_part-requires-clause-array
-put_part-requires-clause-array g t c =
+pub write_inside-requires-clause-object : goal.write_inside-requires-clause-object
+write_inside-requires-clause-object g t c =
     let in_range : SFits w32 (get_or c.args.deeper.now 0 (pos 0)) = search rules in
     let next : to_z w32 (of_z w32 (get_or c.args.deeper.now 0 (pos 0))) ≡ get_or c.args.deeper.now 0 (pos 0) = to_z-of_z {w = w32} {z = get_or c.args.deeper.now 0 (pos 0)} in_range in
     IsMakingParts-array c.args.program.now c.args.class.0 _ _ _ c.args.heap.now c.loop-index.heap c.grid.new.heap c.args.condition c.in_ok-array.array c.in_ok-part.part c.loop-index.index c.requires.known c.loop-index.invariant c.in_ok-part.ensures.extends (rw (c.component_of-component.ensures, next) at c.in_ok-part.ensures.ok)
 
-pub put_part-requires-clause-part : goal.put_part-requires-clause-part
-put_part-requires-clause-part g t c =
+pub write_inside-requires-clause-held : goal.write_inside-requires-clause-held
+write_inside-requires-clause-held g t c =
     let in_range : SFits w32 (get_or c.args.deeper.now 0 (pos 0)) = search rules in
     let next : to_z w32 (of_z w32 (get_or c.args.deeper.now 0 (pos 0))) ≡ get_or c.args.deeper.now 0 (pos 0) = to_z-of_z {w = w32} {z = get_or c.args.deeper.now 0 (pos 0)} in_range in
     IsMakingParts-part c.args.program.now c.args.class.0 _ _ _ c.args.heap.now c.loop-index.heap c.grid.new.heap c.args.condition c.in_ok-array.array c.in_ok-part.part c.loop-index.index c.requires.known c.loop-index.invariant c.in_ok-part.ensures.extends (rw (c.component_of-component.ensures, next) at c.in_ok-part.ensures.ok)
 
-pub returns-in_err-put_part-clause-extends : goal.returns-in_err-put_part-clause-extends
-returns-in_err-put_part-clause-extends g t c = Extends-trans c.loop-index.invariant.extends (Extends-trans c.in_ok-part.ensures.extends c.in_err-put_part.ensures.extends)
+pub returns-in_err-write_inside-clause-extends : goal.returns-in_err-write_inside-clause-extends
+returns-in_err-write_inside-clause-extends g t c = Extends-trans c.loop-index.invariant.extends (Extends-trans c.in_ok-part.ensures.extends c.in_err-write_inside.ensures.extends)
 
 pub loop-index-preserved : goal.loop-index-preserved
 loop-index-preserved g t c =
@@ -63,7 +64,7 @@ loop-index-preserved g t c =
     let below : c.loop-index.index < natural (to_z w32 (of_z w32 c.args.size)) = omega (arith, abs, count, test) in
     let in_range : SFits w32 (get_or c.args.deeper.now 0 (pos 0)) = search rules in
     let next : to_z w32 (of_z w32 (get_or c.args.deeper.now 0 (pos 0))) ≡ get_or c.args.deeper.now 0 (pos 0) = to_z-of_z {w = w32} {z = get_or c.args.deeper.now 0 (pos 0)} in_range in
-    IsMakingParts-step c.args.program.now c.args.class.0 _ _ _ c.args.heap.now c.loop-index.heap c.grid.new.heap c.args.condition c.in_ok-array.array c.in_ok-part.part c.loop-index.index c.requires.known c.loop-index.invariant c.in_ok-part.ensures.extends (rw (c.component_of-component.ensures, next) at c.in_ok-part.ensures.ok) c.put_part.new.heap below c.in_ok-put_part.ensures.extends c.in_ok-put_part.ensures.ok
+    IsMakingParts-step c.args.program.now c.args.class.0 _ _ _ c.args.heap.now c.loop-index.heap c.grid.new.heap c.args.condition c.in_ok-array.array c.in_ok-part.part c.loop-index.index c.requires.known c.loop-index.invariant c.in_ok-part.ensures.extends (rw (c.component_of-component.ensures, next) at c.in_ok-part.ensures.ok) c.write_inside.new.heap below c.in_ok-write_inside.ensures.extends c.in_ok-write_inside.ensures.ok
 
 pub returns-clause-extends : goal.returns-clause-extends
 returns-clause-extends g t c = c.loop-index.invariant.extends

@@ -11,7 +11,8 @@ use Rattle.vx_heap.proofs.Known.{cond_known}
 use Rattle.vx_space.proofs.Spaces.{Extends-trans}
 use Rattle.vx_value.specs.Slot.{slot_cmp}
 use Rattle.vx_arrays.specs.Making.{lengths_behind, slots_from}
-use Rattle.vx_arrays.proofs.DividedGrids.{AreGridsMade-more, AreGridsMade-whole, AreSizes-of, IsDividing-apart, IsDividing-end, IsDividing-inside, IsDividing-skip, IsDividing-start, IsDividing-step, somewhere_in}
+use Rattle.vx_arrays.proofs.DividedGrids.{AreGridsMade-more, AreGridsMade-whole, AreSizes-of, IsDividing-apart, IsDividing-end, IsDividing-inside, IsDividing-skip, IsDividing-start, IsDividing-step}
+use Rattle.vx_cells.proofs.Somewhere.{somewhere_in}
 use Rattle.vx_arrays.proofs.MadeGrids.{AreGridsMade-illegal, lengths_none}
 use Rattle.vx_arrays.proofs.grids.+narrowing.Goals as goal
 

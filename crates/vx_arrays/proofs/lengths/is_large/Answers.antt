@@ -1,4 +1,4 @@
-use Rattle.std.proofs.Common.{◌≡◌, ◌∙◌, ◌||◌, ap, sym, map, nat_lt}
+use Rattle.std.proofs.Common.{◌∙◌, ◌||◌, ap, sym, map, nat_lt}
 use Rattle.vx_java.specs.Arrays.{grid_cells}
 use Rattle.vx_java.specs.Machine.{length_bound}
 use Rattle.vx_value.specs.Arithmetic.{natural}

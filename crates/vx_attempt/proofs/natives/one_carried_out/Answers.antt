@@ -10,7 +10,7 @@ returns-in_ok-same-in_default g c =
     let sets = g.S.Space.sets c.args.space.now in
     record {
       extends = Extends-refl sets;
-      carried = rw c.in_ok-same-in_default.ensures (AreCarriedOut-plain p (outcome_carried_out p) sets c.args.heap.now c.args.callers.now c.args.outcome c.requires.is_heap c.requires.is_for (IsPlain-other p c.args.outcome c.in_default.not-Begin c.in_default.not-Native));
+      carried = rw c.in_ok-same-in_default.ensures (AreCarriedOut-plain p (outcome_carried_out p) sets c.args.heap.now c.args.callers.now c.args.outcome c.requires.may.is_heap c.requires.may.is_for (IsPlain-other p c.args.outcome c.in_default.not-Begin c.in_default.not-Native));
       not_yet = λ e. cc e;
     }
 

@@ -1,39 +1,69 @@
-use Rattle.std.proofs.Common.{ap, arith, length}
+use Rattle.std.proofs.Common.{ap, arith, length, refl}
 use Rattle.std.specs.Vec.Iter.{into_iter_items}
 use Rattle.std.proofs.lemmas.Result.{err_from_is_err_and}
-use Rattle.vx_attempt.proofs.Carrying.{nothing_left}
-use Rattle.vx_attempt.proofs.Raised.{IsThrowing-end, IsThrowing-start, IsThrowing-step, SomeRefused-next}
+use Rattle.vx_space.proofs.Spaces.{Extends-trans}
+use Rattle.vx_standing.specs.Attempted.{thrown_out}
+use Rattle.vx_attempt.specs.Carrying.{is_refused}
+use Rattle.vx_attempt.proofs.Calls.{AreThere-grown, all_known}
+use Rattle.vx_attempt.proofs.Carrying.{IsCarrying-end, IsCarrying-start, IsCarrying-step, SomeComesTo-next, nothing_left}
+use Rattle.vx_attempt.proofs.Raised.{placed_append}
 use Rattle.vx_attempt.proofs.throwing.all_thrown.Goals as goal
 
 pub loop-outcome-init : goal.loop-outcome-init
 loop-outcome-init g c =
-    let gives = c.into_iter-outcome-iterator.ensures.into_iter_gives in (
+    let p = c.args.program.now in
+    let gives = c.into_iter-outcome-iterator.ensures.into_iter_gives in
+    let known = all_known p (g.S.Space.sets c.args.space.now) c.args.heap.now c.args.callers.now c.args.outcomes.items.items c.requires.there in (
       omega (arith, gives.1, ap length gives.0, c.args.outcomes.items.ok.0),
-      rw (gives.0, c.new-made.ensures) (IsThrowing-start c.args.program.now (g.S.Space.sets c.args.space.now) c.args.outcomes.items.items c.requires),
+      (rw (gives.0, c.new-made.ensures) (IsCarrying-start p (thrown_out p) (g.S.Space.sets c.args.space.now) c.args.heap.now c.args.callers.now c.args.outcomes.items.items c.requires.is_heap c.requires.is_for known), (rw gives.0 c.requires.there, rw c.new-made.ensures refl)),
     )
 
 pub one_thrown-requires : goal.one_thrown-requires
 one_thrown-requires g c =
-    let k = rw c.in-Some.ensures.steps.0 at c.loop-outcome.invariant.1 in
-    k.known.0
+    let k = rw c.in-Some.ensures.steps.0 at c.loop-outcome.invariant.1.0 in
+    let t = rw c.in-Some.ensures.steps.0 at c.loop-outcome.invariant.1.1.0 in
+    record { bounded = c.requires.bounded; is_heap = k.is_heap; is_for = k.is_for; there = (t.0, tt) }
+
+pub returns-in_err-some-clause-extends : goal.returns-in_err-some-clause-extends
+returns-in_err-some-clause-extends g c = Extends-trans c.loop-outcome.invariant.1.0.extends c.in_err-some.ensures.extends
 
 pub returns-in_err-some-clause-not_yet : goal.returns-in_err-some-clause-not_yet
 returns-in_err-some-clause-not_yet g c = λ e.
-    let k = rw c.in-Some.ensures.steps.0 at c.loop-outcome.invariant.1 in
+    let p = c.args.program.now in
+    let k = rw c.in-Some.ensures.steps.0 at c.loop-outcome.invariant.1.0 in
     let q = err_from_is_err_and c.from_residual.result c.from_residual.ensures.1 in
-    SomeRefused-next c.args.program.now (g.S.Space.sets c.args.space.now) c.args.outcomes.items.items c.in-Some.outcome (into_iter_items c.next.new.self) c.loop-outcome.made.items.items k (c.in_err-some.ensures.not_yet (cc (e, q.1, q.2)))
+    SomeComesTo-next p (thrown_out p) c.args.heap.now c.loop-outcome.heap c.args.callers.now c.loop-outcome.callers c.args.outcomes.items.items c.in-Some.outcome (into_iter_items c.next.new.self) c.loop-outcome.made.items.items k (is_refused p) (c.in_err-some.ensures.not_yet (cc (e, q.1, q.2)))
 
 pub loop-outcome-preserved : goal.loop-outcome-preserved
 loop-outcome-preserved g c =
-    let k = rw c.in-Some.ensures.steps.0 at c.loop-outcome.invariant.1 in (
+    let p = c.args.program.now in
+    let k = rw c.in-Some.ensures.steps.0 at c.loop-outcome.invariant.1.0 in
+    let t = rw c.in-Some.ensures.steps.0 at c.loop-outcome.invariant.1.1.0 in
+    let one = c.in_ok-some.ensures.carried in
+    let left = into_iter_items c.next.new.self in
+    let made = c.loop-outcome.made.items.items in
+    let some = c.in_ok-some.some.items.items in (
       omega (arith, c.loop-outcome.invariant.0, c.in-Some.ensures.steps.1, ap length c.in-Some.ensures.steps.0),
-      rw c.in_ok-append.ensures.ok (IsThrowing-step c.args.program.now (g.S.Space.sets c.args.space.now) c.args.outcomes.items.items c.in-Some.outcome (into_iter_items c.next.new.self) c.loop-outcome.made.items.items k c.in_ok-some.some.items.items c.in_ok-some.ensures.thrown c.in_ok-some.ensures.placed),
+      (
+        rw c.in_ok-append.ensures.ok (IsCarrying-step p (thrown_out p) c.args.heap.now c.loop-outcome.heap c.args.callers.now c.loop-outcome.callers c.args.outcomes.items.items c.in-Some.outcome left made k c.one_thrown.new.heap c.one_thrown.new.callers some c.in_ok-some.ensures.extends one),
+        (
+          AreThere-grown p c.in_ok-some.ensures.extends one.keeps c.loop-outcome.heap c.one_thrown.new.heap k.is_heap one.grows left t.1,
+          rw c.in_ok-append.ensures.ok (placed_append made some c.loop-outcome.invariant.1.1.1 c.in_ok-some.ensures.placed),
+        ),
+      ),
     )
 
-pub returns-clause-thrown : goal.returns-clause-thrown
-returns-clause-thrown g c =
+pub returns-in_err-append-clause-extends : goal.returns-in_err-append-clause-extends
+returns-in_err-append-clause-extends g c = Extends-trans c.loop-outcome.invariant.1.0.extends c.in_ok-some.ensures.extends
+
+pub returns-clause-extends : goal.returns-clause-extends
+returns-clause-extends g c = c.loop-outcome.invariant.1.0.extends
+
+pub returns-clause-carried : goal.returns-clause-carried
+returns-clause-carried g c =
+    let p = c.args.program.now in
     let left = into_iter_items c.loop-outcome.outcome-iterator in
-    IsThrowing-end c.args.program.now (g.S.Space.sets c.args.space.now) c.args.outcomes.items.items left c.loop-outcome.made.items.items (nothing_left left _ c.loop-outcome.invariant.0 c.in-None.ensures.steps.0) c.loop-outcome.invariant.1
+    IsCarrying-end p (thrown_out p) c.args.heap.now c.loop-outcome.heap c.args.callers.now c.loop-outcome.callers c.args.outcomes.items.items left c.loop-outcome.made.items.items (nothing_left left _ c.loop-outcome.invariant.0 c.in-None.ensures.steps.0) c.loop-outcome.invariant.1.0
 
 pub returns-clause-placed : goal.returns-clause-placed
-returns-clause-placed g c = c.loop-outcome.invariant.1.placed
+returns-clause-placed g c = c.loop-outcome.invariant.1.1.1

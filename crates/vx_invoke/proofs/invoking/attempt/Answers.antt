@@ -1,25 +1,66 @@
-use Rattle.std.proofs.Common.{◌∙◌, ap}
-use Rattle.std.specs.Prelude.{is_some}
-use Rattle.vx_invoke.proofs.Groups.{some_at}
-use Rattle.vx_invoke.proofs.Rows.{IsAttemptBy-referenced, IsRunning-given, MeetsUnbuilt-enters, owner_println}
+use Rattle.std.specs.Prelude.{◌≡◌, false, true}
+use Rattle.std.proofs.Common.{refl}
+use Rattle.std.proofs.lemmas.Result.{IfOk-weaker}
+use Rattle.vx_families.specs.Built.{is_built_operation}
+use Rattle.vx_families.specs.Pools.{pool_of}
+use Rattle.vx_java.specs.declared.operation.Operation.TheVariants.{Invoke}
+use Rattle.vx_java.specs.Named.{in_bytes}
+use Rattle.vx_space.proofs.Spaces.{Extends-refl}
+use Rattle.vx_invoke.proofs.Clones.{not_found, unresolved_by}
+use Rattle.vx_invoke.proofs.References.{IsAttemptIn-call, found-attempts, found_may_call, found_member, member_at, missing-attempts, reference_at}
+use Rattle.vx_invoke.specs.Calling.{is_found}
 use Rattle.vx_invoke.proofs.invoking.attempt.Goals as goal
 
-pub owner-owner-requires-clause-classes : goal.owner-owner-requires-clause-classes
-owner-owner-requires-clause-classes g c = c.requires.given.bounded.classes
+pub referenced-requires-clause-bounded : goal.referenced-requires-clause-bounded
+referenced-requires-clause-bounded g c = c.requires.given.bounded
 
-pub owner-owner-requires-clause-for_program : goal.owner-owner-requires-clause-for_program
-owner-owner-requires-clause-for_program g c = c.requires.given.is_for
+pub referenced-requires-clause-for_program : goal.referenced-requires-clause-for_program
+referenced-requires-clause-for_program g c = c.requires.given.is_for
 
-pub referenced_call-requires-clause-running : goal.referenced_call-requires-clause-running
-referenced_call-requires-clause-running g c = IsRunning-given c.args.site.now c.args.operation _ c.args.heap.now c.args.group c.requires.given
+pub found_call-requires : goal.found_call-requires
+found_call-requires g c =
+    let site = c.args.site.now in
+    let group = c.args.group in
+    let top = c.top_frame.result.now in
+    let class = c.class_of_method-class.result in
+    let f = reference_at site group top class c.top_frame.ensures c.class_of_method-class.ensures c.in-Invoke.mode c.in-Invoke.index c.referenced.result c.referenced.ensures in
+    let names = member_at site group top class c.top_frame.ensures c.class_of_method-class.ensures c.in-Invoke.index (in_bytes c.named_member-member.result) c.named_member-member.ensures in
+    record {
+      bounded = c.requires.given.bounded;
+      is_heap = c.requires.given.is_heap;
+      is_for = c.requires.given.is_for;
+      stands = c.requires.stands;
+      may_call = found_may_call site group top class c.top_frame.ensures c.class_of_method-class.ensures c.in-Invoke.mode c.in-Invoke.index c.referenced.result c.in-Found.named c.in-Found.resolved (in_bytes c.named_member-member.result) c.target_of-target.result f c.in-Found.is names c.target_of-target.ensures.target c.target_of-target.ensures.found.0 c.target_of-target.ensures.found.1;
+    }
 
-pub referenced_call-requires-clause-owner : goal.referenced_call-requires-clause-owner
-referenced_call-requires-clause-owner g c =
-    let stands = rw (c.class_of_method-class.ensures, c.top_frame.ensures) at c.owner-owner.ensures in
-    stands ∙ owner_println c.args.site.now c.args.group c.in-Invoke._mode c.in-Invoke.entry c.args.operation c.in-Invoke.is c.requires.family
+pub returns-in-Found-clause-ok : goal.returns-in-Found-clause-ok
+returns-in-Found-clause-ok g c =
+    let site = c.args.site.now in
+    let group = c.args.group in
+    let top = c.top_frame.result.now in
+    let class = c.class_of_method-class.result in
+    let m = in_bytes c.named_member-member.result in
+    let f = reference_at site group top class c.top_frame.ensures c.class_of_method-class.ensures c.in-Invoke.mode c.in-Invoke.index c.referenced.result c.referenced.ensures in
+    let names = member_at site group top class c.top_frame.ensures c.class_of_method-class.ensures c.in-Invoke.index m c.named_member-member.ensures in
+    let member = found_member site group top class c.top_frame.ensures c.class_of_method-class.ensures c.in-Invoke.mode c.in-Invoke.index c.referenced.result c.in-Found.named c.in-Found.resolved m c.target_of-target.result f c.in-Found.is names c.target_of-target.ensures.target c.target_of-target.ensures.found.0 c.target_of-target.ensures.found.1 in
+    IfOk-weaker c.found_call.result _ _ (λ r made. IsAttemptIn-call site c.args.operation c.in-Invoke.mode c.in-Invoke.index _ _ c.args.heap.now c.found_call.new.heap c.args.callers.now c.found_call.new.callers group r.items.items c.in-Invoke.is (found-attempts site group top class c.top_frame.ensures c.class_of_method-class.ensures c.in-Invoke.mode c.in-Invoke.index c.referenced.result c.in-Found.named c.in-Found.resolved m c.target_of-target.result f c.in-Found.is names c.target_of-target.ensures.target c.target_of-target.ensures.found.0 c.target_of-target.ensures.found.1 _ _ c.args.heap.now c.found_call.new.heap c.args.callers.now c.found_call.new.callers r.items.items (made m member))) c.found_call.ensures.ok
 
-pub returns-in-Ok-Some-clause-ok : goal.returns-in-Ok-Some-clause-ok
-returns-in-Ok-Some-clause-ok g c = IsAttemptBy-referenced c.args.site.now c.args.operation c.args.heap.now c.args.group _ _ _ c.in-Invoke.is c.requires.family c.referenced_call.ensures.extends c.requires.given (some_at _ c.in-Ok-Some.field-0 c.in-Ok-Some.outcomes c.in-Ok-Some.field-0-is c.in-Ok-Some.ensures.gives)
+pub unresolved-requires-clause-classes : goal.unresolved-requires-clause-classes
+unresolved-requires-clause-classes g c = c.requires.given.bounded.classes
 
-pub returns-in-Ok-None-clause-not_yet : goal.returns-in-Ok-None-clause-not_yet
-returns-in-Ok-None-clause-not_yet g c = λ _. MeetsUnbuilt-enters c.args.site.now _ c.args.heap.now c.args.group _ _ c.args.operation c.in-Invoke.is c.requires.family c.requires.given (c.in-Ok-None.ensures.enters (ap is_some c.in-Ok-None.field-0-is))
+pub unresolved-requires-clause-missing : goal.unresolved-requires-clause-missing
+unresolved-requires-clause-missing g c = not_found c.referenced.result c.in_default-referenced.not-Found
+
+pub returns-in_default-referenced-clause-ok : goal.returns-in_default-referenced-clause-ok
+returns-in_default-referenced-clause-ok g c =
+    let site = c.args.site.now in
+    let group = c.args.group in
+    let top = c.top_frame.result.now in
+    let class = c.class_of_method-class.result in
+    let m = in_bytes c.named_member-member.result in
+    let f = reference_at site group top class c.top_frame.ensures c.class_of_method-class.ensures c.in-Invoke.mode c.in-Invoke.index c.referenced.result c.referenced.ensures in
+    let names = member_at site group top class c.top_frame.ensures c.class_of_method-class.ensures c.in-Invoke.index m c.named_member-member.ensures in
+    let built : is_built_operation (pool_of site group) (Invoke c.in-Invoke.mode c.in-Invoke.index) ≡ true = rw c.in-Invoke.is at c.requires.family in
+    let missing : is_found c.referenced.result ≡ false = not_found c.referenced.result c.in_default-referenced.not-Found in
+    let unresolved = unresolved_by site.program.now (pool_of site group) c.in-Invoke.index c.in-Invoke.mode c.referenced.result built missing f in
+    IfOk-weaker c.unresolved.result _ _ (λ r gives. IsAttemptIn-call site c.args.operation c.in-Invoke.mode c.in-Invoke.index _ _ c.args.heap.now c.args.heap.now c.args.callers.now c.args.callers.now group r.items.items c.in-Invoke.is (missing-attempts site c.args.operation _ c.args.heap.now c.args.callers.now group c.in-Invoke.mode c.in-Invoke.index c.referenced.result m r.items.items c.requires.given c.requires.stands f names (gives c.in-Invoke.mode _ unresolved))) c.unresolved.ensures

@@ -1,4 +1,4 @@
-use Rattle.std.proofs.Common.{◌≡◌, ◌+◌, ◌^◌, ◌<◌, ◌≤◌, ◌∙◌, ap, arith, length}
+use Rattle.std.proofs.Common.{◌^◌, ◌<◌, ◌∙◌, ap, arith, length}
 use Rattle.vx_cond.proofs.CondLaws.{IsCond-of}
 use Rattle.vx_group.proofs.GroupLaws.{IsGroup-path_known}
 use Rattle.vx_group_states.specs.Answers.{answer_cmp}

@@ -1,4 +1,4 @@
-use Rattle.std.proofs.Common.{◌≡◌, ◌+◌, ◌-◌, ◌<◌, ◌≤◌, ◌∙◌, arith, length, refl}
+use Rattle.std.proofs.Common.{◌-◌, ◌<◌, ◌≤◌, ◌∙◌, arith, length, refl}
 use Rattle.vx_families.proofs.Given.{IsGiven-extends, given_ready}
 use Rattle.vx_group_states.specs.Answers.{answer_cmp}
 use Rattle.vx_group_states.specs.Sites.{here}
@@ -10,7 +10,7 @@ use Rattle.vx_list.specs.Places.{item_or}
 use Rattle.vx_space.proofs.Spaces.{Extends-trans}
 use Rattle.vx_value.specs.declared.slot.Slot.TheVariants.{Top}
 use Rattle.vx_objects.specs.Answers.{cast, cast_top}
-use Rattle.vx_objects.proofs.Operands.{few-attempts, made-attempts, one_made, operand_cond, operand_scope}
+use Rattle.vx_families.proofs.Operands.{few-attempts, made-attempts, one_made, operand_cond, operand_scope}
 use Rattle.vx_objects.proofs.Rows.{cast_held, cast_none, cast_row}
 use Rattle.vx_objects.proofs.casting.cast_top.Goals as goal
 

@@ -1,4 +1,4 @@
-use Rattle.std.proofs.Common.{◌≡◌, ◌<◌, ◌≤◌, ◌∙◌, arith, length}
+use Rattle.std.proofs.Common.{◌<◌, ◌≤◌, arith, length}
 use Rattle.vx_group_states.specs.Sites.{here}
 use Rattle.vx_java.specs.Machine.{unsupported}
 use Rattle.vx_java.specs.Operation.{class_word}

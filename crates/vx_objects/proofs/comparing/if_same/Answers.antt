@@ -1,4 +1,4 @@
-use Rattle.std.proofs.Common.{◌≡◌, ◌+◌, ◌-◌, ◌<◌, ◌≤◌, ◌∙◌, ap, arith, length, sym}
+use Rattle.std.proofs.Common.{◌≡◌, ◌-◌, ◌<◌, ◌≤◌, ◌∙◌, ap, arith, length, sym}
 use Rattle.std.proofs.lemmas.Int.{to_z-of_z}
 use Rattle.std.specs.Int.{w32}
 use mir.Val.{of_z, to_z}
@@ -16,7 +16,7 @@ use Rattle.vx_list.specs.Places.{item_or}
 use Rattle.vx_space.proofs.Spaces.{Extends-trans}
 use Rattle.vx_value.specs.declared.slot.Slot.TheVariants.{Top}
 use Rattle.vx_objects.specs.Answers.{compared}
-use Rattle.vx_objects.proofs.Operands.{few-attempts, made-attempts, operand_cond, operand_scope, two_made}
+use Rattle.vx_families.proofs.Operands.{few-attempts, made-attempts, operand_cond, operand_scope, two_made}
 use Rattle.vx_objects.proofs.Rows.{compared_held, compared_none, compared_row}
 use Rattle.vx_objects.proofs.comparing.if_same.Goals as goal
 

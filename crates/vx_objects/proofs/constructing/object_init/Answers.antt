@@ -4,7 +4,7 @@ use Rattle.vx_group_states.proofs.SettleLaws.{lifting_cond}
 use Rattle.vx_group_states.specs.Answers.{answer_cmp}
 use Rattle.vx_group_states.specs.declared.answer.Answer.TheVariants.{Illegal}
 use Rattle.vx_objects.proofs.InitRows.{nobody-attempts, object-attempts, static-attempts}
-use Rattle.vx_objects.proofs.Operands.{one_made, operand_cond, operand_scope}
+use Rattle.vx_families.proofs.Operands.{one_made, operand_cond, operand_scope}
 use Rattle.vx_objects.specs.Answers.{initialised}
 use Rattle.vx_space.proofs.Spaces.{Extends-trans}
 use Rattle.vx_objects.proofs.constructing.object_init.Goals as goal

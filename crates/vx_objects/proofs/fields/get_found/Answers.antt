@@ -1,11 +1,11 @@
-use Rattle.std.proofs.Common.{◌≡◌, ◌+◌, ◌<◌, ◌≤◌, ◌∙◌, arith, length}
+use Rattle.std.proofs.Common.{◌<◌, ◌≤◌, ◌∙◌, arith, length}
 use Rattle.vx_families.proofs.Given.{IsGiven-extends, given_ready}
 use Rattle.vx_fields.proofs.Families.{IsRunning-given}
 use Rattle.vx_heap.proofs.HeapLaws.{IsHeap-extends}
 use Rattle.vx_java.specs.Fields.{Found, get_from}
 use Rattle.vx_space.proofs.Spaces.{Extends-trans}
 use Rattle.vx_objects.proofs.FieldRows.{read_none}
-use Rattle.vx_objects.proofs.Operands.{few-attempts}
+use Rattle.vx_families.proofs.Operands.{few-attempts}
 use Rattle.vx_objects.proofs.Reaching.{get-attempts}
 use Rattle.vx_objects.proofs.fields.get_found.Goals as goal
 

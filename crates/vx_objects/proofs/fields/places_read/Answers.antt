@@ -1,4 +1,4 @@
-use Rattle.std.proofs.Common.{◌≡◌, ◌+◌, ◌-◌, ◌<◌, ◌≤◌, ◌∙◌, ap, arith, length, sym}
+use Rattle.std.proofs.Common.{◌-◌, ◌∙◌, ap, arith, length, sym}
 use Rattle.vx_cells.specs.Places.{place_cmp}
 use Rattle.vx_cells.specs.declared.place.Place.TheVariants.{Illegal}
 use Rattle.vx_cond.proofs.CondLaws.{IsCond-extends}
@@ -11,7 +11,7 @@ use Rattle.vx_link.specs.Parts.{field_at}
 use Rattle.vx_space.proofs.Spaces.{Extends-trans}
 use Rattle.vx_objects.specs.Answers.{field_place}
 use Rattle.vx_objects.proofs.FieldPlaces.{read_at, read_held, width_small}
-use Rattle.vx_objects.proofs.Operands.{one_made, operand_cond, operand_scope}
+use Rattle.vx_families.proofs.Operands.{one_made, operand_cond, operand_scope}
 use Rattle.vx_objects.proofs.fields.places_read.Goals as goal
 
 pub map-requires-clause-valid : goal.map-requires-clause-valid

@@ -1,4 +1,4 @@
-use Rattle.std.proofs.Common.{◌≡◌, ◌+◌, ◌-◌, ◌<◌, ◌≤◌, ◌∙◌, ap, arith, length, sym}
+use Rattle.std.proofs.Common.{◌-◌, ◌≤◌, ◌∙◌, ap, arith, length, sym}
 use Rattle.vx_cells.specs.Places.{place_cmp}
 use Rattle.vx_cells.specs.declared.place.Place.TheVariants.{Illegal}
 use Rattle.vx_families.proofs.Tops.{lifting2_cond}
@@ -10,7 +10,7 @@ use Rattle.vx_list.specs.Places.{item_or}
 use Rattle.vx_value.specs.declared.slot.Slot.TheVariants.{Top}
 use Rattle.vx_objects.specs.Answers.{stored_place}
 use Rattle.vx_objects.proofs.FieldPlaces.{written_held}
-use Rattle.vx_objects.proofs.Operands.{operand_cond, operand_scope, two_made}
+use Rattle.vx_families.proofs.Operands.{operand_cond, operand_scope, two_made}
 use Rattle.vx_objects.proofs.fields.places_written.Goals as goal
 
 pub top_operand-requires : goal.top_operand-requires

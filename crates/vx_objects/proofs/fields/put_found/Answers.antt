@@ -1,4 +1,4 @@
-use Rattle.std.proofs.Common.{◌≡◌, ◌+◌, ◌<◌, ◌≤◌, ◌∙◌, arith, length, sym}
+use Rattle.std.proofs.Common.{◌<◌, ◌≤◌, ◌∙◌, arith, length, sym}
 use Rattle.vx_cells.specs.Places.{place_cmp}
 use Rattle.vx_cond.proofs.CondLaws.{IsCond-extends}
 use Rattle.vx_families.proofs.Given.{IsGiven-extends, given_ready}
@@ -10,7 +10,7 @@ use Rattle.vx_java.specs.FirstObjects.{narrow_of_type}
 use Rattle.vx_space.proofs.Spaces.{Extends-trans}
 use Rattle.vx_objects.proofs.FieldPlaces.{places_later, values_held}
 use Rattle.vx_objects.proofs.FieldRows.{write_none}
-use Rattle.vx_objects.proofs.Operands.{few-attempts}
+use Rattle.vx_families.proofs.Operands.{few-attempts}
 use Rattle.vx_objects.proofs.Reaching.{put-attempts}
 use Rattle.vx_objects.proofs.fields.put_found.Goals as goal
 

@@ -1,10 +1,10 @@
-use Rattle.std.proofs.Common.{◌≡◌, ◌+◌, ◌-◌, ◌<◌, ◌≤◌, ◌∙◌, arith, length}
+use Rattle.std.proofs.Common.{◌-◌, ◌∙◌, arith, length}
 use Rattle.vx_fields.specs.Statics.{narrowed_slot}
 use Rattle.vx_group_states.proofs.SettleLaws.{lifting_cond}
 use Rattle.vx_java.specs.FirstObjects.{narrow_of_type}
 use Rattle.vx_value.specs.Slot.{slot_cmp}
 use Rattle.vx_value.specs.declared.slot.Slot.TheVariants.{Top}
-use Rattle.vx_objects.proofs.Operands.{one_made, operand_cond, operand_scope}
+use Rattle.vx_families.proofs.Operands.{one_made, operand_cond, operand_scope}
 use Rattle.vx_objects.proofs.fields.values_written.Goals as goal
 
 pub map-requires-clause-valid : goal.map-requires-clause-valid

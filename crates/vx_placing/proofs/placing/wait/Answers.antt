@@ -12,10 +12,10 @@ pub place_group-requires-clause-group : goal.place_group-requires-clause-group
 place_group-requires-clause-group g c = c.requires.going.stands.is_group
 
 pub place_group-requires-clause-apart : goal.place_group-requires-clause-apart
-place_group-requires-clause-apart g c = apart_from_groups _ (path_of c.args.group) c.args.round.now.groups.items c.requires.going.vacant.groups
+place_group-requires-clause-apart g c = apart_from_groups _ (path_of c.args.group) c.args.round.now.groups c.requires.going.vacant.groups
 
 pub place_group-requires-clause-fits : goal.place_group-requires-clause-fits
-place_group-requires-clause-fits g c = FitsAmong-shaped c.args.setting.now.program.now (g.S.Space.sets c.args.space.now) c.args.round.now.callers c.args.group c.args.round.now.groups.items c.requires.going.stands.is_group c.requires.going.stands.shaped c.requires.going.underway.waiting.are_groups c.requires.going.underway.waiting.shaped
+place_group-requires-clause-fits g c = FitsAmong-shaped c.args.setting.now.program.now (g.S.Space.sets c.args.space.now) c.args.round.now.callers c.args.group c.args.round.now.groups c.requires.going.stands.is_group c.requires.going.stands.shaped c.requires.going.underway.waiting.are_groups c.requires.going.underway.waiting.shaped
 
 pub returns-clause-gone : goal.returns-clause-gone
 returns-clause-gone g c =

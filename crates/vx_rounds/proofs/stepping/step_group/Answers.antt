@@ -1,84 +1,48 @@
-use Rattle.std.proofs.Common.{sym, ap, ◌∙◌}
+use Rattle.std.proofs.Common.{sym, ◌∙◌}
 use Rattle.std.proofs.lemmas.Result.{err_from_is_err_and}
-use Rattle.vx_standing.specs.State.{StateView}
-use Rattle.vx_turns.proofs.Closing.{closed_nodes, rounds_small}
-use Rattle.vx_placing.proofs.Going.{IsVacant-inside}
 use Rattle.vx_standing.proofs.Keeping.{state_known}
-use Rattle.vx_turns.proofs.Opening.{begun_underway, begun_unwritten, begun_vacant, chosen_is_group, may_spend, spent_count, spent_may}
-use Rattle.vx_placing.proofs.Putting.{IsUnderway-extends}
-use Rattle.vx_turns.proofs.Whole.{IsRound-closed, IsStuck-met, IsTurn-made, compacted_state}
+use Rattle.vx_turns.proofs.Tended.{IsRound-swept, IsRoundAt-tended, IsStuckAt-tended, state_nodes, swept_tree, tended_compacted, tended_state, tended_swept}
 use Rattle.vx_rounds.proofs.stepping.step_group.Goals as goal
 
 pub compact-requires : goal.compact-requires
-compact-requires g c = state_known c.args.program.now _ c.args.state.now.heap.allowed c.args.state.now c.requires.state
+compact-requires g c = state_known c.args.program.now (g.S.Space.sets c.args.space.now) c.args.state.now.heap.allowed c.args.state.now c.requires.state c.requires.tree
 
-pub spend-requires-clause-group : goal.spend-requires-clause-group
-spend-requires-clause-group g c =
-    let h = compacted_state c.args.program.now _ _ c.args.state.now.heap.allowed c.args.state.now c.requires.state c.in_ok-compact.ensures.compacted in
-    chosen_is_group c.args.program.now _ c.args.state.now.heap.allowed c.args.state.now c.begin_round-begun.new.state c.args.which c.begin_round-begun.result.0 c.begin_round-begun.result.1 h c.begin_round-begun.ensures
+pub make_round-requires-clause-state : goal.make_round-requires-clause-state
+make_round-requires-clause-state g c =
+    let p = c.args.program.now in
+    let old = g.S.Space.sets c.args.space.now in
+    let compacted = g.S.Space.sets c.compact.new.space in
+    let st = c.args.state.now in
+    tended_state p old compacted st st c.requires.state (tended_compacted p old compacted st.heap.allowed st c.requires.state c.in_ok-compact.ensures.compacted)
 
-pub spend-requires-clause-below : goal.spend-requires-clause-below
-spend-requires-clause-below g c =
-    let h = compacted_state c.args.program.now _ _ c.args.state.now.heap.allowed c.args.state.now c.requires.state c.in_ok-compact.ensures.compacted in
-    may_spend c.args.program.now _ c.args.state.now.heap.allowed c.args.state.now c.begin_round-begun.new.state c.args.which c.begin_round-begun.result.0 c.begin_round-begun.result.1 h c.begin_round-begun.ensures
+pub returns-in_err-make_round-clause-not_yet : goal.returns-in_err-make_round-clause-not_yet
+returns-in_err-make_round-clause-not_yet g c e =
+    let p = c.args.program.now in
+    let old = g.S.Space.sets c.args.space.now in
+    let compacted = g.S.Space.sets c.compact.new.space in
+    let st = c.args.state.now in
+    let k = err_from_is_err_and c.from_residual-in_err-make_round.result c.from_residual-in_err-make_round.ensures.1 in
+    IsStuckAt-tended p old compacted st st c.args.which (tended_compacted p old compacted st.heap.allowed st c.requires.state c.in_ok-compact.ensures.compacted) (c.in_err-make_round.ensures.not_yet (cc (e, k.1, k.2)))
 
-pub make-requires : goal.make-requires
-make-requires g c =
-    let h = compacted_state c.args.program.now _ _ c.args.state.now.heap.allowed c.args.state.now c.requires.state c.in_ok-compact.ensures.compacted in
-    let b = c.begin_round-begun.ensures in
-    let x = c.in_ok-spent.ensures.extends in
-    let u = begun_underway c.args.program.now _ c.args.state.now.heap.allowed c.args.state.now c.begin_round-begun.new.state c.args.which c.begin_round-begun.result.0 c.begin_round-begun.result.1 h b in
-    let n = begun_vacant c.args.program.now x c.args.state.now.heap.allowed c.args.state.now c.begin_round-begun.new.state c.args.which c.begin_round-begun.result.0 c.begin_round-begun.result.1 c.in_ok-spent.spent c.in_ok-spent.attempts h b c.in_ok-spent.ensures.spent in
-    let is_heap = ap (λ (x : StateView g.row.S.Denot g.row.S-Id.Denot). x.heap) (c.state.view_is ∙ b.state) in
-    let is_limit = ap (λ (x : StateView g.row.S.Denot g.row.S-Id.Denot). x.limit) (c.state.view_is ∙ b.state) in
-    record {
-      given = rw (is_heap, b.callers)
-          (spent_may c.args.program.now x c.args.state.now.heap.allowed c.args.state.now c.begin_round-begun.new.state c.args.which c.begin_round-begun.result.0 c.begin_round-begun.result.1 c.in_ok-spent.spent c.in_ok-spent.attempts h b c.in_ok-spent.ensures.spent);
-      underway = rw (is_heap, is_limit)
-          (IsUnderway-extends c.args.program.now x c.args.state.now.heap h.is_heap c.args.state.now.limit c.begin_round-begun.result.0 u);
-      counted = rw is_limit
-          (spent_count c.args.program.now x c.args.state.now.heap.allowed c.args.state.now c.begin_round-begun.new.state c.args.which c.begin_round-begun.result.0 c.begin_round-begun.result.1 c.in_ok-spent.spent c.in_ok-spent.attempts h b c.in_ok-spent.ensures.spent);
-      vacant = IsVacant-inside c.args.program.now x c.args.state.now.heap h.is_heap c.args.state.now.limit c.begin_round-begun.result.0 _ _ u (λ d t. t) n;
-      unwritten = begun_unwritten c.args.state.now c.begin_round-begun.new.state c.args.which c.begin_round-begun.result.0 c.begin_round-begun.result.1 _ _ b;
-    }
-
-pub returns-in_err-make-clause-not_yet : goal.returns-in_err-make-clause-not_yet
-returns-in_err-make-clause-not_yet g c e =
-    let b = c.begin_round-begun.ensures in
-    let same_heap = ap (λ (x : StateView g.row.S.Denot g.row.S-Id.Denot). x.heap) (c.state.view_is ∙ b.state) in
-    let u = rw (same_heap, b.callers) at (c.in_err-make.ensures.not_yet (let k = err_from_is_err_and c.from_residual-in_err-make.result c.from_residual-in_err-make.ensures.1 in cc (e, k.1, k.2))) in (
-      c.begin_round-begun.result.1,
-      b.chosen,
-      IsStuck-met c.args.program.now (g.S.Space.sets c.args.space.now) (g.S.Space.sets c.compact.new.space) (g.S.Space.sets c.spend.new.space) c.in_ok-spent.ensures.extends c.args.state.now.heap.allowed c.args.state.now c.begin_round-begun.new.state c.args.which c.begin_round-begun.result.0 c.begin_round-begun.result.1 c.in_ok-spent.spent c.in_ok-spent.attempts c.requires.state c.in_ok-compact.ensures.compacted b c.in_ok-spent.ensures.spent u,
-    )
-
-pub end_round-requires-clause-callers : goal.end_round-requires-clause-callers
-end_round-requires-clause-callers g c =
-    let b = c.begin_round-begun.ensures in
-    let h = compacted_state c.args.program.now _ _ c.args.state.now.heap.allowed c.args.state.now c.requires.state c.in_ok-compact.ensures.compacted in
-    let t = IsTurn-made c.args.program.now c.args.state.now.heap.allowed c.args.state.now c.begin_round-begun.new.state c.args.which c.begin_round-begun.result.0 c.begin_round-begun.result.1 c.in_ok-spent.spent c.in_ok-spent.attempts c.state.inside.heap c.make.new.heap c.state.inside.limit c.make.new.round h b c.in_ok-spent.ensures.extends c.in_ok-spent.ensures.spent c.in_ok-make.ensures.extends
-    (ap (λ (x : StateView g.row.S.Denot g.row.S-Id.Denot). x.heap) (c.state.view_is ∙ b.state)) (ap (λ (x : StateView g.row.S.Denot g.row.S-Id.Denot). x.limit) (c.state.view_is ∙ b.state)) c.in_ok-make.ensures.made in
-    closed_nodes c.args.program.now c.args.state.now.heap.allowed c.args.state.now c.begin_round-begun.new.state c.args.which c.begin_round-begun.result.0 c.begin_round-begun.result.1 c.in_ok-spent.spent c.in_ok-spent.attempts c.make.new.heap c.make.new.round t
-
-pub end_round-requires-clause-rounds : goal.end_round-requires-clause-rounds
-end_round-requires-clause-rounds g c =
-    rw (ap (λ (x : StateView g.row.S.Denot g.row.S-Id.Denot). x.rounds) (c.state.view_is ∙ c.begin_round-begun.ensures.state))
-    (rounds_small c.args.program.now (g.S.Space.sets c.args.space.now) c.args.state.now.heap.allowed c.args.state.now (g.met.S.Space.lawful c.args.space.now) c.requires.state)
+pub sweep-requires : goal.sweep-requires
+sweep-requires g c = state_nodes c.args.program.now (g.S.Space.sets c.make_round.new.space) c.args.state.now.heap.allowed c.make_round.new.state c.in_ok-make_round.ensures.ok.2.is_state
 
 pub returns-clause-ok : goal.returns-clause-ok
 returns-clause-ok g c =
-    let b = c.begin_round-begun.ensures in
-    let h = compacted_state c.args.program.now _ _ c.args.state.now.heap.allowed c.args.state.now c.requires.state c.in_ok-compact.ensures.compacted in
-    let t = IsTurn-made c.args.program.now c.args.state.now.heap.allowed c.args.state.now c.begin_round-begun.new.state c.args.which c.begin_round-begun.result.0 c.begin_round-begun.result.1 c.in_ok-spent.spent c.in_ok-spent.attempts c.state.inside.heap c.make.new.heap c.state.inside.limit c.make.new.round h b c.in_ok-spent.ensures.extends c.in_ok-spent.ensures.spent c.in_ok-make.ensures.extends
-    (ap (λ (x : StateView g.row.S.Denot g.row.S-Id.Denot). x.heap) (c.state.view_is ∙ b.state)) (ap (λ (x : StateView g.row.S.Denot g.row.S-Id.Denot). x.limit) (c.state.view_is ∙ b.state)) c.in_ok-make.ensures.made in (
-      c.begin_round-begun.result.1,
-      b.chosen,
-      IsRound-closed c.args.program.now (g.S.Space.sets c.args.space.now) (g.met.S.Space.lawful c.compact.new.space) c.args.state.now.heap.allowed c.args.state.now c.begin_round-begun.new.state _ c.end_round.new.state c.args.which c.begin_round-begun.result.0 c.begin_round-begun.result.1 c.in_ok-spent.spent c.in_ok-spent.attempts c.make.new.heap c.make.new.round c.requires.state c.in_ok-compact.ensures.compacted t
-          (ap (λ (x : StateView g.row.S.Denot g.row.S-Id.Denot). record x { heap = c.make.new.heap }) c.state.view_is) c.in_ok-end_round.ensures,
-    )
+    let p = c.args.program.now in
+    let old = g.S.Space.sets c.args.space.now in
+    let compacted = g.S.Space.sets c.compact.new.space in
+    let new = g.S.Space.sets c.make_round.new.space in
+    let st = c.args.state.now in
+    let made = c.make_round.new.state in
+    let t = tended_compacted p old compacted st.heap.allowed st c.requires.state c.in_ok-compact.ensures.compacted in
+    let round = IsRoundAt-tended p old compacted new st st made c.args.which c.requires.state t c.in_ok-make_round.ensures.ok in
+    (round.0, round.1, IsRound-swept p old new st.heap.allowed st made c.sweep.new.state round.0 round.2 (tended_swept p new st.heap.allowed made c.sweep.new.state round.2.is_state c.in_ok-sweep.ensures))
+
+pub returns-clause-tree : goal.returns-clause-tree
+returns-clause-tree g c = swept_tree c.args.program.now (g.S.Space.sets c.make_round.new.space) c.args.state.now.heap.allowed c.make_round.new.state c.sweep.new.state c.in_ok-make_round.ensures.ok.2.is_state c.in_ok-sweep.ensures
 
 pub returns-clause-based : goal.returns-clause-based
 returns-clause-based g c q =
-    let e = c.in_ok-spent.ensures.extends in
-    let f = c.in_ok-make.ensures.extends in
-    rw (f.base ∙ e.base) (c.in_ok-compact.ensures.based (sym (f.counts ∙ e.counts) ∙ q))
+    let e = c.in_ok-make_round.ensures.extends in
+    rw e.base (c.in_ok-compact.ensures.based (sym e.counts ∙ q))

@@ -1,0 +1,5 @@
+pub mod Exceptions
+pub mod Thrown
+pub mod Flights
+pub mod Landings
+pub mod Making
