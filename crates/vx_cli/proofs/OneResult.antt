@@ -11,15 +11,17 @@ use Rattle.vx_people.specs.declared.telling.Telling.{Telling}
 use Rattle.vx_report_reader.proofs.Verdicts.{report_same}
 use Rattle.vx_reporting.proofs.OneText.{one_text}
 use Rattle.vx_reporting.specs.Reported.{IsReported}
-use Rattle.vx_cli.specs.Causes.{AreClasses, HasOneResult, IsAgreeing, IsProjection, IsReport, IsResult, IsShown, IsTold}
-use Rattle.vx_cli.specs.Command.{Agree, Asm, Command, Project, Run, Show, Tell}
+use Rattle.vx_cli.specs.Causes.{AreClasses, HasOneResult, IsAgreeing, IsProjection, IsReport, IsResult, IsShown, IsTold, IsVerification}
+use Rattle.vx_cli.specs.Command.{Agree, Asm, Command, Project, Run, Show, Tell, Verify}
 use Rattle.vx_cli.specs.Ends.{Ends}
 use Rattle.vx_cli.specs.Job.{names_of, program_in}
 use Rattle.vx_cli.specs.PlanOf.{plan_of}
 use Rattle.vx_cli.specs.Project.{projected}
 use Rattle.vx_cli.specs.Run.{class_paths}
+use Rattle.vx_cli.specs.Verdicts.{IsVerdictText}
 use Rattle.vx_cli.specs.declared.status.Status.{Status}
 use Rattle.vx_cli.specs.declared.status.Status.TheVariants.{Done}
+use Rattle.vx_cli.proofs.Judging.{one_verdict_text}
 use Rattle.vx_cli.proofs.OneListing.{one_listing}
 use Rattle.vx_cli.proofs.RunShown.{same_classes}
 use Rattle.vx_cli.proofs.Shown.{call_shows}
@@ -36,6 +38,17 @@ one_report held folder path main limit version one other h k =
     (subst (λ c. program_in main h.model c ≡ Ok k.reported.program) (sym classes) (subst (λ m. program_in main m k.classes ≡ Ok k.reported.program) (sym model) k.reported.is_program)) in
     one_text version (names_of h.model) limit (is_allowed h.model) h.reported.program one other h.reported.is_report
     (subst (λ p. IsReported version (names_of h.model) limit (is_allowed h.model) p other) (sym program) (subst (λ m. IsReported version (names_of m) limit (is_allowed m) k.reported.program other) (sym model) k.reported.is_report))
+
+-- and so the same verdict
+one_verification : (held : Held) (folder path main : List ℕ) (one other : List ℕ) → IsVerification held folder path main one → IsVerification held folder path main other → one ≡ other
+one_verification held folder path main one other h k =
+    let model : h.model ≡ k.model = same_value h.model k.model _ h.modeled.reads k.modeled.reads in
+    let listing = one_listing held folder h.all.listed.listing k.all.listed.listing h.all.listed.listed k.all.listed.listed in
+    let paths : h.paths ≡ k.paths = h.all.listed.classes ∙ ap class_paths listing ∙ sym k.all.listed.classes in
+    let classes : h.classes ≡ k.classes = same_classes held folder h.paths h.classes k.classes h.all.good (subst (λ p. AreClasses held folder p k.classes) (sym paths) k.all.good) in
+    let program : h.judged.program ≡ k.judged.program = same_value h.judged.program k.judged.program (program_in main h.model h.classes) h.judged.is_program
+    (subst (λ c. program_in main h.model c ≡ Ok k.judged.program) (sym classes) (subst (λ m. program_in main m k.classes ≡ Ok k.judged.program) (sym model) k.judged.is_program)) in
+    one_verdict_text h.judged.program one other h.judged.is_text (subst (λ p. IsVerdictText p other) (sym program) k.judged.is_text)
 
 one_projection : (held : Held) (path word one other : List ℕ) → IsProjection held path word one → IsProjection held path word other → one ≡ other
 one_projection held path word one other h k =
@@ -59,6 +72,7 @@ one_result held (Project path word) one other p h k = one_projection held path w
 one_result held (Tell telling path) one other p h k = one_telling held telling path one other p h k
 one_result held (Agree path against) one other p h k = one_agreeing held path against one other h k
 one_result held (Asm path) one other p h k = same_value one other _ h.is_text k.is_text
+one_result held (Verify folder path main) one other p h k = one_verification held folder path main one other h k
 one_result held (Show page) one other p h k = h ∙ sym k
 
 -- a call that is done has written each text that its command asks for, of which there is one

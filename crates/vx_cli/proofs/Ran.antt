@@ -27,7 +27,7 @@ linked_if : (r : Result Program LinkFault) (p : Program) → or_bad_link r ≡ O
 linked_if (Ok q) p e = let same : q ≡ p = cc in ap Ok same
 linked_if (Err fault) p e = cc
 
-linked_is : (main : List ℕ) (model : Model) (classes : List ClassFile) (p : Program) → program_in main model classes ≡ Ok p → linked_program classes model.options (slashed main) ≡ Ok p
+pub linked_is : (main : List ℕ) (model : Model) (classes : List ClassFile) (p : Program) → program_in main model classes ≡ Ok p → linked_program classes model.options (slashed main) ≡ Ok p
 unfolding program_in
 linked_is main model classes p e = linked_if (linked_program classes model.options (slashed main)) p e
 

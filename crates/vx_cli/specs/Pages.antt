@@ -16,6 +16,7 @@ help_text =
     ++ codes "  varexj picture REPORT            its diagram, for Graphviz\n"
     ++ codes "  varexj agree REPORT OTHER        where two reports say the same\n"
     ++ codes "  varexj asm SOURCE                the class file that a source names\n"
+    ++ codes "  varexj verify FOLDER MODEL MAIN  whether each method has a typing\n"
     ++ codes "  varexj --help, varexj --version  this page, and the version\n"
     ++ codes "\n"
     ++ codes "FOLDER  a folder of class files of Java 8 or before\n"

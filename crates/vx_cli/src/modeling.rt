@@ -9,6 +9,7 @@ ghost use Rattle.vx_cli.specs.Job.{IsModeled, model_of, spelled_model};
 ghost use Rattle.vx_cli.specs.KeepsFiles.{KeepsFiles};
 ghost use Rattle.vx_cli.specs.Plan.{AllowsNone, AllowsSome, Leads, MayStop, Plan};
 ghost use Rattle.vx_cli.specs.Run.{read_model};
+ghost use Rattle.vx_cli.specs.Verify.{read_any_model};
 
 use crate::job::is_dimacs;
 use crate::reading::{MOST_BYTES, read_file};
@@ -102,4 +103,17 @@ pub fn read_model_file<F: Files>(
         return Ok(found);
     }
     Err(Status::NoConfiguration)
+}
+
+/// Reads a model, whether or not it allows a configuration.
+pub fn read_any_model<F: Files>(alloc: Global, files: &mut F, path: &str) -> Result<Model, Status>
+    ensures ok { IfOk result (λ model. (next : Model → Plan) →
+        Leads (F.seen files.old).held (read_any_model path.now next) (next model)) }
+    ensures lawful { IfOk result IsModel }
+    ensures err { IfErr result (λ status. (next : Model → Plan) →
+        MayStop (F.seen files.old) (F.seen files.new) (read_any_model path.now next) status) }
+    ensures keeps { KeepsFiles (F.seen files.old) (F.seen files.new) }
+{
+    let text = read_file(alloc, files, MOST_BYTES, path, path)?;
+    model_of(alloc, path, text.as_slice())
 }

@@ -26,6 +26,7 @@ const HELP: &[u8] =
 \x20 varexj picture REPORT            its diagram, for Graphviz\n\
 \x20 varexj agree REPORT OTHER        where two reports say the same\n\
 \x20 varexj asm SOURCE                the class file that a source names\n\
+\x20 varexj verify FOLDER MODEL MAIN  whether each method has a typing\n\
 \x20 varexj --help, varexj --version  this page, and the version\n\
 \n\
 FOLDER  a folder of class files of Java 8 or before\n\

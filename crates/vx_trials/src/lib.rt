@@ -148,7 +148,7 @@ mod tests {
     ];
 
     /// Words, and what has to come: the code, `out`, and `err`.
-    const CASES: [(&str, u8, &str, &str); 58] = [
+    const CASES: [(&str, u8, &str, &str); 65] = [
         (
             "run a m Main 100 1",
             0,
@@ -355,6 +355,18 @@ mod tests {
         ("agree report cut", 10, "", "bad report line 6\n"),
         ("agree cut absent", 10, "", "bad report line 6\n"),
         ("agree report", 2, "", "usage\n"),
+        ("verify a m Main", 0, "verified\n", ""),
+        ("verify a none Main", 0, "verified\n", ""),
+        (
+            "verify i e Main",
+            0,
+            "refused Main.main([Ljava/lang/String;)V\n",
+            "",
+        ),
+        ("verify a bad Main", 5, "", "bad model line 2 reason 4\n"),
+        ("verify n m Main", 8, "", "no option A\n"),
+        ("verify c e Main", 8, "", "cycle P\n"),
+        ("verify n e", 2, "", "usage\n"),
         ("asm word", 12, "", "bad source line 1 reason 1\n"),
         ("asm", 2, "", "usage\n"),
     ];
