@@ -4,17 +4,21 @@ use Rattle.vx_io.specs.Held.{FilesState, Held, contents}
 use Rattle.vx_io.specs.Sink.{Gains, SinkState}
 use Rattle.vx_agree.proofs.Agreeing.{one_agreement_text}
 use Rattle.vx_agree.specs.Text.{IsAgreementText}
+use Rattle.vx_model.specs.Models as models
 use Rattle.vx_model.specs.Models.{is_allowed}
 use Rattle.vx_people.proofs.OneText.{one_told_text}
 use Rattle.vx_people.specs.Tellings.{HasOneText, IsToldText}
 use Rattle.vx_people.specs.declared.telling.Telling.{Telling}
 use Rattle.vx_report_reader.proofs.Verdicts.{report_same}
+use Rattle.vx_report_reader.specs.Rules.{ReportText}
 use Rattle.vx_reporting.proofs.OneText.{one_text}
 use Rattle.vx_reporting.specs.Reported.{IsReported}
+use Rattle.vx_summary.specs.Summary.{summary_text}
 use Rattle.vx_cli.specs.Causes.{AreClasses, HasOneResult, IsAgreeing, IsProjection, IsReport, IsResult, IsShown, IsTold}
-use Rattle.vx_cli.specs.Command.{Agree, Asm, Command, Project, Run, Show, Tell}
+use Rattle.vx_cli.specs.Command.{Agree, Asm, Command, Load, Project, Run, Show, Tell}
 use Rattle.vx_cli.specs.Ends.{Ends}
 use Rattle.vx_cli.specs.Job.{names_of, program_in}
+use Rattle.vx_cli.specs.Load.{IsSummary, load_limit, load_model, load_program}
 use Rattle.vx_cli.specs.PlanOf.{plan_of}
 use Rattle.vx_cli.specs.Project.{projected}
 use Rattle.vx_cli.specs.Run.{class_paths}
@@ -53,12 +57,22 @@ one_agreeing held path against one other h k =
     let reference : h.against ≡ k.against = report_same (contents held against) h.against k.against h.is_other.spells k.is_other.spells in
     one_agreement_text h.report h.against one other h.is_text (subst (λ r. IsAgreementText r h.against other) (sym report) (subst (λ r. IsAgreementText k.report r other) (sym reference) k.is_text))
 
+-- one report, and so one summary
+one_summary : (seed options : ℕ) (one other : List ℕ) → IsSummary seed options one → IsSummary seed options other → one ≡ other
+one_summary seed options one other h k =
+    let written : h.written ≡ k.written =
+    one_text 1 (models.names_of (load_model options)) load_limit (is_allowed (load_model options)) (load_program seed options) h.written k.written h.reported k.reported in
+    let report : h.reported.report ≡ k.reported.report =
+    report_same h.written h.reported.report k.reported.report h.reported.spells (subst (λ w. ReportText w k.reported.report) (sym written) k.reported.spells) in
+    h.spelled ∙ ap (summary_text seed) report ∙ sym k.spelled
+
 one_result : (held : Held) (command : Command) (one other : List ℕ) → HasOneResult command → IsResult held command one → IsResult held command other → one ≡ other
 one_result held (Run folder path main limit version) one other p h k = one_report held folder path main limit version one other h k
 one_result held (Project path word) one other p h k = one_projection held path word one other h k
 one_result held (Tell telling path) one other p h k = one_telling held telling path one other p h k
 one_result held (Agree path against) one other p h k = one_agreeing held path against one other h k
 one_result held (Asm path) one other p h k = same_value one other _ h.is_text k.is_text
+one_result held (Load seed options) one other p h k = one_summary seed options one other h k
 one_result held (Show page) one other p h k = h ∙ sym k
 
 -- a call that is done has written each text that its command asks for, of which there is one

@@ -82,6 +82,21 @@ fn is_allowing<S: Space>(space: &S, model: &Model, allowed: S::Id) -> bool
     !space.is_never(allowed)
 }
 
+/// A model that allows a configuration, with a space of its options and the set of those that it allows.
+pub fn modeled(alloc: Global, model: Model) -> Result<Modeled, Status>
+    requires lawful { IsModel model }
+    requires names { HasOptionNames model }
+    ensures { MatchResult result
+        (λ found. (found.model ≡ model) × IsModeled found.model (⟦<BddSpace as Space>⟧.sets found.space) found.allowed)
+        (λ status. (status ≡ Status.NoMemory) ⊎ ((status ≡ Status.NoConfiguration) × AllowsNone model)) }
+{
+    let found = with_allowed(alloc, model)?;
+    if is_allowing(&found.space, &found.model, found.allowed) {
+        return Ok(found);
+    }
+    Err(Status::NoConfiguration)
+}
+
 /// Reads a model that allows a configuration.
 pub fn read_model_file<F: Files>(
     alloc: Global,
@@ -97,9 +112,5 @@ pub fn read_model_file<F: Files>(
 {
     let text = read_file(alloc, files, MOST_BYTES, path, path)?;
     let model = model_of(alloc, path, text.as_slice())?;
-    let found = with_allowed(alloc, model)?;
-    if is_allowing(&found.space, &found.model, found.allowed) {
-        return Ok(found);
-    }
-    Err(Status::NoConfiguration)
+    modeled(alloc, model)
 }
