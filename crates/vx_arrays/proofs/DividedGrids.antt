@@ -2,6 +2,7 @@
 use Rattle.std.proofs.Common.{◌≡◌, ℕ, ℤ, zero, suc, ◌+◌, ◌-◌, ◌<◌, ◌≤◌, Bool, true, false, List, [], ◌∷◌, ◌++◌, refl, sym, ◌∙◌, ap, arith, drop, get_or, length, map, subst, take}
 use Rattle.std.proofs.lemmas.List.{append-nil, drop_all, length-append, length-map, take_all}
 use Rattle.std.specs.Prelude.{Option, Some, None, ◌&&◌, ◌||◌, is_some, if◌then◌else◌, option_map, slice_get}
+use Rattle.vx_cells.proofs.Making.{AreMade-all, AreMade-extends, AreMade-none, AreMade-then}
 use Rattle.vx_cond.specs.Cond.{AreDisjoint, Conditional, IsCond, cond_at}
 use Rattle.vx_cond.specs.Leaves.{AreLeaves, value_at}
 use Rattle.vx_cond.specs.Row.{Conditionals, IsRow}
@@ -21,8 +22,8 @@ use Rattle.vx_space.proofs.Spaces.{Extends-refl, Extends-trans}
 use Rattle.vx_value.specs.Slot.{slot_cmp}
 use Rattle.vx_value.specs.declared.slot.Slot.{Slot}
 use Rattle.vx_value.specs.declared.slot.Slot.TheVariants.{Int}
-use Rattle.vx_arrays.specs.Making.{AreGridsAnswered, AreGridsMade, lengths_behind, lengths_of, slots_from}
-use Rattle.vx_arrays.proofs.MadeGrids.{AreGridsMade-all, AreGridsMade-extends, AreGridsMade-none, AreGridsMade-then, lengths_more}
+use Rattle.vx_arrays.specs.Making.{AreGridsAnswered, AreGridsMade, grid_made, grids_made, lengths_behind, lengths_of, slots_from}
+use Rattle.vx_arrays.proofs.MadeGrids.{lengths_more}
 
 -- ---- slots of a stack
 
@@ -78,7 +79,7 @@ module _ {S I : Type 0} (p : Program) (class : ℕ) (s0 s1 : Sets I) (before aft
   pub AreGridsMade-scope : IsLawful s0 → IsLawful s1 → Extends s0 s1 → (path : I) → s0.is_known path ≡ true → answers.scope ≡ s0.never → AreGridsMade p class (λ c. lengths_behind [] (slots_from s0 stack dimensions 0 c)) s0 s1 before after (s0.test path) answers made → AreGridsAnswered p class (λ c. lengths_of (slots_from s0 stack dimensions 0 c)) s0 s1 before after path made
   AreGridsMade-scope l0 l1 e path k n h =
       let P : (List Bool → Option (List ℤ)) → Type 0 = λ l. AreGridsMade p class l s0 s1 before after (s0.test path) answers made in
-      AreGridsMade-all p class (λ c. lengths_of (slots_from s0 stack dimensions 0 c)) l0 l1 e before after path answers made k n (subst P (λ j c. lengths_first (slots_from s0 stack dimensions 0 c) j) h)
+      AreMade-all (grids_made p class (λ c. lengths_of (slots_from s0 stack dimensions 0 c))) l0 l1 e before after path answers made k n (subst P (λ j c. lengths_first (slots_from s0 stack dimensions 0 c) j) h)
 
 -- ---- the loop over the leaves
 
@@ -93,7 +94,7 @@ and_false false = refl
 pub IsDividing-start : {S I : Type 0} (p : Program) (class : ℕ) (lengths : List Bool → Option (List ℤ)) (sets : Sets I) (heap : HeapView S I) (condition : I) (leaves : List (Leaf Slot S I)) (answers : Conditional Answer S I) → IsHeap sets heap → IsCond answer_cmp sets answers → IsDividing p class lengths sets sets heap heap condition leaves 0 answers answers
 IsDividing-start p class lengths sets heap condition leaves answers v w = record {
   extends = Extends-refl sets;
-  grids = AreGridsMade-none p class lengths sets heap (λ c. sets.test condition c && is_some (value_at sets (take 0 leaves) c)) answers v w (λ c. and_false (sets.test condition c));
+  grids = AreMade-none (grids_made p class lengths) sets heap (λ c. sets.test condition c && is_some (value_at sets (take 0 leaves) c)) answers v w (λ c. and_false (sets.test condition c));
 }
 
 -- what the leaves of one dimension are
@@ -159,7 +160,7 @@ module _ {S I : Type 0} (p : Program) (class : ℕ) (s0 : Sets I) (stack : Condi
       let P : (List Bool → Bool) → Type 0 = λ set. AreGridsMade p class all_lengths s0 s2 before now set answers made in
       record {
         extends = Extends-trans h.extends e;
-        grids = subst P (λ j c. sym (same c) j) (AreGridsMade-extends p class all_lengths e before now (λ c. s0.test condition c && is_some (value_at s0 (take i leaves) c)) answers made h.grids);
+        grids = subst P (λ j c. sym (same c) j) (AreMade-extends (grids_made p class all_lengths) e before now (λ c. s0.test condition c && is_some (value_at s0 (take i leaves) c)) answers made h.grids);
       }
     where
       next : IsNext s0 leaves i x
@@ -179,10 +180,10 @@ module _ {S I : Type 0} (p : Program) (class : ℕ) (s0 : Sets I) (stack : Condi
   pub IsDividing-step : {s1 s2 s3 : Sets I} → Extends s1 s2 → Extends s2 s3 → (now after : HeapView S I) (i : ℕ) (x : Leaf Slot S I) (inner : I) (made last : Conditional Answer S I) → IsRow slot_cmp s0 stack → s0.is_known condition ≡ true → AreSizes s0 stack (length stack.conds - dimensions + length lengths) leaves → i < length leaves → x ≡ get_or leaves i x → Divides s1 now i made → IsSet s2 inner (λ c. s1.test condition c && s1.test x.condition c) → AreGridsMade p class (λ c. lengths_behind lengths (x.value ∷ slots_from s2 stack dimensions (length lengths + 1) c)) s2 s3 now after (s2.test inner) made last → Divides s3 after (i + 1) last
   IsDividing-step {s1 = s1} {s2 = s2} {s3 = s3} e f now after i x inner made last v k sizes l q h n g = record {
     extends = Extends-trans h.extends (Extends-trans e f);
-    grids = AreGridsMade-then p class all_lengths (λ c. lengths_behind lengths (x.value ∷ slots_from s2 stack dimensions (length lengths + 1) c)) f before now after
+    grids = AreMade-then (grids_made p class all_lengths) (grids_made p class (λ c. lengths_behind lengths (x.value ∷ slots_from s2 stack dimensions (length lengths + 1) c))) f before now after
         (λ c. s0.test condition c && is_some (value_at s0 (take i leaves) c)) (s2.test inner) (λ c. s0.test condition c && is_some (value_at s0 (take (i + 1) leaves) c))
-        answers made last apart agree union
-        (AreGridsMade-extends p class all_lengths e before now (λ c. s0.test condition c && is_some (value_at s0 (take i leaves) c)) answers made h.grids)
+        answers made last apart (λ c t. ap (grid_made p class) (agree c t)) union
+        (AreMade-extends (grids_made p class all_lengths) e before now (λ c. s0.test condition c && is_some (value_at s0 (take i leaves) c)) answers made h.grids)
         g;
   }
     where

@@ -2,27 +2,22 @@
 use Rattle.std.proofs.Common.{◌≡◌, ℕ, ℤ, zero, suc, ◌+◌, ◌-◌, ◌*◌, ◌<◌, ◌≤◌, ◌^◌, ◌⊎◌, Bool, true, false, List, [], ◌∷◌, ◌++◌, refl, sym, ◌∙◌, ap, arith, drop, inl, inr, length, map, reverse, subst, take}
 use Rattle.std.proofs.lemmas.List.{append-nil, length-drop, length-map, length-reverse, map-append, reverse-append, take-append-drop}
 use Rattle.std.specs.List.{list_any}
-use Rattle.std.specs.Prelude.{Option, Some, None, ◌||◌, nat_lt, not, if◌then◌else◌, option_and_then, option_map}
+use Rattle.std.specs.Prelude.{Option, Some, None, ◌||◌, nat_lt, if◌then◌else◌, option_and_then, option_map}
+use Rattle.vx_cells.specs.Making.{Making, Makes, Raises, made_row}
+use Rattle.vx_cells.proofs.Making.{attempts_after, making-attempts, making-ready}
 use Rattle.vx_cond.specs.Cond.{Conditional, cond_at}
 use Rattle.vx_cond.specs.Row.{Conditionals}
 use Rattle.vx_cond.specs.Slots.{or_top, slots_at}
 use Rattle.vx_frame.specs.declared.frame.Frame.{Frame}
 use Rattle.vx_group.specs.Group.{GroupView, IsGroup, path_of}
-use Rattle.vx_group.specs.declared.callers.Caller.{Caller}
-use Rattle.vx_group.proofs.CallerLaws.{Keeps-refl}
-use Rattle.vx_group.proofs.GroupLaws.{IsGroup-extends, IsGroup-path_known}
-use Rattle.vx_group_states.specs.Answering.{AreHeld, IsReady, answer_at, answered, answered_by, is_answer_held}
+use Rattle.vx_group_states.specs.Answering.{AreHeld, IsReady, answered_by}
 use Rattle.vx_group_states.specs.Sites.{Gives, GivesAt, here}
 use Rattle.vx_group_states.specs.Stands.{state_at}
 use Rattle.vx_group_states.specs.declared.answer.Answer.{Answer}
-use Rattle.vx_group_states.specs.declared.answer.Answer.TheVariants.{Give, Raise}
 use Rattle.vx_group_states.specs.declared.site.Site.{Site}
-use Rattle.vx_group_states.proofs.GrownStates.{StandsIn-grown}
 use Rattle.vx_group_states.proofs.SettleLaws.{stack_scope}
-use Rattle.vx_growth.specs.Changing.{with_globals}
-use Rattle.vx_growth.proofs.ChangeLaws.{attempts_follow, unchanged}
-use Rattle.vx_heap.specs.Changing.{IsChangedIn}
-use Rattle.vx_heap.specs.Heap.{Globals, HeapView, globals_at, is_held, name_at, value_of}
+use Rattle.vx_growth.proofs.ChangeLaws.{unchanged}
+use Rattle.vx_heap.specs.Heap.{HeapView, value_of}
 use Rattle.vx_java.specs.Arrays.{array_of, grid, grid_cells, lengths_off, new_array, new_grid_of}
 use Rattle.vx_java.specs.Ids.{as_class}
 use Rattle.vx_java.specs.Machine.{Go, Here, Outcome as PlainOutcome, State, Value, illegal, illegal_in, length_bound, past, push_new, raise, when, with_objects}
@@ -37,7 +32,7 @@ use Rattle.vx_space.proofs.Spaces.{Extends-refl}
 use Rattle.vx_value.specs.Arithmetic.{natural, negative}
 use Rattle.vx_value.specs.declared.slot.Slot.{Slot}
 use Rattle.vx_value.specs.declared.slot.Slot.TheVariants.{Int, Long, Null, Ref, Text, Top}
-use Rattle.vx_arrays.specs.Making.{AreGridsAnswered, IsGridAnswered, is_refused, lengths_of, slots_from, with_grid, with_grid_of}
+use Rattle.vx_arrays.specs.Making.{AreGridsAnswered, grid_made, grids_made, lengths_of, slots_from}
 
 -- ---- the lengths on top of operands
 
@@ -194,60 +189,34 @@ nonempty sets stack d c some enough e =
 
 -- ---- the row
 
-abbrev globals_of : State → Globals
-globals_of s = record { objects = s.heap; statics = s.statics; inits = s.inits }
-
-grid_row : {S I : Type 0} (site : Site) (sets : Sets I) (heap : HeapView S I) (c : List Bool) (class : ℕ) (s : State) (rest : List Value) (lengths : Option (List ℤ)) (a : Answer) → (lengths ≡ Some [] → ⊥) → IsGridAnswered site.program.now sets heap c (length s.heap) lengths a → answered sets heap c (here site (with_globals s (with_grid_of site.program.now class lengths (globals_of s)))) rest a ≡ new_grid_of (here site s) class (option_map (λ ns. (ns, rest)) lengths)
-grid_row site sets heap c class s rest None a n h = ap (answered sets heap c (here site s) rest) h.is
-grid_row site sets heap c class s rest (Some []) a n h = absurd (n refl)
-grid_row site sets heap c class s rest (Some (x ∷ xs)) a n h =
-    ap (answered sets heap c (here site (with_globals s (with_grid_of p class (Some (x ∷ xs)) (globals_of s)))) rest) h.is
-    ∙ cases (list_any negative (x ∷ xs)) (list_any (nat_lt length_bound) (map natural (x ∷ xs))) (nat_lt length_bound (grid_cells (map natural (x ∷ xs)))) (λ t. (h.made t).0)
+grid_row : (h : Here) (class : ℕ) (rest : List Value) (lengths : Option (List ℤ)) → (lengths ≡ Some [] → ⊥) → made_row h rest (grid_made h.program class lengths) ≡ new_grid_of h class (option_map (λ ns. (ns, rest)) lengths)
+grid_row h class rest None n = refl
+grid_row h class rest (Some []) n = absurd (n refl)
+grid_row h class rest (Some (x ∷ xs)) n = cases (list_any negative (x ∷ xs)) (list_any (nat_lt length_bound) (map natural (x ∷ xs))) (nat_lt length_bound (grid_cells (map natural (x ∷ xs))))
   where
     p : Program
-    p = site.program.now
+    p = h.program
 
-    cases : (negatives large many : Bool) → (not (negatives || large || many) ≡ true → name_at sets heap.objects c h.reference ≡ length s.heap) → answered sets heap c (here site (with_globals s (if negatives || large || many then globals_of s else with_grid p class (map natural (x ∷ xs)) (globals_of s)))) rest (if negatives then Raise (as_class (core_class p "java/lang/NegativeArraySizeException")) None else if negatives || large || many then Raise (as_class (core_class p "java/lang/OutOfMemoryError")) None else Give (Ref h.reference)) ≡ when negatives (raise (here site s) "java/lang/NegativeArraySizeException") (when (large || many) (raise (here site s) "java/lang/OutOfMemoryError") (Go (past (here site s) (with_objects s (grid p class (map natural (x ∷ xs)) (length s.heap))) (RefValue (length s.heap) ∷ rest))))
-    cases true large many f = refl
-    cases false true many f = refl
-    cases false false true f = refl
-    cases false false false f = ap (λ k. Go (past (here site s) (with_objects s (grid p class (map natural (x ∷ xs)) (length s.heap))) (RefValue k ∷ rest))) (f refl)
-
--- what it answers is there
-answer_held : {S I : Type 0} (p : Program) (sets : Sets I) (heap : HeapView S I) (c : List Bool) (number : ℕ) (lengths : Option (List ℤ)) (a : Answer) → IsGridAnswered p sets heap c number lengths a → is_answer_held sets heap c a ≡ true
-answer_held p sets heap c number None a h = ap (is_answer_held sets heap c) h.is
-answer_held p sets heap c number (Some lengths) a h = ap (is_answer_held sets heap c) h.is ∙ cases (list_any negative lengths) (is_refused lengths) (λ t. (h.made t).1)
-  where
-    cases : (a b : Bool) → (not b ≡ true → is_held sets heap c (Ref h.reference) ≡ true) → is_answer_held sets heap c (if a then Raise (as_class (core_class p "java/lang/NegativeArraySizeException")) None else if b then Raise (as_class (core_class p "java/lang/OutOfMemoryError")) None else Give (Ref h.reference)) ≡ true
-    cases true b f = refl
-    cases false true f = refl
-    cases false false f = f refl
+    cases : (negatives large many : Bool) → made_row h rest (if negatives then Raises (as_class (core_class p "java/lang/NegativeArraySizeException")) else if negatives || large || many then Raises (as_class (core_class p "java/lang/OutOfMemoryError")) else Makes (grid p class (map natural (x ∷ xs)))) ≡ when negatives (raise h "java/lang/NegativeArraySizeException") (when (large || many) (raise h "java/lang/OutOfMemoryError") (Go (past h (with_objects h.state (grid p class (map natural (x ∷ xs)) (length h.state.heap))) (RefValue (length h.state.heap) ∷ rest))))
+    cases true large many = refl
+    cases false true many = refl
+    cases false false true = refl
+    cases false false false = refl
 
 -- ---- attempts
 
--- a group whose heap changed inside its path, and for which a call then said what comes over the later heap
-attempts_after : {S I : Type 0} (site : Site) (says : State → PlainOutcome) (there : HeapView S I → List Bool → State → PlainOutcome) {s0 s1 s2 : Sets I} (before after : HeapView S I) (change : List Bool → Globals → Globals) (group : GroupView S I) (outcomes : List (Outcome S I)) → IsRunning site s0 before group → Extends s0 s1 → Extends s1 s2 → IsChangedIn s0 s1 before after (s0.test (path_of group)) change → ((tree : List (Option (Caller S I))) (c : List Bool) → s0.test (path_of group) c ≡ true → there after c (with_globals (state_at s0 before tree group c) (change c (globals_at s0 before c))) ≡ says (state_at s0 before tree group c)) → GivesAt site.program.now there s1 s2 group outcomes after → AttemptsBy site says s0 s2 before after group outcomes
-attempts_after site says there {s0 = s0} {s1 = s1} {s2 = s2} before after change group outcomes r e f changed law gives =
-    let p = site.program.now in
-    record {
-      is_for = changed.keeps p r.is_for;
-      attempts = λ tree s. attempts_follow p says (there after) s0 s1 s2 before after (s0.test (path_of group)) change tree tree group outcomes r.is_heap s e changed (λ c t. t) f (Keeps-refl tree)
-          (λ c t. ap (λ b. there after c (with_globals (state_at s0 before tree group c) (if b then change c (globals_at s0 before c) else globals_at s0 before c))) t ∙ law tree c t)
-          (gives tree changed.is_heap (StandsIn-grown p e (Keeps-refl tree) before after r.is_heap changed.grows group s));
-    }
-
 module _ {S I : Type 0} (site : Site) (class d : ℕ) {s0 : Sets I} (before : HeapView S I) (group : GroupView S I) (running : IsRunning site s0 before group) where
-  abbrev Makes : State → PlainOutcome
-  Makes s = new_grid_of (here site s) class (lengths_off d [] s.top.operands)
+  abbrev says : State → PlainOutcome
+  says s = new_grid_of (here site s) class (lengths_off d [] s.top.operands)
 
   -- the operands of a state of the group
   abbrev values : List Bool → List Value
   values c = map (value_of s0 before c) (reverse (slots_at s0 group.top.stack c))
 
   -- too few operands, or no dimension
-  pub illegal-attempts : (outcomes : List (Outcome S I)) → (d ≡ 0) ⊎ (length group.top.stack.conds < d) → Gives site.program.now (illegal_in site.program.now) s0 s0 group outcomes → AttemptsBy site Makes s0 s0 before before group outcomes
+  pub illegal-attempts : (outcomes : List (Outcome S I)) → (d ≡ 0) ⊎ (length group.top.stack.conds < d) → Gives site.program.now (illegal_in site.program.now) s0 s0 group outcomes → AttemptsBy site says s0 s0 before before group outcomes
   illegal-attempts outcomes why gives =
-      attempts_after site Makes (λ _ _. illegal_in site.program.now) before before (λ c g. g) group outcomes running (Extends-refl s0) (Extends-refl s0)
+      attempts_after site says (λ _ _. illegal_in site.program.now) before before (λ c g. g) group outcomes running.is_heap running.is_for (Extends-refl s0) (Extends-refl s0)
       (unchanged s0 before (s0.test (path_of group)) (λ c g. g) running.is_heap (λ c t. refl))
       (λ tree c t. sym (none (here site (state_at s0 before tree group c)) c why))
       (gives before)
@@ -259,28 +228,20 @@ module _ {S I : Type 0} (site : Site) (class d : ℕ) {s0 : Sets I} (before : He
           ap (new_grid_of h class) (lengths_short d [] (values c) (omega (arith, count, l)))
 
   module _ {s1 : Sets I} (after : HeapView S I) (answers : Conditional Answer S I) (some : 0 < d) (enough : d ≤ length group.top.stack.conds) (e : Extends s0 s1) (made : AreGridsAnswered site.program.now class (λ c. lengths_of (slots_from s0 group.top.stack d 0 c)) s0 s1 before after (path_of group) answers) where
-    pub grids-ready : length group.top.stack.conds < 2 ^ 32 → IsReady site s1 group d answers
-    grids-ready few = record {
-      is_group = IsGroup-extends e group running.is_group;
-      past = running.past;
-      enough = enough;
-      few = omega (arith, some, few);
-      are_answers = made.is_cond;
-      inside = record { inside = λ c t. ap (λ i. s1.test i c) made.scope ∙ t };
-    }
+    abbrev made_at : List Bool → Making
+    made_at = grids_made site.program.now class (λ c. lengths_of (slots_from s0 group.top.stack d 0 c))
 
-    pub grids-attempts : {s2 : Sets I} (outcomes : List (Outcome S I)) → Extends s1 s2 → ((heap : HeapView S I) → AreHeld s1 heap (path_of group) answers → GivesAt site.program.now (answered_by site d s1 answers) s1 s2 group outcomes heap) → AttemptsBy site Makes s0 s2 before after group outcomes
+    pub grids-ready : length group.top.stack.conds < 2 ^ 32 → IsReady site s1 group d answers
+    grids-ready few = making-ready site d made_at before after group answers running.is_group e made running.past some enough few
+
+    pub grids-attempts : {s2 : Sets I} (outcomes : List (Outcome S I)) → Extends s1 s2 → ((heap : HeapView S I) → AreHeld s1 heap (path_of group) answers → GivesAt site.program.now (answered_by site d s1 answers) s1 s2 group outcomes heap) → AttemptsBy site says s0 s2 before after group outcomes
     grids-attempts outcomes f gives =
-        attempts_after site Makes (answered_by site d s1 answers) before after (λ c. with_grid_of site.program.now class (lengths_of (slots_from s0 group.top.stack d 0 c))) group outcomes running e f made.changed
+        making-attempts site d made_at before after group answers running.is_group e made says outcomes running.is_heap running.is_for f
         (λ tree c t.
         let s = state_at s0 before tree group c in
-        grid_row site s1 after c class s (drop d s.top.operands) (lengths_of (slots_from s0 group.top.stack d 0 c)) (answer_at s1 answers c) (nonempty s0 group.top.stack d c some enough) (made.at c t)
+        grid_row (here site s) class (drop d s.top.operands) (lengths_of (slots_from s0 group.top.stack d 0 c)) (nonempty s0 group.top.stack d c some enough)
         ∙ ap (new_grid_of (here site s) class) (sym (row_lengths s0 before group.top.stack d c enough)))
-        (gives after (record {
-          held = λ c t.
-              let here = sym (e.test (path_of group) c (IsGroup-path_known s0 group running.is_group)) ∙ t in
-              answer_held site.program.now s1 after c (length (globals_at s0 before c).objects) (lengths_of (slots_from s0 group.top.stack d 0 c)) (answer_at s1 answers c) (made.at c here);
-        }))
+        gives
 
 -- what answers say of the frame on top that was lent is said of the group's
 pub grids-of : {S I : Type 0} (p : Program) (class d : ℕ) {s0 s1 : Sets I} (before after : HeapView S I) (group : GroupView S I) (top : Frame S I) (answers : Conditional Answer S I) → top ≡ group.top → IsGroup s0 group → AreGridsAnswered p class (λ c. lengths_of (slots_from s0 top.stack d 0 c)) s0 s1 before after top.stack.scope answers → AreGridsAnswered p class (λ c. lengths_of (slots_from s0 group.top.stack d 0 c)) s0 s1 before after (path_of group) answers

@@ -1,13 +1,11 @@
 -- New arrays by their lengths at one configuration (JVMS 6.5).
 use Rattle.std.specs.List.{list_any}
-use Rattle.std.specs.Prelude.{ℕ, ℤ, Bool, true, false, List, [], ◌∷◌, ◌++◌, not, option_map, Option, None, Some, if◌then◌else◌, drop, length, map, nat_lt, pos, ◌≡◌, ◌==◌, ◌+◌, ◌-◌, ◌||◌}
-use Rattle.vx_cond.specs.Cond.{Conditional, IsCond}
+use Rattle.std.specs.Prelude.{ℕ, ℤ, Bool, true, List, [], ◌∷◌, ◌++◌, not, option_map, Option, None, Some, if◌then◌else◌, drop, length, map, nat_lt, pos, ◌≡◌, ◌==◌, ◌+◌, ◌-◌, ◌||◌}
+use Rattle.vx_cells.specs.Making.{AreAllMade, AreMade, Breaks, Making, Makes, Raises}
+use Rattle.vx_cond.specs.Cond.{Conditional}
 use Rattle.vx_cond.specs.Row.{Conditionals}
 use Rattle.vx_cond.specs.Slots.{slots_at}
-use Rattle.vx_group_states.specs.Answering.{answer_at}
-use Rattle.vx_group_states.specs.Answers.{answer_cmp}
 use Rattle.vx_group_states.specs.declared.answer.Answer.{Answer}
-use Rattle.vx_group_states.specs.declared.answer.Answer.TheVariants as answer
 use Rattle.vx_heap.specs.Changing.{IsChangedIn}
 use Rattle.vx_heap.specs.Heap.{Globals, HeapView, globals_at, is_held, name_at}
 use Rattle.vx_java.specs.Arrays.{elements_of_numbers, grid, grid_cells}
@@ -81,40 +79,22 @@ pub record IsGridMade {S I : Type 0} (p : Program) (class : ℕ) (lengths : List
   pub name : (c : List Bool) → set c ≡ true → name_at new after.objects c reference ≡ length (globals_at old before c).objects
   pub held : (c : List Bool) → set c ≡ true → is_held new after c (Ref reference) ≡ true
 
--- what lengths make, and what they come to where this object is made
-abbrev pub with_grid_of : Program → (class : ℕ) → Option (List ℤ) → Globals → Globals
-with_grid_of p class None g = g
-with_grid_of p class (Some lengths) g = if is_refused lengths then g else with_grid p class (map natural lengths) g
+-- what lengths make
+abbrev pub grid_made : Program → (class : ℕ) → Option (List ℤ) → Making
+grid_made p class None = Breaks
+grid_made p class (Some lengths) =
+    if list_any negative lengths then Raises (as_class (core_class p "java/lang/NegativeArraySizeException"))
+    else if is_refused lengths then Raises (as_class (core_class p "java/lang/OutOfMemoryError"))
+    else Makes (grid p class (map natural lengths))
 
-abbrev pub grid_answer : Program → (reference : ℕ) → Option (List ℤ) → Answer
-grid_answer p reference None = answer.Illegal
-grid_answer p reference (Some lengths) =
-    if list_any negative lengths then answer.Raise (as_class (core_class p "java/lang/NegativeArraySizeException")) None
-    else if is_refused lengths then answer.Raise (as_class (core_class p "java/lang/OutOfMemoryError")) None
-    else answer.Give (Ref reference)
-
--- lengths make an array
-abbrev pub is_grid : Option (List ℤ) → Bool
-is_grid None = false
-is_grid (Some lengths) = not (is_refused lengths)
-
--- the answer to lengths, where an array that is made has this number among the objects that are there
-pub record IsGridAnswered {S I : Type 0} (p : Program) (sets : Sets I) (heap : HeapView S I) (c : List Bool) (number : ℕ) (lengths : Option (List ℤ)) (a : Answer) : Type 0 where
-  pub reference : ℕ
-  pub is : a ≡ grid_answer p reference lengths
-  pub made : is_grid lengths ≡ true → (name_at sets heap.objects c reference ≡ number) × (is_held sets heap c (Ref reference) ≡ true)
+-- at each configuration
+abbrev pub grids_made : Program → (class : ℕ) → (lengths : List Bool → Option (List ℤ)) → List Bool → Making
+grids_made p class lengths c = grid_made p class (lengths c)
 
 -- in a set the lengths of each configuration make arrays and are answered, and elsewhere the answers stay
-pub record AreGridsMade {S I : Type 0} (p : Program) (class : ℕ) (lengths : List Bool → Option (List ℤ)) (old new : Sets I) (before after : HeapView S I) (set : List Bool → Bool) (answers made : Conditional Answer S I) : Type 0 where
-  pub changed : IsChangedIn old new before after set (λ c. with_grid_of p class (lengths c))
-  pub is_cond : IsCond answer_cmp new made
-  pub scope : (c : List Bool) → new.test made.scope c ≡ (old.test answers.scope c || set c)
-  pub at : (c : List Bool) → set c ≡ true → IsGridAnswered p new after c (length (globals_at old before c).objects) (lengths c) (answer_at new made c)
-  pub stay : (c : List Bool) → set c ≡ false → answer_at new made c ≡ answer_at old answers c
+abbrev pub AreGridsMade : {S I : Type 0} → Program → (class : ℕ) → (lengths : List Bool → Option (List ℤ)) → (old new : Sets I) → (before after : HeapView S I) → (set : List Bool → Bool) → (answers made : Conditional Answer S I) → Type 0
+AreGridsMade p class lengths old new before after set answers made = AreMade (grids_made p class lengths) old new before after set answers made
 
 -- the same in a whole scope, and there are no other answers
-pub record AreGridsAnswered {S I : Type 0} (p : Program) (class : ℕ) (lengths : List Bool → Option (List ℤ)) (old new : Sets I) (before after : HeapView S I) (path : I) (answers : Conditional Answer S I) : Type 0 where
-  pub changed : IsChangedIn old new before after (old.test path) (λ c. with_grid_of p class (lengths c))
-  pub is_cond : IsCond answer_cmp new answers
-  pub scope : answers.scope ≡ path
-  pub at : (c : List Bool) → old.test path c ≡ true → IsGridAnswered p new after c (length (globals_at old before c).objects) (lengths c) (answer_at new answers c)
+abbrev pub AreGridsAnswered : {S I : Type 0} → Program → (class : ℕ) → (lengths : List Bool → Option (List ℤ)) → (old new : Sets I) → (before after : HeapView S I) → (path : I) → (answers : Conditional Answer S I) → Type 0
+AreGridsAnswered p class lengths old new before after path answers = AreAllMade (grids_made p class lengths) old new before after path answers

@@ -3,6 +3,7 @@ use Rattle.std.proofs.Common.{◌≡◌, ℕ, Bool, true, false, List, [], ◌�
 use Rattle.std.specs.Prelude.{◌≢◌, Option, Some, if◌then◌else◌, unwrap_or}
 use Rattle.vx_space.specs.Sets.{Sets, Extends, IsLawful, IsKnown}
 use Rattle.vx_space.proofs.Spaces.{Extends-refl, Extends-trans}
+use Rattle.vx_frames.specs.Giving.{AttemptsAt}
 use Rattle.vx_group.specs.declared.callers.Caller.{Caller}
 use Rattle.vx_group.specs.Callers.{Keeps}
 use Rattle.vx_group.specs.Group.{GroupView, path_of}
@@ -111,26 +112,26 @@ AreCarriedOut-none p carry {sets = sets} lawful heap tree x v f e = record {
   outside = λ c t. refl;
 }
 
--- its group goes on, and comes to what this function of the configuration and the plain state says
-pub AreCarriedOut-made : {S I : Type 0} (p : Program) (carry : PlainOutcome → PlainOutcome) (s0 s1 : Sets I) (before after : HeapView S I) (tree later : List (Option (Caller S I))) (says : List Bool → State → PlainOutcome) (x : Outcome S I) (at : GroupView S I) (made : List (Outcome S I)) → condition_of x ≡ path_of at → ((start : Sets I) (group : GroupView S I) → IsOutcome p start s0 before tree group x → Continues p start s0 before tree group at) → ((c : List Bool) → carry (outcome_at s0 before tree c x) ≡ says c (state_at s0 before tree at c)) → IsHeapFor p after → IsHeap s1 after → Grows before after → Keeps tree later → CameTo p s0 s1 after later at (λ c. says c (state_at s0 before tree at c)) (s0.test (path_of at)) made → ((c : List Bool) → s0.test (path_of at) c ≡ false → globals_at s1 after c ≡ globals_at s0 before c) → AreCarriedOut p carry s0 s1 before after tree later (x ∷ []) made
-AreCarriedOut-made p carry s0 s1 before after tree later says x at made same continues law f v grows keeps came outside = record {
-  is_heap = v;
-  is_for = f;
-  grows = grows;
-  keeps = keeps;
+-- its group makes an attempt of its own
+pub AreCarriedOut-at : {S I : Type 0} (p : Program) (carry : PlainOutcome → PlainOutcome) (s0 s1 : Sets I) (before after : HeapView S I) (tree later : List (Option (Caller S I))) (says : List Bool → State → PlainOutcome) (x : Outcome S I) (at : GroupView S I) (made : List (Outcome S I)) → condition_of x ≡ path_of at → ((start : Sets I) (group : GroupView S I) → IsOutcome p start s0 before tree group x → Continues p start s0 before tree group at) → ((c : List Bool) → carry (outcome_at s0 before tree c x) ≡ says c (state_at s0 before tree at c)) → AttemptsAt p says s0 s1 before after tree later at made → AreCarriedOut p carry s0 s1 before after tree later (x ∷ []) made
+AreCarriedOut-at p carry s0 s1 before after tree later says x at made same continues law a = record {
+  is_heap = a.is_heap;
+  is_for = a.is_for;
+  grows = a.grows;
+  keeps = a.keeps;
   came = λ start group what set h.
       let only = only_at p start s0 before tree group what set x h in
-      CameTo-through p start s0 s1 after later group at (λ c. says c (state_at s0 before tree at c)) (λ c. carry (what c)) set made (continues start group h.continue.0) (λ c. ap (λ i. s0.test i c) (sym same) ∙ (only c).0) (λ c t. sym (law c) ∙ ap carry (sym ((only c).1 t))) came;
-  outside = λ c t. outside c (ap (λ i. s0.test i c) (sym same) ∙ no_more (s0.test (condition_of x) c) t);
+      CameTo-through p start s0 s1 after later group at (λ c. says c (state_at s0 before tree at c)) (λ c. carry (what c)) set made (continues start group h.continue.0) (λ c. ap (λ i. s0.test i c) (sym same) ∙ (only c).0) (λ c t. sym (law c) ∙ ap carry (sym ((only c).1 t))) a.came;
+  outside = λ c t. a.outside c (ap (λ i. s0.test i c) (sym same) ∙ no_more (s0.test (condition_of x) c) t);
 }
   where
     no_more : (b : Bool) → (b || false) ≡ false → b ≡ false
     no_more true h = cc h
     no_more false h = refl
 
--- its group makes an attempt of its own
+-- by what is said of the state alone
 pub AreCarriedOut-attempted : {S I : Type 0} (p : Program) (carry : PlainOutcome → PlainOutcome) (s0 s1 : Sets I) (before after : HeapView S I) (tree later : List (Option (Caller S I))) (says : State → PlainOutcome) (x : Outcome S I) (at : GroupView S I) (made : List (Outcome S I)) → condition_of x ≡ path_of at → ((start : Sets I) (group : GroupView S I) → IsOutcome p start s0 before tree group x → Continues p start s0 before tree group at) → ((c : List Bool) → carry (outcome_at s0 before tree c x) ≡ says (state_at s0 before tree at c)) → IsHeapFor p after → Attempts p says s0 s1 before after tree later at made → AreCarriedOut p carry s0 s1 before after tree later (x ∷ []) made
-AreCarriedOut-attempted p carry s0 s1 before after tree later says x at made same continues law f a = AreCarriedOut-made p carry s0 s1 before after tree later (λ _. says) x at made same continues law f a.is_heap a.grows a.keeps a.came a.outside
+AreCarriedOut-attempted p carry s0 s1 before after tree later says x at made same continues law f a = AreCarriedOut-at p carry s0 s1 before after tree later (λ _. says) x at made same continues law (record { is_heap = a.is_heap; is_for = f; grows = a.grows; keeps = a.keeps; came = a.came; outside = a.outside })
 
 -- some configuration comes to it
 pub SomeComesTo-one : {S I : Type 0} (p : Program) (test : PlainOutcome → Bool) {sets : Sets I} → IsLawful sets → (heap : HeapView S I) (tree : List (Option (Caller S I))) (x : Outcome S I) → IsKnown sets (condition_of x) → condition_of x ≢ sets.never → ((start : Sets I) (group : GroupView S I) → IsOutcome p start sets heap tree group x → (c : List Bool) → test (outcome_at sets heap tree c x) ≡ true) → SomeComesTo p test sets heap tree (x ∷ [])

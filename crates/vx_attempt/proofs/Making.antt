@@ -1,9 +1,9 @@
 -- From what a family made of a group to the attempt with native methods carried out, and what an attempt that isn't built means.
-use Rattle.std.proofs.Common.{◌≡◌, ℕ, ◌<◌, ◌+◌, ◌≤◌, zero, suc, Bool, true, false, List, [], ◌∷◌, ◌&&◌, refl, sym, ◌∙◌, ap, length, not}
+use Rattle.std.proofs.Common.{◌≡◌, ℕ, ◌<◌, ◌+◌, ◌≤◌, zero, suc, Bool, true, false, List, [], ◌∷◌, refl, sym, ◌∙◌, ap, length, not}
 use Rattle.std.specs.List.{list_all}
 use Rattle.std.specs.Prelude.{Ok, Err, Option, Some, None, ok_or}
 use Rattle.vx_class.specs.declared.class_file.Code.{Code}
-use Rattle.vx_space.specs.Sets.{Sets, IsLawful}
+use Rattle.vx_space.specs.Sets.{Sets}
 use Rattle.vx_frame.specs.declared.frame.Frame.{Frame}
 use Rattle.vx_group.specs.declared.callers.Caller.{Caller}
 use Rattle.vx_group.specs.Group.{GroupView, path_of}
@@ -12,14 +12,14 @@ use Rattle.vx_group.proofs.GroupLaws.{IsGroupIn-group, IsGroup-path_known}
 use Rattle.vx_heap.specs.Heap.{HeapView}
 use Rattle.vx_families.specs.Attempts.{IsAtSite, IsAttemptIn, IsGiven, row_by}
 use Rattle.vx_families.specs.Bounds.{IsBounded, has_short_code}
-use Rattle.vx_families.specs.Built.{are_calls, is_built_at, is_built_in, is_built_operation, is_built_outcome, is_built_there}
-use Rattle.vx_families.proofs.BuiltRows.{row_there, third_false}
+use Rattle.vx_families.specs.Built.{is_built_outcome}
+use Rattle.vx_families.proofs.BuiltRows.{row_there}
 use Rattle.vx_java.specs.Machine.{Ended, State, illegal_in, place_at}
 use Rattle.vx_java.specs.Operation.{operation_of}
 use Rattle.vx_java.specs.Row.{row, row_if, row_in}
 use Rattle.vx_java.specs.Step.{outcome_carried_out}
 use Rattle.vx_java.specs.declared.operation.Operation.{Operation}
-use Rattle.vx_link.specs.Parts.{class_at, method_at, no_method}
+use Rattle.vx_link.specs.Parts.{method_at, no_method}
 use Rattle.vx_link.specs.declared.program.LinkedMethod.{LinkedMethod}
 use Rattle.vx_link.specs.declared.program.Program.{Program}
 use Rattle.vx_list.specs.Places.{item_or}
@@ -34,13 +34,11 @@ use Rattle.vx_group_states.proofs.GrownStates.{Grows-refl}
 use Rattle.vx_group_states.proofs.OutcomeStates.{CameTo-one}
 use Rattle.vx_group_states.proofs.StateLaws.{both_first, both_second, top_held, top_shaped}
 use Rattle.vx_value.specs.declared.end.End.TheVariants.{Illegal}
-use Rattle.vx_value.specs.declared.ids.ClassId.{ClassId}
 use Rattle.vx_standing.specs.Attempted.{IsAttempted, IsUnbuiltThere, MayAttempt, attempted_row, carried_out_row, is_placed, thrown_out}
-use Rattle.vx_cells.proofs.Somewhere.{somewhere_in}
 use Rattle.vx_attempt.specs.Carrying.{AreCarriedOut, MayCarryOut, MayThrow, SomeComesTo, is_refused, is_unbuilt}
 use Rattle.vx_attempt.proofs.Calls.{AreThere-outcomes, attempt_calls}
 use Rattle.vx_attempt.proofs.Carrying.{Attempts-carried, Attempts-same}
-use Rattle.vx_attempt.proofs.Refusals.{refused_unbuilt}
+use Rattle.vx_attempt.proofs.Refusals.{first_unbuilt, refused_unbuilt}
 use Rattle.vx_fields.proofs.Pools.{below}
 
 -- ---- the instruction where it stands
@@ -165,31 +163,6 @@ no_instruction p group code found fault bytes top e same is missing s at there =
 
 -- ---- what isn't built
 
-second_false : (a b c d : Bool) → b ≡ false → (a && b && c && d) ≡ false
-second_false true b c d e = ap (λ x. x && c && d) e
-second_false false b c d e = refl
-
--- its instruction isn't built
-unbuilt_instruction : {S I : Type 0} (p : Program) {sets : Sets I} → IsLawful sets → (heap : HeapView S I) (tree : List (Option (Caller S I))) (group : GroupView S I) (code : Code) (instruction : Instruction) → MayAttempt p sets heap tree group → (method_at p group.top.method.0).code ≡ Some code → instruction_at code.bytes group.top.position ≡ Some instruction → is_built_operation (class_at p (method_at p group.top.method.0).class.0).pool (operation_of instruction) ≡ false → IsUnbuiltThere p sets heap tree group
-unbuilt_instruction p {sets = sets} lawful heap tree group code instruction may e found unbuilt =
-    let known = IsGroup-path_known sets group (IsGroupIn-group sets tree group may.stands.is_group) in
-    let there = somewhere_in lawful (path_of group) known may.nonempty in
-    let pool = (class_at p (method_at p group.top.method.0).class.0).pool in
-    let position = group.top.position in
-    let at : is_built_in pool position (method_at p group.top.method.0).code ≡ false = ap (is_built_in pool position) e ∙ ap (is_built_there pool) found ∙ unbuilt in
-    record {
-      config = there.config;
-      holds = there.inside;
-      unbuilt =
-          let state = state_at sets heap tree group there.config in
-          second_false (are_calls state) (is_built_at p state) (is_built_outcome p (row p state)) (is_built_outcome p (outcome_carried_out p (row p state))) at;
-    }
-
--- the same, as decoding tells the instruction
-pub unbuilt_decoded : {S I : Type 0} (p : Program) {sets : Sets I} → IsLawful sets → (heap : HeapView S I) (tree : List (Option (Caller S I))) (group : GroupView S I) (code : Code) (instruction : Instruction) (fault : DecodeFault) (bytes : List ℕ) (top : Frame S I) (class : ClassId) (operation : Operation) → MayAttempt p sets heap tree group → (method_at p group.top.method.0).code ≡ Some code → bytes ≡ code.bytes → top ≡ group.top → Ok instruction ≡ ok_or (instruction_at bytes top.position) fault → class ≡ (method_at p top.method.0).class → operation ≡ operation_of instruction → is_built_operation (class_at p class.0).pool operation ≡ false → IsUnbuiltThere p sets heap tree group
-unbuilt_decoded p lawful heap tree group code instruction fault bytes top class operation may e same is found of does unbuilt =
-    unbuilt_instruction p lawful heap tree group code instruction may e (found_at (instruction_at code.bytes group.top.position) instruction fault (rw (same, is) at found)) (rw (does, of, is) at unbuilt)
-
 off_of : (b : Bool) → not b ≡ true → b ≡ false
 off_of true h = cc h
 off_of false h = refl
@@ -203,11 +176,11 @@ unbuilt_outcome site operation s0 s1 before middle tree later group family at by
     record {
       config = u.config;
       holds = there.0;
-      unbuilt = third_false (are_calls state) (is_built_at p state) (is_built_outcome p (row p state)) (is_built_outcome p (outcome_carried_out p (row p state))) (ap (is_built_outcome p) (row_is site operation s0 before tree group at u.config) ∙ off_of (is_built_outcome p (row_by site operation state)) there.1);
+      unbuilt = first_unbuilt (is_built_outcome p (row p state)) (is_built_outcome p (outcome_carried_out p (row p state))) (ap (is_built_outcome p) (row_is site operation s0 before tree group at u.config) ∙ off_of (is_built_outcome p (row_by site operation state)) there.1);
     }
 
--- what came of it raises or throws out of an initialisation
-pub unbuilt_thrown : {S I : Type 0} (site : Site) (operation : Operation) (s0 s1 s2 : Sets I) (before middle after : HeapView S I) (tree later last : List (Option (Caller S I))) (group : GroupView S I) (family carried : List (Outcome S I)) → IsAtSite site operation group → IsAttemptIn site operation s0 s1 before middle tree later group family → AreCarriedOut site.program.now (outcome_carried_out site.program.now) s1 s2 middle after later last family carried → SomeComesTo site.program.now (is_refused site.program.now) s2 after last carried → IsUnbuiltThere site.program.now s0 before tree group
+-- what came of it is refused
+pub unbuilt_thrown : {S I : Type 0} (site : Site) (operation : Operation) (s0 s1 s2 : Sets I) (before middle after : HeapView S I) (tree later last : List (Option (Caller S I))) (group : GroupView S I) (family carried : List (Outcome S I)) → IsAtSite site operation group → IsAttemptIn site operation s0 s1 before middle tree later group family → AreCarriedOut site.program.now (outcome_carried_out site.program.now) s1 s2 middle after later last family carried → SomeComesTo site.program.now is_refused s2 after last carried → IsUnbuiltThere site.program.now s0 before tree group
 unbuilt_thrown site operation s0 s1 s2 before middle after tree later last group family carried at by k u =
     let p = site.program.now in
     let there = u.comes s0 group (λ c. carried_out_row p (state_at s0 before tree group c)) (s0.test (path_of group)) (attempted_so_far site operation s0 s1 s2 before middle after tree later last group family carried at by k).came in

@@ -8,7 +8,7 @@ use Rattle.vx_heap.specs.Heap.{HeapView, IsHeap, IsHeapFor, globals_at}
 use Rattle.vx_families.specs.Attempts.{IsAtSite}
 use Rattle.vx_families.specs.Bounds.{IsBounded}
 use Rattle.vx_families.specs.Built.{is_built_outcome}
-use Rattle.vx_java.specs.Machine.{Native}
+use Rattle.vx_java.specs.Machine.{Begin, Native}
 use Rattle.vx_java.specs.Machine.{Outcome as PlainOutcome}
 use Rattle.vx_java.specs.declared.operation.Operation.{Operation}
 use Rattle.vx_link.specs.declared.program.Program.{Program}
@@ -82,7 +82,8 @@ pub record SomeComesTo {S I : Type 0} (p : Program) (test : PlainOutcome → Boo
 abbrev pub is_unbuilt : Program → PlainOutcome → Bool
 is_unbuilt p o = not (is_built_outcome p o)
 
--- a row comes to it after a native method or a beginning was carried out, which come to neither
-abbrev pub is_refused : Program → PlainOutcome → Bool
-is_refused p (Native m s) = true
-is_refused p o = is_unbuilt p o
+-- a native method or a beginning, to which nothing comes after they were carried out
+abbrev pub is_refused : PlainOutcome → Bool
+is_refused (Native m s) = true
+is_refused (Begin c s) = true
+is_refused o = false

@@ -6,7 +6,6 @@ ghost use Rattle.vx_java.specs.Machine.{State, illegal_in};
 ghost use Rattle.vx_java.specs.Row.{row};
 ghost use Rattle.vx_link.specs.Parts.{method_at};
 ghost use Rattle.vx_families.specs.Attempts.{IsAttemptIn, IsGiven};
-ghost use Rattle.vx_families.specs.Pools.{pool_of};
 ghost use Rattle.vx_group_states.specs.Stands.{StandsIn};
 ghost use Rattle.vx_standing.specs.Attempted.{IsAttempted, IsUnbuiltThere, MayAttempt};
 ghost use Rattle.vx_attempt.specs.Families.{is_of};
@@ -21,7 +20,6 @@ use vx_group::{Callers, Group};
 use vx_group_states::Site;
 use vx_heap::Heap;
 use vx_java::decoding::operation;
-use vx_java::parts::class_of_method;
 use vx_java::{Operation, place};
 use vx_link::Program;
 use vx_opcode::decode;
@@ -52,7 +50,7 @@ fn by_family<S: Space>(
 ) -> Result<Outcomes<S>, SpaceFault>
     requires given { IsGiven site.now operation (S.sets space.old) heap.old group }
     requires stands { StandsIn site.now.program.now (S.sets space.old) heap.old callers.old group }
-    requires family { is_of family (pool_of site.now group) operation ≡ true }
+    requires family { is_of family operation ≡ true }
     ensures extends { Extends (S.sets space.old) (S.sets space.new) }
     ensures ok { IfOk result (λ r. IsAttemptIn site.now operation (S.sets space.old) (S.sets space.new) heap.old heap.new callers.old callers.new group r.items.items) }
 {
@@ -85,7 +83,7 @@ fn attempt_at<S: Space>(
 ) -> Result<Outcomes<S>, AttemptFault>
     requires may { MayAttempt site.now.program.now (S.sets space.old) heap.old callers.old group }
     requires given { IsGiven site.now operation (S.sets space.old) heap.old group }
-    requires family { is_of family (pool_of site.now group) operation ≡ true }
+    requires family { is_of family operation ≡ true }
     ensures extends { Extends (S.sets space.old) (S.sets space.new) }
     ensures ok { IfOk result (λ r. IsAttempted site.now.program.now (S.sets space.old) (S.sets space.new) heap.old heap.new callers.old callers.new group r.items.items) }
     ensures not_yet { result ≡ Err AttemptFault.NotYet → IsUnbuiltThere site.now.program.now (S.sets space.old) heap.old callers.old group }
@@ -141,19 +139,14 @@ fn attempt_in<S: Space>(
     let top = group.top_frame();
     match decode(code.bytes.as_slice(), top.position) {
         Ok(instruction) => {
-            let class = class_of_method(program, top.method);
             let operation = operation(&instruction);
-            match family_of(program, class, operation) {
-                Some(family) => {
-                    let site = Site {
-                        program,
-                        code,
-                        size: instruction.length,
-                    };
-                    attempt_at(alloc, &site, space, heap, callers, family, operation, group)
-                }
-                None => Err(AttemptFault::NotYet),
-            }
+            let family = family_of(operation);
+            let site = Site {
+                program,
+                code,
+                size: instruction.length,
+            };
+            attempt_at(alloc, &site, space, heap, callers, family, operation, group)
         }
         Err(_fault) => end_there(alloc, program, space, heap, callers, &group),
     }

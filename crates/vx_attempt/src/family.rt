@@ -1,15 +1,9 @@
-//! The family of an instruction, where it is built.
+//! The family of an instruction.
 
-ghost use Rattle.std.specs.Prelude.{◌≡◌, IfSome, IsNone, false, true};
-ghost use Rattle.vx_link.specs.Names.{member};
-ghost use Rattle.vx_link.specs.Parts.{class_at};
-ghost use Rattle.vx_families.specs.Built.{is_built_operation, names_clone};
+ghost use Rattle.std.specs.Prelude.{◌≡◌, true};
 ghost use Rattle.vx_attempt.specs.Families.{is_of};
 
 use vx_java::Operation;
-use vx_link::Program;
-use vx_references::named_member;
-use vx_value::ClassId;
 
 /// A family of instructions.
 #[derive(Clone, Copy, Debug, PartialEq, Eq)]
@@ -30,20 +24,9 @@ pub enum Family {
     Throws,
 }
 
-/// Whether an entry of the pool of a class names the clone of an array.
-fn names_clone(program: &Program, class: ClassId, entry: u16) -> bool
-    ensures { result ≡ names_clone (member (class_at program.now class.0).pool entry) }
-{
-    let named = named_member(program, class, entry);
-    named.class.first() == Some(&b'[')
-        && (named.name == b"clone".as_slice()
-            && named.descriptor == b"()Ljava/lang/Object;".as_slice())
-}
-
-/// The family of an operation in a method of a class, or `None` where the operation isn't built.
-pub fn family_of(program: &Program, class: ClassId, operation: Operation) -> Option<Family>
-    ensures family { IfSome result (λ family. is_of family (class_at program.now class.0).pool operation ≡ true) }
-    ensures unbuilt { IsNone result → is_built_operation (class_at program.now class.0).pool operation ≡ false }
+/// The family of an operation.
+pub fn family_of(operation: Operation) -> Family
+    ensures { is_of result operation ≡ true }
 {
     match operation {
         Operation::Nop
@@ -53,8 +36,8 @@ pub fn family_of(program: &Program, class: ClassId, operation: Operation) -> Opt
         | Operation::PushEntry(_)
         | Operation::Load(_, _)
         | Operation::Store(_, _)
-        | Operation::Increase(_, _) => Some(Family::Locals),
-        Operation::Stack(_) => Some(Family::Forms),
+        | Operation::Increase(_, _) => Family::Locals,
+        Operation::Stack(_) => Family::Forms,
         Operation::IntArithmetic(_)
         | Operation::LongArithmetic(_)
         | Operation::IntNegate
@@ -71,28 +54,23 @@ pub fn family_of(program: &Program, class: ClassId, operation: Operation) -> Opt
         | Operation::Goto(_)
         | Operation::SwitchTable { .. }
         | Operation::SwitchLookup { .. }
-        | Operation::Refuse(_) => Some(Family::Numbers),
-        Operation::Return(_) => Some(Family::Returns),
-        Operation::GetStatic(_) | Operation::PutStatic(_) => Some(Family::Statics),
+        | Operation::Refuse(_) => Family::Numbers,
+        Operation::Return(_) => Family::Returns,
+        Operation::GetStatic(_) | Operation::PutStatic(_) => Family::Statics,
         Operation::New(_)
         | Operation::GetField(_)
         | Operation::PutField(_)
         | Operation::CheckCast(_)
         | Operation::InstanceOf(_)
         | Operation::Monitor
-        | Operation::IfSame(_, _) => Some(Family::Objects),
+        | Operation::IfSame(_, _) => Family::Objects,
         Operation::NewPrimitives(_)
         | Operation::NewReferences(_)
         | Operation::NewGrid(_, _)
         | Operation::LoadElement(_)
         | Operation::StoreElement(_)
-        | Operation::Length => Some(Family::Arrays),
-        Operation::Invoke(_, entry) => {
-            if names_clone(program, class, entry) {
-                return None;
-            }
-            Some(Family::Calls)
-        }
-        Operation::Throw => Some(Family::Throws),
+        | Operation::Length => Family::Arrays,
+        Operation::Invoke(_, _) => Family::Calls,
+        Operation::Throw => Family::Throws,
     }
 }

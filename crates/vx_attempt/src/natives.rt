@@ -5,7 +5,7 @@ ghost use Rattle.vx_space.specs.Sets.{Extends};
 ghost use Rattle.vx_families.specs.Built.{is_init_method, is_println_method};
 ghost use Rattle.vx_java.specs.Step.{outcome_carried_out};
 ghost use Rattle.vx_link.specs.Parts.{method_at};
-ghost use Rattle.vx_outcome.specs.declared.outcome.Outcome.TheVariants.{Begin, Native};
+ghost use Rattle.vx_outcome.specs.declared.outcome.Outcome.TheVariants.{Native};
 ghost use Rattle.vx_attempt.specs.Carrying.{AreCarriedOut, MayCarryOut, SomeComesTo, is_unbuilt};
 
 use std::alloc::{AllocError, Global};
@@ -13,12 +13,13 @@ use vx_families::AttemptFault;
 use vx_group::{Callers, Group};
 use vx_group_states::Site;
 use vx_heap::Heap;
+use vx_init::begin;
 use vx_link::Program;
 use vx_objects::object_init;
 use vx_outcome::{Outcome, Outcomes};
 use vx_space::Space;
 use vx_text::native;
-use vx_value::{ClassId, MethodId};
+use vx_value::MethodId;
 
 /// The number of the native method `println` of an int.
 const PRINTLN_INT: u32 = 49;
@@ -75,26 +76,6 @@ fn native_carried_out<S: Space>(
     Err(AttemptFault::NotYet)
 }
 
-/// The outcome of a beginning: `NotYet` where some run comes to it.
-fn no_beginning<S: Space>(
-    alloc: Global,
-    site: &Site,
-    space: &S,
-    heap: &Heap<S>,
-    callers: &Callers<S>,
-    group: Group<S>,
-    class: ClassId,
-) -> Result<Outcomes<S>, AttemptFault>
-    requires { MayCarryOut site.now (S.sets space.now) heap.now callers.now (Begin group class ∷ []) }
-    ensures carried { IfOk result (λ r. AreCarriedOut site.now.program.now (outcome_carried_out site.now.program.now) (S.sets space.now) (S.sets space.now) heap.now heap.now callers.now callers.now (Begin group class ∷ []) r.items.items) }
-    ensures not_yet { result ≡ Err AttemptFault.NotYet → SomeComesTo site.now.program.now (is_unbuilt site.now.program.now) (S.sets space.now) heap.now callers.now (Begin group class ∷ []) }
-{
-    if space.is_never(group.path()) {
-        return Ok(Outcomes::new(alloc));
-    }
-    Err(AttemptFault::NotYet)
-}
-
 /// An outcome alone.
 pub(crate) fn only<S: Space>(alloc: Global, outcome: Outcome<S>) -> Result<Outcomes<S>, AllocError>
     ensures { IfOk result (λ r. r.items.items ≡ outcome ∷ []) }
@@ -123,7 +104,8 @@ fn one_carried_out<S: Space>(
             native_carried_out(alloc, site, space, heap, callers, group, method)
         }
         Outcome::Begin { group, class } => {
-            no_beginning(alloc, site, space, heap, callers, group, class)
+            let begun = begin(alloc, site.program, space, heap, callers, group, class)?;
+            Ok(begun)
         }
         other => {
             let same = only(alloc, other)?;
@@ -133,8 +115,8 @@ fn one_carried_out<S: Space>(
 }
 
 /// Outcomes with native methods and beginnings carried out (JVMS 5.5). Heap and tree may grow, and change at no configuration
-/// that comes to none of them. `NotYet` where some run comes to a beginning, or to a native method that isn't built; after a
-/// refusal heap and tree are given up.
+/// that comes to none of them. `NotYet` where some run comes to a native method that isn't built; after a refusal heap and tree
+/// are given up.
 pub(crate) fn carried_out<S: Space>(
     alloc: Global,
     site: &Site,

@@ -31,16 +31,20 @@ fn some_thrown<S: Space>(
     ensures extends { Extends (S.sets space.old) (S.sets space.new) }
     ensures carried { IfOk result (λ r. AreCarriedOut program.now (thrown_out program.now) (S.sets space.old) (S.sets space.new) heap.old heap.new callers.old callers.new (outcome ∷ []) r.items.items) }
     ensures placed { IfOk result (λ r. list_all is_placed r.items.items ≡ true) }
-    ensures not_yet { result ≡ Err AttemptFault.NotYet → SomeComesTo program.now (is_refused program.now) (S.sets space.old) heap.old callers.old (outcome ∷ []) }
+    ensures not_yet { result ≡ Err AttemptFault.NotYet → SomeComesTo program.now is_refused (S.sets space.old) heap.old callers.old (outcome ∷ []) }
 {
     match outcome {
         Outcome::Raise {
             group,
             class,
             message,
-        } => raise(alloc, program, space, heap, callers, group, class, message),
+        } => {
+            let raised = raise(alloc, program, space, heap, callers, group, class, message)?;
+            Ok(raised)
+        }
         Outcome::Throw { group, thrown } => {
-            throw(alloc, program, space, heap, callers, group, thrown)
+            let made = throw(alloc, program, space, heap, callers, group, thrown)?;
+            Ok(made)
         }
         Outcome::Begin { .. } | Outcome::Native { .. } => Err(AttemptFault::NotYet),
         other => {
@@ -63,7 +67,7 @@ fn one_thrown<S: Space>(
     ensures extends { Extends (S.sets space.old) (S.sets space.new) }
     ensures carried { IfOk result (λ r. AreCarriedOut program.now (thrown_out program.now) (S.sets space.old) (S.sets space.new) heap.old heap.new callers.old callers.new (outcome ∷ []) r.items.items) }
     ensures placed { IfOk result (λ r. list_all is_placed r.items.items ≡ true) }
-    ensures not_yet { result ≡ Err AttemptFault.NotYet → SomeComesTo program.now (is_refused program.now) (S.sets space.old) heap.old callers.old (outcome ∷ []) }
+    ensures not_yet { result ≡ Err AttemptFault.NotYet → SomeComesTo program.now is_refused (S.sets space.old) heap.old callers.old (outcome ∷ []) }
 {
     if space.is_never(outcome.condition()) {
         return Ok(Outcomes::new(alloc));
@@ -72,8 +76,8 @@ fn one_thrown<S: Space>(
 }
 
 /// The outcomes of an attempt with each exception that is raised or thrown made and thrown, so that each of them takes its
-/// place. Heap and tree may grow, and change at no configuration that comes to none of them. `NotYet` where some run raises or throws with a
-/// frame of an initialisation; after a refusal heap and tree are given up.
+/// place. Heap and tree may grow, and change at no configuration that comes to none of them. `NotYet` where some run comes to a native method
+/// or a beginning, which are carried out before; after a refusal heap and tree are given up.
 pub(crate) fn all_thrown<S: Space>(
     alloc: Global,
     program: &Program,
@@ -86,7 +90,7 @@ pub(crate) fn all_thrown<S: Space>(
     ensures extends { Extends (S.sets space.old) (S.sets space.new) }
     ensures carried { IfOk result (λ r. AreCarriedOut program.now (thrown_out program.now) (S.sets space.old) (S.sets space.new) heap.old heap.new callers.old callers.new outcomes.items.items r.items.items) }
     ensures placed { IfOk result (λ r. list_all is_placed r.items.items ≡ true) }
-    ensures not_yet { result ≡ Err AttemptFault.NotYet → SomeComesTo program.now (is_refused program.now) (S.sets space.old) heap.old callers.old outcomes.items.items }
+    ensures not_yet { result ≡ Err AttemptFault.NotYet → SomeComesTo program.now is_refused (S.sets space.old) heap.old callers.old outcomes.items.items }
 {
     let mut made = Outcomes::new(alloc);
     for outcome in outcomes.items {

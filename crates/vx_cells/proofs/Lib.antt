@@ -6,3 +6,4 @@ pub mod ObjectClasses
 pub mod Lowest
 pub mod Somewhere
 pub mod WrittenInside
+pub mod Making

@@ -1,3 +1,4 @@
 pub mod Classes
+pub mod Making
 pub mod Places
 pub mod Through

@@ -4,22 +4,28 @@ use Rattle.vx_io.specs.Held.{FilesState, Held, contents}
 use Rattle.vx_io.specs.Sink.{Gains, SinkState}
 use Rattle.vx_agree.proofs.Agreeing.{one_agreement_text}
 use Rattle.vx_agree.specs.Text.{IsAgreementText}
+use Rattle.vx_model.specs.Models as models
 use Rattle.vx_model.specs.Models.{is_allowed}
 use Rattle.vx_people.proofs.OneText.{one_told_text}
 use Rattle.vx_people.specs.Tellings.{HasOneText, IsToldText}
 use Rattle.vx_people.specs.declared.telling.Telling.{Telling}
 use Rattle.vx_report_reader.proofs.Verdicts.{report_same}
+use Rattle.vx_report_reader.specs.Rules.{ReportText}
 use Rattle.vx_reporting.proofs.OneText.{one_text}
 use Rattle.vx_reporting.specs.Reported.{IsReported}
-use Rattle.vx_cli.specs.Causes.{AreClasses, HasOneResult, IsAgreeing, IsProjection, IsReport, IsResult, IsShown, IsTold}
-use Rattle.vx_cli.specs.Command.{Agree, Asm, Command, Project, Run, Show, Tell}
+use Rattle.vx_summary.specs.Summary.{summary_text}
+use Rattle.vx_cli.specs.Causes.{AreClasses, HasOneResult, IsAgreeing, IsProjection, IsReport, IsResult, IsShown, IsTold, IsVerification}
+use Rattle.vx_cli.specs.Command.{Agree, Asm, Command, Load, Project, Run, Show, Tell, Verify}
 use Rattle.vx_cli.specs.Ends.{Ends}
 use Rattle.vx_cli.specs.Job.{names_of, program_in}
+use Rattle.vx_cli.specs.Load.{IsSummary, load_limit, load_model, load_program}
 use Rattle.vx_cli.specs.PlanOf.{plan_of}
 use Rattle.vx_cli.specs.Project.{projected}
 use Rattle.vx_cli.specs.Run.{class_paths}
+use Rattle.vx_cli.specs.Verdicts.{IsVerdictText}
 use Rattle.vx_cli.specs.declared.status.Status.{Status}
 use Rattle.vx_cli.specs.declared.status.Status.TheVariants.{Done}
+use Rattle.vx_cli.proofs.Judging.{one_verdict_text}
 use Rattle.vx_cli.proofs.OneListing.{one_listing}
 use Rattle.vx_cli.proofs.RunShown.{same_classes}
 use Rattle.vx_cli.proofs.Shown.{call_shows}
@@ -37,6 +43,17 @@ one_report held folder path main limit version one other h k =
     one_text version (names_of h.model) limit (is_allowed h.model) h.reported.program one other h.reported.is_report
     (subst (λ p. IsReported version (names_of h.model) limit (is_allowed h.model) p other) (sym program) (subst (λ m. IsReported version (names_of m) limit (is_allowed m) k.reported.program other) (sym model) k.reported.is_report))
 
+-- and so the same verdict
+one_verification : (held : Held) (folder path main : List ℕ) (one other : List ℕ) → IsVerification held folder path main one → IsVerification held folder path main other → one ≡ other
+one_verification held folder path main one other h k =
+    let model : h.model ≡ k.model = same_value h.model k.model _ h.modeled.reads k.modeled.reads in
+    let listing = one_listing held folder h.all.listed.listing k.all.listed.listing h.all.listed.listed k.all.listed.listed in
+    let paths : h.paths ≡ k.paths = h.all.listed.classes ∙ ap class_paths listing ∙ sym k.all.listed.classes in
+    let classes : h.classes ≡ k.classes = same_classes held folder h.paths h.classes k.classes h.all.good (subst (λ p. AreClasses held folder p k.classes) (sym paths) k.all.good) in
+    let program : h.judged.program ≡ k.judged.program = same_value h.judged.program k.judged.program (program_in main h.model h.classes) h.judged.is_program
+    (subst (λ c. program_in main h.model c ≡ Ok k.judged.program) (sym classes) (subst (λ m. program_in main m k.classes ≡ Ok k.judged.program) (sym model) k.judged.is_program)) in
+    one_verdict_text h.judged.program one other h.judged.is_text (subst (λ p. IsVerdictText p other) (sym program) k.judged.is_text)
+
 one_projection : (held : Held) (path word one other : List ℕ) → IsProjection held path word one → IsProjection held path word other → one ≡ other
 one_projection held path word one other h k =
     let report : h.report ≡ k.report = report_same (contents held path) h.report k.report h.is_report.spells k.is_report.spells in
@@ -53,12 +70,23 @@ one_agreeing held path against one other h k =
     let reference : h.against ≡ k.against = report_same (contents held against) h.against k.against h.is_other.spells k.is_other.spells in
     one_agreement_text h.report h.against one other h.is_text (subst (λ r. IsAgreementText r h.against other) (sym report) (subst (λ r. IsAgreementText k.report r other) (sym reference) k.is_text))
 
+-- one report, and so one summary
+one_summary : (seed options : ℕ) (one other : List ℕ) → IsSummary seed options one → IsSummary seed options other → one ≡ other
+one_summary seed options one other h k =
+    let written : h.written ≡ k.written =
+    one_text 1 (models.names_of (load_model options)) load_limit (is_allowed (load_model options)) (load_program seed options) h.written k.written h.reported k.reported in
+    let report : h.reported.report ≡ k.reported.report =
+    report_same h.written h.reported.report k.reported.report h.reported.spells (subst (λ w. ReportText w k.reported.report) (sym written) k.reported.spells) in
+    h.spelled ∙ ap (summary_text seed) report ∙ sym k.spelled
+
 one_result : (held : Held) (command : Command) (one other : List ℕ) → HasOneResult command → IsResult held command one → IsResult held command other → one ≡ other
 one_result held (Run folder path main limit version) one other p h k = one_report held folder path main limit version one other h k
 one_result held (Project path word) one other p h k = one_projection held path word one other h k
 one_result held (Tell telling path) one other p h k = one_telling held telling path one other p h k
 one_result held (Agree path against) one other p h k = one_agreeing held path against one other h k
 one_result held (Asm path) one other p h k = same_value one other _ h.is_text k.is_text
+one_result held (Load seed options) one other p h k = one_summary seed options one other h k
+one_result held (Verify folder path main) one other p h k = one_verification held folder path main one other h k
 one_result held (Show page) one other p h k = h ∙ sym k
 
 -- a call that is done has written each text that its command asks for, of which there is one

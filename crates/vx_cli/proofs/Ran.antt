@@ -27,7 +27,7 @@ linked_if : (r : Result Program LinkFault) (p : Program) → or_bad_link r ≡ O
 linked_if (Ok q) p e = let same : q ≡ p = cc in ap Ok same
 linked_if (Err fault) p e = cc
 
-linked_is : (main : List ℕ) (model : Model) (classes : List ClassFile) (p : Program) → program_in main model classes ≡ Ok p → linked_program classes model.options (slashed main) ≡ Ok p
+pub linked_is : (main : List ℕ) (model : Model) (classes : List ClassFile) (p : Program) → program_in main model classes ≡ Ok p → linked_program classes model.options (slashed main) ≡ Ok p
 unfolding program_in
 linked_is main model classes p e = linked_if (linked_program classes model.options (slashed main)) p e
 
@@ -59,7 +59,7 @@ reportable_run main limit version model classes p allowed sound spelled read lin
 }
 
 -- a set of configurations that is that of the model
-allowed_is : (model : Model) (allowed : Config → Bool) → ((c : Config) → allowed c ≡ is_allowed model c) → allowed ≡ is_allowed model
+pub allowed_is : (model : Model) (allowed : Config → Bool) → ((c : Config) → allowed c ≡ is_allowed model c) → allowed ≡ is_allowed model
 allowed_is model allowed same = λ i c. same c i
 
 pub unbuilt_run : (folder : List ℕ) (limit : ℕ) (model : Model) (paths : List (List ℕ)) (p : Program) (allowed : Config → Bool) (status : Status) → ((c : Config) → allowed c ≡ is_allowed model c)
@@ -70,6 +70,12 @@ unbuilt_run folder limit model paths p allowed status same meets is = record { m
 abbrev pub SayLockstep : {S I : Type 0} → Program → Sets I → ℕ → (Config → Bool) → ℕ → FindingsView S I → Type 0
 SayLockstep p sets options allowed limit f = (list : List Config) (version : ℕ) → AreAllowed options allowed list → lock_report p list limit version ≡ report_by sets list limit version f
 
+-- also of a set of configurations that is that of a model
+pub lockstep_there : {S I : Type 0} (limit : ℕ) (model : Model) (p : Program) (sets : Sets I) (options : ℕ) (allowed : Config → Bool) (f : FindingsView S I)
+    → ((c : Config) → allowed c ≡ is_allowed model c) → sets.options ≡ options → SayLockstep p sets options allowed limit f → SayLockstep p sets sets.options (is_allowed model) limit f
+lockstep_there limit model p sets options allowed f same kept lockstep list v are =
+    lockstep list v (subst (λ g. AreAllowed options g list) (sym (allowed_is model allowed same)) (subst (λ n. AreAllowed n (is_allowed model) list) kept are))
+
 -- the report of what was found in a set of configurations that is that of the model
 pub reported_run : {S I : Type 0} (limit version : ℕ) (model : Model) (p : Program) (names : List (List ℕ)) (text : List ℕ) (sets : Sets I) (options : ℕ) (allowed : Config → Bool) (f : FindingsView S I)
     → names ≡ names_of model → ((c : Config) → allowed c ≡ is_allowed model c) → sets.options ≡ options
@@ -79,14 +85,8 @@ pub reported_run : {S I : Type 0} (limit version : ℕ) (model : Model) (p : Pro
     → IsTextOf (Report version model limit p) text
 reported_run limit version model p names text sets options allowed f are_names same kept found lockstep reportable written = rw are_names at reported
   where
-    set : allowed ≡ is_allowed model
-    set = allowed_is model allowed same
-
-    lockstep_there : SayLockstep p sets sets.options (is_allowed model) limit f
-    lockstep_there list v are = lockstep list v (subst (λ g. AreAllowed options g list) (sym set) (subst (λ n. AreAllowed n (is_allowed model) list) kept are))
-
     of_names : IsReportable version names limit (is_allowed model) p
     of_names = subst (λ ns. IsReportable version ns limit (is_allowed model) p) (sym are_names) reportable
 
     reported : IsReported version names limit (is_allowed model) p text
-    reported = written of_names (subst (λ g. AreFindings p sets g limit f) set found) lockstep_there
+    reported = written of_names (subst (λ g. AreFindings p sets g limit f) (allowed_is model allowed same) found) (lockstep_there limit model p sets options allowed f same kept lockstep)

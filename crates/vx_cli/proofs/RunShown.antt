@@ -17,7 +17,7 @@ use Rattle.vx_link.specs.declared.program.Program.{Program}
 use Rattle.vx_standing.specs.Rounds.{MeetsUnbuilt}
 use Rattle.vx_cli.specs.declared.status.Status.{Status}
 use Rattle.vx_cli.specs.declared.status.Status.TheVariants.{Done, NoMemory, ReadFault, WriteFault, BadModel, NoConfiguration, BadClass, BadLink, TooLarge, NotYet}
-use Rattle.vx_cli.specs.Causes.{HasClasses, IsReached, IsModelOf, IsGoodModel, IsNotTaken, IsNotLinked, AreAll, class_bytes, AreClasses, RunCause, Shows, IsShown, IsGood, NothingFails}
+use Rattle.vx_cli.specs.Causes.{HasClasses, IsReached, IsModelOf, IsGoodModel, IsNotTaken, IsNotLinked, AreAll, class_bytes, AreClasses, InputCause, RunCause, Shows, IsShown, IsGood, NothingFails}
 use Rattle.vx_cli.specs.Command.{Run}
 use Rattle.vx_cli.specs.Job.{is_class_path, main_path, model_of, or_bad_link, or_bad_model, program_in, slashed, spelled_model, Report}
 use Rattle.vx_cli.specs.Plan.{Plan, MayGive, Write, If_allowed, AllowsSome, AllowsNone, attempt}
@@ -58,9 +58,9 @@ further held folder path bytes class done paths classes h b reads = record {
   good = are_more held folder path class done classes h.good b.0 (ap class_of (sym b.1) ∙ reads);
 }
 
-abbrev ClassesShow : FilesState → FilesState → List ℕ → List ℕ → List ℕ → ℕ → List (List ℕ) → (List ClassFile → Plan) → Result (List ℕ) Status → Type 0
-ClassesShow old new folder model main limit all next outcome =
-    ((status : Status) × (outcome ≡ Err status) × RunCause old new folder model main limit status)
+abbrev ClassesShow : FilesState → FilesState → List ℕ → List ℕ → List (List ℕ) → (List ClassFile → Plan) → Result (List ℕ) Status → Type 0
+ClassesShow old new folder model all next outcome =
+    ((status : Status) × (outcome ≡ Err status) × InputCause old new folder model status)
     ⊎ ((classes : List ClassFile) × IfSome old.held (λ held. SoFar held folder all [] classes) × MayGive old.held old.faults new.faults (next classes) outcome)
 
 a_class : (path bytes : List ℕ) (class : ClassFile) → class_in path bytes ≡ Ok class → class_of bytes ≡ Ok class
@@ -78,60 +78,60 @@ a_bad_class path bytes status e = by_case (class_of bytes) e
     by_case (Err fault) e = (fault.at, fault.reason, refl, cc)
 
 -- reading on from here shows what a plan gave
-abbrev Continues : FilesState → FilesState → List ℕ → List ℕ → List ℕ → ℕ → List (List ℕ) → (List ClassFile → Plan) → List (List ℕ) → List (List ℕ) → List ClassFile → Result (List ℕ) Status → Type 0
-Continues old new folder model main limit all next paths done classes outcome =
+abbrev Continues : FilesState → FilesState → List ℕ → List ℕ → List (List ℕ) → (List ClassFile → Plan) → List (List ℕ) → List (List ℕ) → List ClassFile → Result (List ℕ) Status → Type 0
+Continues old new folder model all next paths done classes outcome =
     IfSome old.held (λ held. SoFar held folder done paths classes) → AllByRecursion (λ path. IsTrue (is_class_path path)) paths
-    → MayGive old.held old.faults new.faults (read_classes folder next classes paths) outcome → ClassesShow old new folder model main limit all next outcome
+    → MayGive old.held old.faults new.faults (read_classes folder next classes paths) outcome → ClassesShow old new folder model all next outcome
 
-classes_show : (old new : FilesState) (folder model main : List ℕ) (limit : ℕ) (all : List (List ℕ)) (next : List ClassFile → Plan) (paths done : List (List ℕ)) (classes : List ClassFile) (outcome : Result (List ℕ) Status) → all ≡ done ++ paths
+classes_show : (old new : FilesState) (folder model : List ℕ) (all : List (List ℕ)) (next : List ClassFile → Plan) (paths done : List (List ℕ)) (classes : List ClassFile) (outcome : Result (List ℕ) Status) → all ≡ done ++ paths
     → IfSome old.held (λ held. SoFar held folder done paths classes) → AllByRecursion (λ path. IsTrue (is_class_path path)) paths
-    → MayGive old.held old.faults new.faults (read_classes folder next classes paths) outcome → ClassesShow old new folder model main limit all next outcome
-classes_show old new folder model main limit all next [] done classes outcome is told named g = inr (classes, rw (is ∙ append-nil done) told, g)
-classes_show old new folder model main limit all next (path ∷ paths) done classes outcome is told named g =
-    by_file (λ class. classes_show old new folder model main limit all next paths (done ++ path ∷ []) (classes ++ class ∷ []) outcome (is ∙ sym (append_assoc done (path ∷ []) paths)))
+    → MayGive old.held old.faults new.faults (read_classes folder next classes paths) outcome → ClassesShow old new folder model all next outcome
+classes_show old new folder model all next [] done classes outcome is told named g = inr (classes, rw (is ∙ append-nil done) told, g)
+classes_show old new folder model all next (path ∷ paths) done classes outcome is told named g =
+    by_file (λ class. classes_show old new folder model all next paths (done ++ path ∷ []) (classes ++ class ∷ []) outcome (is ∙ sym (append_assoc done (path ∷ []) paths)))
     (sized_shows old new most_bytes (place_of folder path) path _ outcome g)
   where
-    by_test : (bytes : List ℕ) → IfSome old.held (λ held. (length (class_bytes held folder path) ≤ most_bytes) × (bytes ≡ class_bytes held folder path)) → ((class : ClassFile) → Continues old new folder model main limit all next paths (done ++ path ∷ []) (classes ++ class ∷ []) outcome)
+    by_test : (bytes : List ℕ) → IfSome old.held (λ held. (length (class_bytes held folder path) ≤ most_bytes) × (bytes ≡ class_bytes held folder path)) → ((class : ClassFile) → Continues old new folder model all next paths (done ++ path ∷ []) (classes ++ class ∷ []) outcome)
         → ((status : Status) × (class_in path bytes ≡ Err status) × (outcome ≡ Err status)) ⊎ ((class : ClassFile) × (class_in path bytes ≡ Ok class) × MayGive old.held old.faults new.faults (read_classes folder next (classes ++ class ∷ []) paths) outcome)
-        → ClassesShow old new folder model main limit all next outcome
+        → ClassesShow old new folder model all next outcome
     by_test bytes is rest (inl bad) =
         let b = a_bad_class path bytes bad.0 bad.1 in
         inl (BadClass path b.0 b.1, bad.2 ∙ ap Err b.3, told_both old.held _ _ _ (λ held h k. (reached held folder path done paths classes h, ap class_of (sym k.1) ∙ b.2)) told is)
     by_test bytes is rest (inr good) =
         rest good.0 (told_both old.held _ _ _ (λ held h k. further held folder path bytes good.0 done paths classes h k (a_class path bytes good.0 good.1)) told is) named.1 good.2
 
-    by_file : ((class : ClassFile) → Continues old new folder model main limit all next paths (done ++ path ∷ []) (classes ++ class ∷ []) outcome)
-        → SizedShows old new most_bytes (place_of folder path) path (λ bytes. attempt (class_in path bytes) (λ class. read_classes folder next (classes ++ class ∷ []) paths)) outcome → ClassesShow old new folder model main limit all next outcome
+    by_file : ((class : ClassFile) → Continues old new folder model all next paths (done ++ path ∷ []) (classes ++ class ∷ []) outcome)
+        → SizedShows old new most_bytes (place_of folder path) path (λ bytes. attempt (class_in path bytes) (λ class. read_classes folder next (classes ++ class ∷ []) paths)) outcome → ClassesShow old new folder model all next outcome
     by_file rest (inl (inl fault)) = inl (ReadFault path, fault.1, inr (inr (named.0, fault.0, told_map old.held _ _ (λ held h. reached held folder path done paths classes h) told)))
     by_file rest (inl (inr large)) = inl (TooLarge path most_bytes, large.1, inr (inr (refl, told_both old.held _ _ _ (λ held h k. (reached held folder path done paths classes h, k)) told large.0)))
     by_file rest (inr read) = by_test read.0 read.1 rest (attempt_cases old.held old.faults new.faults (class_in path read.0) _ outcome read.2)
 
 -- ---- the folder
 
-abbrev FolderShows : FilesState → FilesState → List ℕ → List ℕ → List ℕ → ℕ → (List (List ℕ) → List ClassFile → Plan) → Result (List ℕ) Status → Type 0
-FolderShows old new folder model main limit next outcome =
-    ((status : Status) × (outcome ≡ Err status) × RunCause old new folder model main limit status)
+abbrev pub FolderShows : FilesState → FilesState → List ℕ → List ℕ → (List (List ℕ) → List ClassFile → Plan) → Result (List ℕ) Status → Type 0
+FolderShows old new folder model next outcome =
+    ((status : Status) × (outcome ≡ Err status) × InputCause old new folder model status)
     ⊎ ((paths : List (List ℕ)) × (classes : List ClassFile) × IfSome old.held (λ held. AreAll held folder paths classes) × MayGive old.held old.faults new.faults (next paths classes) outcome)
 
 -- a listing has one length
-folder_shows : (old new : FilesState) (folder model main : List ℕ) (limit : ℕ) (next : List (List ℕ) → List ClassFile → Plan) (outcome : Result (List ℕ) Status)
-    → MayGive old.held old.faults new.faults (read_folder folder next) outcome → FolderShows old new folder model main limit next outcome
-folder_shows old new folder model main limit next outcome (inl fault) = inl (ReadFault folder, fault.1, inr (inl (refl, fault.0)))
-folder_shows old new folder model main limit next outcome (inr g) = by_size (unless_cases old.held old.faults new.faults (too_large folder most_classes (length (class_paths g.0))) _ outcome g.2) (large_cases folder most_classes (length (class_paths g.0)))
+pub folder_shows : (old new : FilesState) (folder model : List ℕ) (next : List (List ℕ) → List ClassFile → Plan) (outcome : Result (List ℕ) Status)
+    → MayGive old.held old.faults new.faults (read_folder folder next) outcome → FolderShows old new folder model next outcome
+folder_shows old new folder model next outcome (inl fault) = inl (ReadFault folder, fault.1, inr (inl (refl, fault.0)))
+folder_shows old new folder model next outcome (inr g) = by_size (unless_cases old.held old.faults new.faults (too_large folder most_classes (length (class_paths g.0))) _ outcome g.2) (large_cases folder most_classes (length (class_paths g.0)))
   where
     start : IfSome old.held (λ held. SoFar held folder [] (class_paths g.0) [])
     start = told_map old.held _ _ (λ held h. record { all = record { listing = g.0; listed = h; classes = refl }; good = tt }) g.1
 
     by_size : ((status : Status) × (too_large folder most_classes (length (class_paths g.0)) ≡ Some status) × (outcome ≡ Err status)) ⊎ ((too_large folder most_classes (length (class_paths g.0)) ≡ None) × MayGive old.held old.faults new.faults (read_classes folder (next (class_paths g.0)) [] (class_paths g.0)) outcome)
         → ((too_large folder most_classes (length (class_paths g.0)) ≡ None) × (length (class_paths g.0) ≤ most_classes)) ⊎ ((too_large folder most_classes (length (class_paths g.0)) ≡ Some (TooLarge folder most_classes)) × (most_classes < length (class_paths g.0)))
-        → FolderShows old new folder model main limit next outcome
+        → FolderShows old new folder model next outcome
     by_size (inl refused) (inl fits) = cc
     by_size (inl refused) (inr large) =
         inl (TooLarge folder most_classes, (let e : refused.0 ≡ TooLarge folder most_classes = cc in refused.2 ∙ ap Err e), inr (inl (refl, refl, told_map old.held _ _ (λ held h. (class_paths g.0, record { listing = g.0; listed = h; classes = refl }, large.1)) g.1)))
     by_size (inr goes) (inr large) = cc
-    by_size (inr goes) (inl fits) = by_classes (classes_show old new folder model main limit (class_paths g.0) (next (class_paths g.0)) (class_paths g.0) [] [] outcome refl start (all_filter is_class_path g.0) goes.1)
+    by_size (inr goes) (inl fits) = by_classes (classes_show old new folder model (class_paths g.0) (next (class_paths g.0)) (class_paths g.0) [] [] outcome refl start (all_filter is_class_path g.0) goes.1)
       where
-        by_classes : ClassesShow old new folder model main limit (class_paths g.0) (next (class_paths g.0)) outcome → FolderShows old new folder model main limit next outcome
+        by_classes : ClassesShow old new folder model (class_paths g.0) (next (class_paths g.0)) outcome → FolderShows old new folder model next outcome
         by_classes (inl refused) = inl refused
         by_classes (inr read) = inr (class_paths g.0, read.0, told_map old.held _ _ (λ held h. record { listed = (rw append-nil at h.all); few = fits.1; good = h.good }) read.1, read.2)
 
@@ -142,7 +142,7 @@ bad_model_refused : (r : Result Model BadLine) (status : Status) → or_bad_mode
 bad_model_refused (Err bad) status e = (bad.line, bad.reason, cc)
 bad_model_refused (Ok model) status e = cc
 
-model_refused : (path bytes : List ℕ) (status : Status) → model_of path bytes ≡ Err status → (line : ℕ) × (reason : ℕ) × (status ≡ BadModel line reason)
+pub model_refused : (path bytes : List ℕ) (status : Status) → model_of path bytes ≡ Err status → (line : ℕ) × (reason : ℕ) × (status ≡ BadModel line reason)
 model_refused path bytes status e = bad_model_refused (spelled_model path bytes) status e
 
 abbrev ModelShows : FilesState → FilesState → List ℕ → List ℕ → List ℕ → ℕ → (Model → Plan) → Result (List ℕ) Status → Type 0
@@ -181,18 +181,25 @@ model_shows old new folder path main limit next outcome g = by_file (sized_shows
 
 -- ---- the whole run
 
+-- what refuses the files of any command that links them refuses them here
+run_cause : (old new : FilesState) (folder model main : List ℕ) (limit : ℕ) (status : Status) → InputCause old new folder model status → RunCause old new folder model main limit status
+run_cause old new folder model main limit NoConfiguration cause = absurd cause
+run_cause old new folder model main limit (BadLink fault) cause = absurd cause
+run_cause old new folder model main limit (NotYet path) cause = absurd cause
+run_cause old new folder model main limit status cause = cause
+
 -- class files are refused by their first fault
 refused_link : (r : Result Program LinkFault) (status : Status) → or_bad_link r ≡ Err status → (fault : LinkFault) × (status ≡ BadLink fault) × (r ≡ Err fault)
 refused_link (Ok program) status e = cc
 refused_link (Err fault) status e = (fault, cc, refl)
 
-refused_program : (main : List ℕ) (model : Model) (classes : List ClassFile) (status : Status) → program_in main model classes ≡ Err status
+pub refused_program : (main : List ℕ) (model : Model) (classes : List ClassFile) (status : Status) → program_in main model classes ≡ Err status
     → (fault : LinkFault) × (status ≡ BadLink fault) × (linked_program classes model.options (slashed main) ≡ Err fault)
 unfolding program_in
 refused_program main model classes status e = refused_link (linked_program classes model.options (slashed main)) status e
 
 -- class files with a fault are refused
-faulty_program : (main : List ℕ) (model : Model) (classes : List ClassFile) (fault : LinkFault) → linked_program classes model.options (slashed main) ≡ Err fault
+pub faulty_program : (main : List ℕ) (model : Model) (classes : List ClassFile) (fault : LinkFault) → linked_program classes model.options (slashed main) ≡ Err fault
     → program_in main model classes ≡ Err (BadLink fault)
 unfolding program_in
 faulty_program main model classes fault e = ap or_bad_link e
@@ -232,16 +239,16 @@ run_shows old new folder path main limit version outcome g = by_model (model_sho
     by_program model paths classes modeled all (inl bad) = by_refusal model paths classes modeled all bad.0 bad.2 (refused_program main model classes bad.0 bad.1)
     by_program model paths classes modeled all (inr good) = by_built model paths classes modeled all good.0 good.1 good.2
 
-    by_folder : (model : Model) → IfSome old.held (λ held. IsGoodModel held path model) → FolderShows old new folder path main limit (run_classes folder main limit version model) outcome → Shows old new (Run folder path main limit version) outcome
-    by_folder model modeled (inl stop) = refused stop.0 stop.1 stop.2
+    by_folder : (model : Model) → IfSome old.held (λ held. IsGoodModel held path model) → FolderShows old new folder path (run_classes folder main limit version model) outcome → Shows old new (Run folder path main limit version) outcome
+    by_folder model modeled (inl stop) = refused stop.0 stop.1 (run_cause old new folder path main limit stop.0 stop.2)
     by_folder model modeled (inr read) = by_program model read.0 read.1 modeled read.2 (attempt_cases old.held old.faults new.faults (program_in main model read.1) _ outcome read.3)
 
     by_model : ModelShows old new folder path main limit (λ model. read_folder folder (run_classes folder main limit version model)) outcome → Shows old new (Run folder path main limit version) outcome
     by_model (inl stop) = refused stop.0 stop.1 stop.2
-    by_model (inr modeled) = by_folder modeled.0 modeled.1 (folder_shows old new folder path main limit (run_classes folder main limit version modeled.0) outcome modeled.2)
+    by_model (inr modeled) = by_folder modeled.0 modeled.1 (folder_shows old new folder path (run_classes folder main limit version modeled.0) outcome modeled.2)
 
 -- the class of a file among those that spell classes
-class_at : (held : Held) (folder path : List ℕ) (before after : List (List ℕ)) (classes : List ClassFile) → AreClasses held folder (before ++ path ∷ after) classes
+pub class_at : (held : Held) (folder path : List ℕ) (before after : List (List ℕ)) (classes : List ClassFile) → AreClasses held folder (before ++ path ∷ after) classes
     → (length (class_bytes held folder path) ≤ most_bytes) × ((class : ClassFile) × (class_of (class_bytes held folder path) ≡ Ok class))
 class_at held folder path [] after [] h = absurd h
 class_at held folder path [] after (c ∷ classes) h = (h.0, (c, h.1))

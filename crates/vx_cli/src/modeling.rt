@@ -9,6 +9,7 @@ ghost use Rattle.vx_cli.specs.Job.{IsModeled, model_of, spelled_model};
 ghost use Rattle.vx_cli.specs.KeepsFiles.{KeepsFiles};
 ghost use Rattle.vx_cli.specs.Plan.{AllowsNone, AllowsSome, Leads, MayStop, Plan};
 ghost use Rattle.vx_cli.specs.Run.{read_model};
+ghost use Rattle.vx_cli.specs.Verify.{read_any_model};
 
 use crate::job::is_dimacs;
 use crate::reading::{MOST_BYTES, read_file};
@@ -82,6 +83,21 @@ fn is_allowing<S: Space>(space: &S, model: &Model, allowed: S::Id) -> bool
     !space.is_never(allowed)
 }
 
+/// A model that allows a configuration, with a space of its options and the set of those that it allows.
+pub fn allowing_model(alloc: Global, model: Model) -> Result<Modeled, Status>
+    requires lawful { IsModel model }
+    requires names { HasOptionNames model }
+    ensures { MatchResult result
+        (λ found. (found.model ≡ model) × IsModeled found.model (⟦<BddSpace as Space>⟧.sets found.space) found.allowed)
+        (λ status. (status ≡ Status.NoMemory) ⊎ ((status ≡ Status.NoConfiguration) × AllowsNone model)) }
+{
+    let found = with_allowed(alloc, model)?;
+    if is_allowing(&found.space, &found.model, found.allowed) {
+        return Ok(found);
+    }
+    Err(Status::NoConfiguration)
+}
+
 /// Reads a model that allows a configuration.
 pub fn read_model_file<F: Files>(
     alloc: Global,
@@ -97,9 +113,18 @@ pub fn read_model_file<F: Files>(
 {
     let text = read_file(alloc, files, MOST_BYTES, path, path)?;
     let model = model_of(alloc, path, text.as_slice())?;
-    let found = with_allowed(alloc, model)?;
-    if is_allowing(&found.space, &found.model, found.allowed) {
-        return Ok(found);
-    }
-    Err(Status::NoConfiguration)
+    allowing_model(alloc, model)
+}
+
+/// Reads a model, whether or not it allows a configuration.
+pub fn read_any_model<F: Files>(alloc: Global, files: &mut F, path: &str) -> Result<Model, Status>
+    ensures ok { IfOk result (λ model. (next : Model → Plan) →
+        Leads (F.seen files.old).held (read_any_model path.now next) (next model)) }
+    ensures lawful { IfOk result IsModel }
+    ensures err { IfErr result (λ status. (next : Model → Plan) →
+        MayStop (F.seen files.old) (F.seen files.new) (read_any_model path.now next) status) }
+    ensures keeps { KeepsFiles (F.seen files.old) (F.seen files.new) }
+{
+    let text = read_file(alloc, files, MOST_BYTES, path, path)?;
+    model_of(alloc, path, text.as_slice())
 }

@@ -26,6 +26,8 @@ const HELP: &[u8] =
 \x20 varexj picture REPORT            its diagram, for Graphviz\n\
 \x20 varexj agree REPORT OTHER        where two reports say the same\n\
 \x20 varexj asm SOURCE                the class file that a source names\n\
+\x20 varexj load SEED OPTIONS         the size of a report of a program made for trials\n\
+\x20 varexj verify FOLDER MODEL MAIN  whether each method has a typing\n\
 \x20 varexj --help, varexj --version  this page, and the version\n\
 \n\
 FOLDER  a folder of class files of Java 8 or before\n\
@@ -33,6 +35,8 @@ MODEL   the options and their rules, as text, or as DIMACS in a .cnf or .dimacs 
 MAIN    the class whose main runs\n\
 LIMIT   the greatest number of instructions tried in one configuration\n\
 CONFIG  the names of the options that are on, joined by commas, or - for none\n\
+SEED    a number below 2^64, by which the program made for trials differs\n\
+OPTIONS how many options that program has, from 1 to 64\n\
 \n\
 Exit codes, with one line on the standard error for each but 0:\n\
 \x20 0 done          4 write fault        8 bad link      12 bad source\n\

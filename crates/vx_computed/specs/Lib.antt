@@ -12,3 +12,4 @@ pub mod Links
 pub mod Shop
 pub mod Many
 pub mod Values
+pub mod Typed

@@ -13,6 +13,7 @@ mod objects;
 mod programs;
 mod shop;
 mod straight;
+mod typed;
 mod values;
 
 pub use branches::branching_runs;
@@ -26,4 +27,5 @@ pub use objects::object_runs;
 pub use programs::single_runs;
 pub use shop::shop_run;
 pub use straight::straight_runs;
+pub use typed::typed_instructions;
 pub use values::plain_values;

@@ -13,7 +13,7 @@ pub(crate) struct Raise {
 }
 
 /// Each kind of instruction that raises.
-pub(crate) const RAISES: [Raise; 27] = [
+pub(crate) const RAISES: [Raise; 29] = [
     Raise {
         instructions: "iconst_1\niconst_0\nidiv\npop",
         class: "java/lang/ArithmeticException",
@@ -105,6 +105,14 @@ pub(crate) const RAISES: [Raise; 27] = [
     Raise {
         instructions: "new java/lang/RuntimeException\nathrow",
         class: "java/lang/RuntimeException",
+    },
+    Raise {
+        instructions: "aconst_null\ninvokevirtual [I clone ()Ljava/lang/Object;\npop",
+        class: "java/lang/NullPointerException",
+    },
+    Raise {
+        instructions: "iconst_1\nnewarray int\ninvokestatic [I clone ()Ljava/lang/Object;\npop",
+        class: "java/lang/IncompatibleClassChangeError",
     },
     Raise {
         instructions: "aconst_null\ninvokevirtual Main m ()V",

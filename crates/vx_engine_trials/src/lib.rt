@@ -1,4 +1,4 @@
-//! Programs of one class run whole, from an assembler source to the text of a report, with groups picked in two orders, over
+//! Programs of one class or a few run whole, from assembler sources to the text of a report, with groups picked in two orders, over
 //! the space of masks and the space of diagrams.
 #![tactic(auto)]
 
@@ -12,6 +12,8 @@ mod cases;
 mod exception_cases;
 #[cfg(test)]
 mod findings;
+#[cfg(test)]
+mod init_cases;
 #[cfg(test)]
 mod last_key;
 #[cfg(test)]

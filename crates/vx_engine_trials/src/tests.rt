@@ -1,9 +1,10 @@
 use crate::call_cases::CALL_CASES;
 use crate::cases::{CASES, Case, DIFFERENT_VALUES};
 use crate::exception_cases::{EXCEPTION_CASES, RAISES, caught, source};
+use crate::init_cases::INIT_CASES;
 use crate::last_key::LastKey;
 use crate::object_cases::OBJECT_CASES;
-use crate::runs::{agree, report_of};
+use crate::runs::{agree, report_of, report_with};
 use std::alloc::Global;
 use std::process::Abort;
 use std::test::Fail;
@@ -88,6 +89,25 @@ fn each_exception_that_is_raised_has_its_handler(rt: HostRuntime) -> Result<(), 
 fn exceptions_go_to_the_first_frame_that_takes_them(rt: HostRuntime) -> Result<(), Fail> {
     for case in EXCEPTION_CASES {
         assert!(rt; is_said(&rt, rt.alloc(), &case)?, "{:?}", case.report);
+    }
+    Ok(())
+}
+
+#[test]
+fn a_class_is_initialised_once_in_each_configuration(rt: HostRuntime) -> Result<(), Fail> {
+    for init in INIT_CASES {
+        let first = report_with(&rt, rt.alloc(), &init.case, init.others, &mut LeastKey)?;
+        assert!(rt;
+            agree(rt.alloc(), first.as_slice(), init.case.report)?,
+            "{:?}",
+            init.case.report
+        );
+        let last = report_with(&rt, rt.alloc(), &init.case, init.others, &mut LastKey)?;
+        assert!(rt;
+            agree(rt.alloc(), last.as_slice(), init.case.report)?,
+            "{:?}",
+            init.case.report
+        );
     }
     Ok(())
 }

@@ -1,6 +1,6 @@
--- What the row of an instruction that is there comes to, and what isn't built by one part.
-use Rattle.std.proofs.Common.{◌≡◌, ℕ, Bool, true, false, refl, sym, ◌∙◌, ap}
-use Rattle.std.specs.Prelude.{Some, ◌&&◌}
+-- What the row of an instruction that is there comes to.
+use Rattle.std.proofs.Common.{◌≡◌, ℕ, sym, ◌∙◌, ap}
+use Rattle.std.specs.Prelude.{Some}
 use Rattle.vx_families.specs.Attempts.{row_by}
 use Rattle.vx_group_states.specs.declared.site.Site.{Site}
 use Rattle.vx_java.specs.Machine.{Here, State, current_class}
@@ -16,11 +16,3 @@ row_there site operation s instruction code found size does =
     let p = site.program.now in
     let seen : ℕ → Here = λ n. record { program = p; state = s; code = site.code.now; pool = (class_at p (current_class p s)).pool; size = n } in
     ap (row_in p s) code ∙ ap (row_if p s site.code.now) found ∙ (λ i. row_of (seen (sym size i)) (sym does i) s.top.operands)
-
-pub third_false : (a b c d : Bool) → c ≡ false → (a && b && c && d) ≡ false
-third_false true true c d e = ap (λ x. x && d) e
-third_false true false c d e = refl
-third_false false b c d e = refl
-
-pub first_false : (a b c d : Bool) → a ≡ false → (a && b && c && d) ≡ false
-first_false a b c d e = ap (λ x. x && b && c && d) e

@@ -20,6 +20,7 @@ use Rattle.vx_heap.specs.Heap.{HeapView, globals_at}
 use Rattle.vx_heap.proofs.Places.{and_true}
 use Rattle.vx_java.specs.Calls.{in_locals}
 use Rattle.vx_java.specs.Initialisation.{max_locals, new_frame}
+use Rattle.vx_java.specs.Machine.{depth}
 use Rattle.vx_link.specs.Parts.{method_at}
 use Rattle.vx_link.specs.declared.program.Program.{Program}
 use Rattle.vx_group_states.specs.Stands.{StandsIn, frame_held, is_shaped, plain_frame, state_at, state_of}
@@ -32,6 +33,12 @@ head_of x y xs ys e = cc
 -- a group has as many frames as it has parts
 pub stack_depth : {S I : Type 0} (sets : Sets I) (tree : List (Option (Caller S I))) (group : GroupView S I) → IsGroupIn sets tree group → length (stack_of tree group) ≡ depth_of group
 stack_depth sets tree group v = ap suc (sym (length-map (callers_of tree (length group.below) group.caller) part_of) ∙ ap length (IsGroupIn-parts sets tree group v))
+
+-- and so has a plain state
+pub state_depth : {S I : Type 0} (sets : Sets I) (heap : HeapView S I) (tree : List (Option (Caller S I))) (group : GroupView S I) (c : List Bool) → IsGroupIn sets tree group → depth (state_at sets heap tree group c) ≡ depth_of group
+state_depth sets heap tree group c v =
+    let callers = callers_of tree (length group.below) group.caller in
+    ap suc (length-map (frames_at sets callers c) (plain_frame sets heap c) ∙ length-map callers (λ frame. frame_at sets frame c)) ∙ stack_depth sets tree group v
 
 module _ {S I : Type 0} (p : Program) (sets : Sets I) (tree later : List (Option (Caller S I))) (before : GroupView S I) (kind : Kind) (method : MethodId) (values : List (Conditional Slot S I)) (after : GroupView S I) (frame : Frame S I) (begun : IsBegun p sets (path_of before) kind method values frame) (attempts : after.attempts ≡ before.attempts) (stack : stack_of later after ≡ frame ∷ stack_of tree before) where
   top : after.top ≡ frame

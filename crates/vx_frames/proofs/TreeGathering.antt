@@ -10,7 +10,7 @@ use Rattle.vx_cond.specs.Leaves.{AreLeaves, value_at}
 use Rattle.vx_cond.proofs.LeafLoops.{next_leaf}
 use Rattle.vx_group.specs.declared.callers.Caller.{Caller}
 use Rattle.vx_group.specs.Callers.{Keeps}
-use Rattle.vx_group.specs.Group.{GroupView, IsGroup, IsPartOf, path_of}
+use Rattle.vx_group.specs.Group.{GroupView, IsGroup, IsGroupIn, IsPartOf, path_of}
 use Rattle.vx_group.proofs.CallerLaws.{Keeps-refl, Keeps-trans}
 use Rattle.vx_heap.specs.Heap.{HeapView, IsHeap}
 use Rattle.vx_heap.proofs.HeapLaws.{IsHeap-extends, globals_at-extends}
@@ -24,6 +24,7 @@ use Rattle.vx_group_states.proofs.Gathering.{IsGathering, IsGathering-inner, IsG
 use Rattle.vx_group_states.proofs.GrownStates.{CameTo-grown, Grows-refl, StandsIn-grown, state_at-grown}
 use Rattle.vx_group_states.proofs.OutcomeStates.{CameTo-append, CameTo-none, CameTo-same, CameTo-through}
 use Rattle.vx_group_states.proofs.StateLaws.{Continues-part, StandsIn-part, state_at-part}
+use Rattle.vx_frames.proofs.GivingLaws.{IsGroupIn-part}
 use Rattle.vx_frames.specs.Giving.{GivesIn}
 
 -- what the loop keeps: the rest of the group (its gathering has no outcomes to tell of), the nodes of the tree, and the outcomes of the parts so far, over each heap over which the group stood
@@ -65,6 +66,11 @@ IsGrowing-step {K = K} {S = S} {I = I} cmp p {s0 = s0} {s1 = s1} {s2 = s2} {s3 =
           let all = CameTo-grown p (Extends-trans f k) more heap heap h1 (Grows-refl heap) s0 group (λ c. says heap c (state_at s0 heap tree group c)) before outcomes (λ c t. globals_at-extends (Extends-trans f k) heap h1 c) (g.came heap h s) in
           CameTo-same p s0 s3 heap t2 group _ _ (λ c. before c || s0.test x.condition c) (λ c. is_some (value_at s0 (take (i + 1) xs) c)) (outcomes ++ made) (λ c. widened (s0.test x.condition c) (value_at s0 (take i xs) c) x.value ∙ ap is_some (sym (next.more c))) (λ c t. refl) (CameTo-append p s0 s3 heap t2 group _ before (s0.test x.condition) outcomes made (λ c t. not_both (before c) (s0.test x.condition c) (λ d. ap is_some (next.before.none c d)) t) all one);
     }
+
+-- the part in the condition of one leaf stands in the tree so far
+pub IsGrowing-part : {K S I : Type 0} (cmp : K → K → Ordering) (p : Program) {s0 s1 s2 : Sets I} (tree later : List (Option (Caller S I))) (group : GroupView S I) (says : HeapView S I → List Bool → State → PlainOutcome) (xs : List (Leaf K S I)) (i : ℕ) (x : Leaf K S I) (rest part : GroupView S I) (outcomes : List (Outcome S I)) → AreLeaves cmp s0 xs → Cover s0 (path_of group) xs → i < length xs → x ≡ get_or xs i x → IsGroupIn s0 tree group → IsGrowing p s0 s1 tree later group says xs i rest outcomes → Extends s1 s2 → IsPartOf s1 s2 (λ c. s1.test (path_of rest) c && s1.test x.condition c) rest part → IsGroupIn s2 later part
+IsGrowing-part cmp p {s0 = s0} {s2 = s2} tree later group says xs i x rest part outcomes leaves cover l e v g f a =
+    IsGroupIn-part (Extends-trans g.gathers.extends f) g.keeps (s0.test x.condition) group part (leaf_inside s0 (path_of group) xs i x cover l e) v (IsGathering-inner cmp p s2 group _ says xs i x rest part outcomes leaves cover l e g.gathers a)
 
 pub IsGrowing-end : {K S I : Type 0} (p : Program) {s0 s1 : Sets I} (tree later : List (Option (Caller S I))) (group : GroupView S I) (says : HeapView S I → List Bool → State → PlainOutcome) (xs : List (Leaf K S I)) (i : ℕ) (rest : GroupView S I) (outcomes : List (Outcome S I)) → Cover s0 (path_of group) xs → IsGrowing p s0 s1 tree later group says xs i rest outcomes → length xs ≤ i → (heap : HeapView S I) → GivesIn p says s0 s1 tree later group outcomes heap
 IsGrowing-end p {s0 = s0} {s1 = s1} tree later group says xs i rest outcomes inside g l heap h s =

@@ -104,11 +104,11 @@ one_value sets (x ∷ []) slot c e t = cases (sets.test x.condition c) t
     cases true s = cc
     cases false s = cc
 
-new_slot : {S I : Type 0} (sets : Sets I) (made : Conditional Slot S I) (cell : Cell S I) (c : List Bool) → IsCellOf made cell → is_some (cond_at sets made c) ≡ true → cell_slot sets c cell ≡ slot_at sets made c
+pub new_slot : {S I : Type 0} (sets : Sets I) (made : Conditional Slot S I) (cell : Cell S I) (c : List Bool) → IsCellOf made cell → is_some (cond_at sets made c) ≡ true → cell_slot sets c cell ≡ slot_at sets made c
 new_slot sets made (Plain slot) c h t = one_value sets made.leaves slot c h t
 new_slot sets made (Differs cond) c h t = ap (λ x. slot_at sets x c) h
 
-new_cell : {S I : Type 0} (sets : Sets I) (presence : I) (made : Conditional Slot S I) (cell : Cell S I) → IsCellOf made cell → IsCond slot_cmp sets made → made.scope ≡ presence → IsCell sets presence cell
+pub new_cell : {S I : Type 0} (sets : Sets I) (presence : I) (made : Conditional Slot S I) (cell : Cell S I) → IsCellOf made cell → IsCond slot_cmp sets made → made.scope ≡ presence → IsCell sets presence cell
 new_cell sets presence made (Plain slot) h v s = tt
 new_cell sets presence made (Differs cond) h v s = (rw h v, ap (λ x. x.scope) h ∙ s)
 

@@ -14,3 +14,4 @@ pub mod Growing
 pub mod Making
 pub mod CellChanges
 pub mod Beginnings
+pub mod Copying

@@ -17,7 +17,7 @@ use Rattle.vx_java.specs.FirstObjects.{first_words}
 use Rattle.vx_java.specs.Machine.{Object, Value, length_bound}
 use Rattle.vx_java.specs.Machine.{Text as TextValue}
 use Rattle.vx_heap.specs.Cells.{cells_at}
-use Rattle.vx_heap.specs.Changing.{Grows, IsMade, MakesObject, filled, with_object}
+use Rattle.vx_heap.specs.Changing.{Grows, IsChangedIn, IsMade, MakesObject, filled, with_object}
 use Rattle.vx_heap.specs.Defaults.{AreSlotsOf}
 use Rattle.vx_heap.specs.declared.cell_list.Cell.{Cell}
 use Rattle.vx_heap.specs.declared.cell_list.Cell.TheVariants.{Plain}
@@ -26,7 +26,7 @@ use Rattle.vx_heap.specs.Heap.{AreEverywhere, AreObjects, HeapView, IsHeap, IsOb
 use Rattle.vx_heap.proofs.Growing.{Grows-more_texts, Grows-trans, is_held-grown, value_of-grown}
 use Rattle.vx_heap.proofs.MoreTexts.{KeepsPlain-texts}
 use Rattle.vx_heap.proofs.Places.{and_true, both_true}
-use Rattle.vx_heap.proofs.PlainCells.{AreCells-plain, are_held_plain, cells_at-plain, holds_anyway, plain_replicate, values_plain}
+use Rattle.vx_heap.proofs.PlainCells.{AreCells-plain, are_held_plain, cells_at-plain, plain_replicate, values_plain}
 
 -- ---- lists
 
@@ -132,64 +132,73 @@ heap_holds sets heap v c = (v.objects_held c, v.statics_held c)
 abbrev plain_object : {S I : Type 0} → ClassId → ℕ → I → List Slot → HeapObject S I
 plain_object class size path slots = record { class = class; length = size; presence = path; cells = map Plain slots }
 
-grown_is_heap : {S I : Type 0} (sets : Sets I) (heap : HeapView S I) (class : ClassId) (size : ℕ) (path : I) (slots : List Slot) → IsHeap sets heap → sets.is_known path ≡ true → size ≤ length_bound → list_all (is_among 0 (length heap.texts)) slots ≡ true → IsHeap sets (grown sets heap (plain_object class size path slots))
+grown_is_heap : {S I : Type 0} (sets : Sets I) (heap : HeapView S I) (o : HeapObject S I) → IsHeap sets heap → IsObject sets o → ((c : List Bool) → sets.test o.presence c ≡ true → are_held sets heap c (cells_at sets o.cells c) ≡ true) → IsHeap sets (grown sets heap o)
 unfolding IsHeap
-grown_is_heap {S = S} {I = I} sets heap class size path slots v k l m =
-    let o : HeapObject S I = plain_object class size path slots in
-    record {
-      allowed_known = v.allowed_known;
-      objects = AreObjects-append sets heap.objects o v.objects (record { known = k; cells = AreCells-plain S sets path slots; short = l });
-      statics = v.statics;
-      inits = v.inits;
-      objects_held = λ c. all_append (object_holds sets (grown sets heap o) c) heap.objects o (all_map (object_holds sets heap c) (object_holds sets (grown sets heap o) c) (holds_more sets heap o v c) heap.objects (v.objects_held c)) (new_holds c);
-      statics_held = λ c. all_map (is_held sets heap c) (is_held sets (grown sets heap o) c) (held_more sets heap o v c) (map (λ cond. slot_at sets cond c) heap.statics) (v.statics_held c);
-    }
+grown_is_heap sets heap o v is held = record {
+  allowed_known = v.allowed_known;
+  objects = AreObjects-append sets heap.objects o v.objects is;
+  statics = v.statics;
+  inits = v.inits;
+  objects_held = λ c. all_append (object_holds sets (grown sets heap o) c) heap.objects o (all_map (object_holds sets heap c) (object_holds sets (grown sets heap o) c) (holds_more sets heap o v c) heap.objects (v.objects_held c)) (new_holds c (sets.test o.presence c) refl);
+  statics_held = λ c. all_map (is_held sets heap c) (is_held sets (grown sets heap o) c) (held_more sets heap o v c) (map (λ cond. slot_at sets cond c) heap.statics) (v.statics_held c);
+}
   where
-    new_holds : (c : List Bool) → object_holds sets (grown sets heap (plain_object class size path slots)) c (plain_object class size path slots) ≡ true
-    new_holds c =
-        let o : HeapObject S I = plain_object class size path slots in
-        holds_anyway (sets.test path c) (are_held sets (grown sets heap o) c (cells_at sets o.cells c)) (ap (are_held sets (grown sets heap o) c) (cells_at-plain S sets c slots) ∙ are_held_plain sets (grown sets heap o) c slots m)
+    new_holds : (c : List Bool) (b : Bool) → sets.test o.presence c ≡ b → (if b then are_held sets (grown sets heap o) c (cells_at sets o.cells c) else true) ≡ true
+    new_holds c true t = all_map (is_held sets heap c) (is_held sets (grown sets heap o) c) (held_more sets heap o v c) (cells_at sets o.cells c) (held c t)
+    new_holds c false t = refl
+
+-- an object whose cells name what is there is made where it is present
+pub made_changed : {S I : Type 0} (sets : Sets I) (heap : HeapView S I) (o : HeapObject S I) (object : List Bool → Object) → IsHeap sets heap → IsObject sets o → ((c : List Bool) → sets.test o.presence c ≡ true → are_held sets heap c (cells_at sets o.cells c) ≡ true) → ((c : List Bool) → sets.test o.presence c ≡ true → object_of sets heap c o ≡ object c) → IsChangedIn sets sets heap (record heap { objects = heap.objects ++ o ∷ [] }) (sets.test o.presence) (λ c. with_object (object c))
+made_changed {S = S} {I = I} sets heap o object v is held stands = record {
+  is_heap = grown_is_heap sets heap o v is held;
+  grows = grows sets heap o;
+  keeps = λ p h. record {
+    static_count = h.static_count;
+    init_count = h.init_count;
+    literals = h.literals;
+    resolved = h.resolved;
+    words = h.words;
+    enough = omega (arith, h.enough, length-append heap.objects (o ∷ []));
+    first = everywhere_append heap.allowed (suc (first_words p)) heap.objects o (omega (arith, h.enough)) h.first;
+  };
+  inside = λ c t. at c (ap (λ b. if b then object_of sets (grown sets heap o) c o ∷ [] else []) t ∙ ap (λ x. x ∷ []) (there c t));
+  outside = λ c t. at c (ap (λ b. if b then object_of sets (grown sets heap o) c o ∷ [] else []) t) ∙ same c;
+}
+  where
+    there : (c : List Bool) → sets.test o.presence c ≡ true → object_of sets (grown sets heap o) c o ≡ object c
+    there c t =
+        let cells = values_more sets heap o v c (cells_at sets o.cells c) (held c t) in
+        (λ i. record { class = o.class.0; size = o.length; cells = cells i }) ∙ stands c t
+
+    at : (c : List Bool) {last : List Object} → (if sets.test o.presence c then object_of sets (grown sets heap o) c o ∷ [] else []) ≡ last → globals_at sets (grown sets heap o) c ≡ record (globals_at sets heap c) { objects = objects_at sets heap c ++ last }
+    at c {last = last} e =
+        let there = heap_holds sets heap v c in
+        let objects : objects_at sets (grown sets heap o) c ≡ objects_at sets heap c ++ last = last_object (λ x. sets.test x.presence c) (object_of sets (grown sets heap o) c) heap.objects o ∙ (λ i. objects_more sets heap o v c heap.objects there.0 i ++ e i) in
+        let statics = statics_more sets heap o v c heap.statics there.1 in
+        λ i. record { objects = objects i; statics = statics i; inits = (globals_at sets heap c).inits }
+
+    same : (c : List Bool) → record (globals_at sets heap c) { objects = objects_at sets heap c ++ [] } ≡ globals_at sets heap c
+    same c = λ i. record (globals_at sets heap c) { objects = append_nothing (objects_at sets heap c) i }
+
+-- and it is there
+pub made_held : {S I : Type 0} (sets : Sets I) (heap : HeapView S I) (o : HeapObject S I) (c : List Bool) → sets.test o.presence c ≡ true → is_held sets (record heap { objects = heap.objects ++ o ∷ [] }) c (Ref (length heap.objects)) ≡ true
+made_held sets heap o c t = ap (is_object_held sets c) (get_last heap.objects o) ∙ t
 
 -- an object was made
 pub IsMade-plain : {S I : Type 0} (sets : Sets I) (heap : HeapView S I) (class : ClassId) (size : ℕ) (path : I) (slots : List Slot) → IsHeap sets heap → sets.is_known path ≡ true → size ≤ length_bound → list_all (is_among 0 (length heap.texts)) slots ≡ true → IsMade sets heap path (record { class = class.0; size = size; cells = map (value_in heap.texts) slots }) (grown sets heap (plain_object class size path slots)) (length heap.objects)
 IsMade-plain {S = S} {I = I} sets heap class size path slots v k l m =
     let o : HeapObject S I = plain_object class size path slots in
+    let is : IsObject sets o = record { known = k; cells = AreCells-plain S sets path slots; short = l } in
     record {
-      changed = record {
-        is_heap = grown_is_heap sets heap class size path slots v k l m;
-        grows = grows sets heap o;
-        keeps = λ p h. record {
-          static_count = h.static_count;
-          init_count = h.init_count;
-          literals = h.literals;
-          resolved = h.resolved;
-          words = h.words;
-          enough = omega (arith, h.enough, length-append heap.objects (o ∷ []));
-          first = everywhere_append heap.allowed (suc (first_words p)) heap.objects o (omega (arith, h.enough)) h.first;
-        };
-        inside = λ c t. at c (ap (λ b. if b then object_of sets (grown sets heap o) c o ∷ [] else []) t ∙ ap (λ x. x ∷ []) (object c));
-        outside = λ c t. at c (ap (λ b. if b then object_of sets (grown sets heap o) c o ∷ [] else []) t) ∙ same c;
-      };
+      changed = made_changed sets heap o (λ _. record { class = class.0; size = size; cells = map (value_in heap.texts) slots }) v is (λ c t. ap (are_held sets heap c) (cells_at-plain S sets c slots) ∙ are_held_plain sets heap c slots m) (λ c t. object c);
       reference_is = refl;
-      held = λ c t. ap (is_object_held sets c) (get_last heap.objects o) ∙ t;
+      held = made_held sets heap o;
     }
   where
-    object : (c : List Bool) → object_of sets (grown sets heap (plain_object class size path slots)) c (plain_object class size path slots) ≡ record { class = class.0; size = size; cells = map (value_in heap.texts) slots }
+    object : (c : List Bool) → object_of sets heap c (plain_object class size path slots) ≡ record { class = class.0; size = size; cells = map (value_in heap.texts) slots }
     object c =
-        let cells = ap (map (value_of sets (grown sets heap (plain_object class size path slots)) c)) (cells_at-plain S sets c slots) ∙ values_plain sets (grown sets heap (plain_object class size path slots)) c slots m in
+        let cells = ap (map (value_of sets heap c)) (cells_at-plain S sets c slots) ∙ values_plain sets heap c slots m in
         λ i. record { class = class.0; size = size; cells = cells i }
-
-    at : (c : List Bool) {last : List Object} → (if sets.test path c then object_of sets (grown sets heap (plain_object class size path slots)) c (plain_object class size path slots) ∷ [] else []) ≡ last → globals_at sets (grown sets heap (plain_object class size path slots)) c ≡ record (globals_at sets heap c) { objects = objects_at sets heap c ++ last }
-    at c {last = last} e =
-        let held = heap_holds sets heap v c in
-        let objects : objects_at sets (grown sets heap (plain_object class size path slots)) c ≡ objects_at sets heap c ++ last =
-        last_object (λ x. sets.test x.presence c) (object_of sets (grown sets heap (plain_object class size path slots)) c) heap.objects (plain_object class size path slots)
-        ∙ (λ i. objects_more sets heap (plain_object class size path slots) v c heap.objects held.0 i ++ e i) in
-        let statics = statics_more sets heap (plain_object class size path slots) v c heap.statics held.1 in
-        λ i. record { objects = objects i; statics = statics i; inits = (globals_at sets heap c).inits }
-
-    same : (c : List Bool) → record (globals_at sets heap c) { objects = objects_at sets heap c ++ [] } ≡ globals_at sets heap c
-    same c = λ i. record (globals_at sets heap c) { objects = append_nothing (objects_at sets heap c) i }
 
 -- the same where a text was put first
 pub IsMade-texts : {S I : Type 0} (sets : Sets I) (heap : HeapView S I) (texts : List (List ℕ)) (path : I) (object : Object) (after : HeapView S I) (reference : ℕ) → IsHeap sets heap → TextsExtend heap.texts texts → IsMade sets (record heap { texts = texts }) path object after reference → IsMade sets heap path object after reference

@@ -45,3 +45,13 @@ pub record AreWritten {S I : Type 0} (old new : Sets I) (presence : I) (before :
   pub cells : AreCells new presence after
   pub inside : (c : List Bool) → old.test value.scope c ≡ true → cells_at new after c ≡ slice_set (cells_at old before c) place (slot_at old value c)
   pub outside : (c : List Bool) → old.test presence c ≡ true → old.test value.scope c ≡ false → cells_at new after c ≡ cells_at old before c
+
+-- a cell inside a path has the value there that it had
+pub record IsCellWithin {S I : Type 0} (old new : Sets I) (path : I) (before after : Cell S I) : Type 0 where
+  pub is_cell : IsCell new path after
+  pub at : (c : List Bool) → old.test path c ≡ true → cell_slot new c after ≡ cell_slot old c before
+
+-- and so have cells
+pub record AreCellsWithin {S I : Type 0} (old new : Sets I) (path : I) (before after : List (Cell S I)) : Type 0 where
+  pub cells : AreCells new path after
+  pub at : (c : List Bool) → old.test path c ≡ true → cells_at new after c ≡ cells_at old before c

@@ -10,7 +10,7 @@ use Rattle.vx_space.specs.Sets.{Sets}
 use Rattle.vx_value.specs.declared.slot.Slot.{Slot}
 use Rattle.vx_value.specs.declared.slot.Slot.TheVariants.{Ref}
 use Rattle.vx_heap.specs.declared.object.HeapObject.{HeapObject}
-use Rattle.vx_heap.specs.Heap.{Globals, HeapView, IsHeap, IsHeapFor, globals_at, is_held, name_at, value_of}
+use Rattle.vx_heap.specs.Heap.{Globals, HeapView, IsHeap, IsHeapFor, globals_at, is_held, name_at, objects_at, value_of}
 
 -- the later heap has the objects and the texts of the earlier one under their numbers
 pub record Grows {S I : Type 0} (before after : HeapView S I) : Type 0 where
@@ -52,11 +52,19 @@ IsCellWritten old new before reference cell value after =
 abbrev pub with_object : Object → Globals → Globals
 with_object object g = record g { objects = g.objects ++ object ∷ [] }
 
--- in the configurations of a path an object stands behind those that stood there, and nothing else changed
-pub record IsMade {S I : Type 0} (sets : Sets I) (before : HeapView S I) (path : I) (object : Object) (after : HeapView S I) (reference : ℕ) : Type 0 where
-  pub changed : IsChangedIn sets sets before after (sets.test path) (λ _. with_object object)
+-- In the configurations of a path an object stands behind those that stood there, this one of the configuration, and nothing else changed.
+pub record IsMadeAt {S I : Type 0} (old new : Sets I) (before : HeapView S I) (path : I) (object : List Bool → Object) (after : HeapView S I) (reference : ℕ) : Type 0 where
+  pub changed : IsChangedIn old new before after (old.test path) (λ c. with_object (object c))
   pub reference_is : reference ≡ length before.objects
-  pub held : (c : List Bool) → sets.test path c ≡ true → is_held sets after c (Ref reference) ≡ true
+  pub held : (c : List Bool) → old.test path c ≡ true → is_held new after c (Ref reference) ≡ true
+
+-- the same object in all of them
+abbrev pub IsMade : {S I : Type 0} → (sets : Sets I) → (before : HeapView S I) → (path : I) → Object → (after : HeapView S I) → (reference : ℕ) → Type 0
+IsMade sets before path object after reference = IsMadeAt sets sets before path (λ _. object) after reference
+
+-- the object that a reference names at a configuration
+abbrev pub named_object : {S I : Type 0} → Sets I → HeapView S I → (reference : ℕ) → List Bool → Object
+named_object sets heap reference c = item_or (objects_at sets heap c) (name_at sets heap.objects c reference) no_object
 
 -- the same over any space
 abbrev pub MakesObject : {S I : Type 0} → (before : HeapView S I) → (path : I) → Object → (after : HeapView S I) → (reference : ℕ) → Type 0

@@ -1,10 +1,10 @@
 //! The cells of an object.
 
-ghost use Rattle.std.specs.Prelude.{◌≡◌, ◌++◌, ◌<◌, [], IfOk, OnErr, OnOk, Some, false, length, map, option_copied, replicate, slice_get, slice_set};
+ghost use Rattle.std.specs.Prelude.{◌≡◌, ◌++◌, ◌∷◌, ◌<◌, [], IfOk, OnErr, OnOk, Some, false, length, map, option_copied, replicate, slice_get, slice_set};
 ghost use Rattle.std.specs.List.{flat_map};
 ghost use Rattle.vx_cond.specs.Cond.{IsCond, IsCondOf, IsInside, cond_at};
 ghost use Rattle.vx_cond.specs.Leaves.{first_of, value_within};
-ghost use Rattle.vx_heap.specs.Cells.{AreCells, AreWritten, IsCell, IsCellInside, IsCellOf, cell_ids, cell_slot, cells_at};
+ghost use Rattle.vx_heap.specs.Cells.{AreCells, AreCellsWithin, AreWritten, IsCell, IsCellInside, IsCellOf, IsCellWithin, cell_ids, cell_slot, cells_at};
 ghost use Rattle.vx_heap.specs.declared.cell_list.Cell.TheVariants.{Plain};
 ghost use Rattle.vx_list.specs.Places.{item_or};
 ghost use Rattle.vx_space.specs.Sets.{Extends, IsKnown};
@@ -114,6 +114,46 @@ impl<S: Space> CellList<S> {
         }
     }
 
+    /// No cells yet, with room for so many.
+    fn none(alloc: Global, count: usize) -> Result<CellList<S>, AllocError>
+        ensures { IfOk result (λ l. l ≡ []) }
+    {
+        let cells = Vec::with_capacity(alloc, count)?;
+        Ok(CellList {
+            cells,
+            differs: false,
+        })
+    }
+
+    fn push(&mut self, cell: Cell<S>) -> Result<(), AllocError>
+        ensures { OnOk result (self.new ≡ self.old ++ cell ∷ []) }
+    {
+        self.differs = may_differ(self.differs, &cell);
+        self.cells.push(cell)?;
+        Ok(())
+    }
+
+    /// The cells inside a path, which is inside the presence of the object: each has the value there that it had. They take 24
+    /// bytes each, and those that differ there more.
+    pub fn inside(
+        &self,
+        alloc: Global,
+        space: &mut S,
+        path: S::Id,
+        presence: S::Id,
+    ) -> Result<CellList<S>, SpaceFault>
+        requires cells { AreCells (S.sets space.old) presence self.now }
+        requires known { IsKnown (S.sets space.old) path }
+        requires presence { IsKnown (S.sets space.old) presence }
+        requires inside { IsInside (S.sets space.old) path presence }
+        ensures extends { Extends (S.sets space.old) (S.sets space.new) }
+        ensures ok { IfOk result (AreCellsWithin (S.sets space.old) (S.sets space.new) path self.now) }
+    {
+        let mut made = CellList::none(alloc, self.cells.len())?;
+        put_inside(space, &self.cells, path, presence, &mut made)?;
+        Ok(made)
+    }
+
     fn set(&mut self, place: usize, cell: Cell<S>)
         requires { place < length self.old }
         ensures { self.new ≡ slice_set self.old place cell }
@@ -181,6 +221,46 @@ fn value_inside<S: Space>(
             Ok(value)
         }
     }
+}
+
+/// A cell inside a path, which is inside the presence of its object.
+fn cell_inside<S: Space>(space: &mut S, cell: &Cell<S>, path: S::Id) -> Result<Cell<S>, SpaceFault>
+    requires cell { IsCellInside (S.sets space.old) path cell.now }
+    requires known { IsKnown (S.sets space.old) path }
+    ensures extends { Extends (S.sets space.old) (S.sets space.new) }
+    ensures ok { IfOk result (IsCellWithin (S.sets space.old) (S.sets space.new) path cell.now) }
+{
+    match cell {
+        Cell::Plain(slot) => Ok(Cell::Plain(*slot)),
+        Cell::Differs(cond) => {
+            let value = cond.restrict(space, path)?;
+            let inner = cell_of(value)?;
+            Ok(inner)
+        }
+    }
+}
+
+/// Puts cells inside a path, which is inside the presence of their object, into a list that has none.
+fn put_inside<S: Space>(
+    space: &mut S,
+    cells: &[Cell<S>],
+    path: S::Id,
+    presence: S::Id,
+    made: &mut CellList<S>,
+) -> Result<(), SpaceFault>
+    requires cells { AreCells (S.sets space.old) presence cells.now }
+    requires known { IsKnown (S.sets space.old) path }
+    requires presence { IsKnown (S.sets space.old) presence }
+    requires inside { IsInside (S.sets space.old) path presence }
+    requires none { made.old ≡ [] }
+    ensures extends { Extends (S.sets space.old) (S.sets space.new) }
+    ensures ok { OnOk result (AreCellsWithin (S.sets space.old) (S.sets space.new) path cells.now made.new) }
+{
+    for cell in cells {
+        let inner = cell_inside(space, cell, path)?;
+        made.push(inner)?;
+    }
+    Ok(())
 }
 
 /// The value of a cell where another one is written over it.

@@ -14,7 +14,7 @@ ghost use Rattle.vx_link.specs.CoreFiles.{core_count};
 ghost use Rattle.vx_link.specs.Names.{class_name, member};
 ghost use Rattle.vx_link.specs.Parts.{class_at};
 ghost use Rattle.vx_list.specs.Places.{item_or};
-ghost use Rattle.vx_heap.specs.Changing.{IsValueHeld, IsCellWritten, MakesObject, filled, of_text};
+ghost use Rattle.vx_heap.specs.Changing.{IsCellWritten, IsMadeAt, IsValueHeld, MakesObject, filled, named_object, of_text};
 ghost use Rattle.vx_heap.specs.First.{IsFirstHeap};
 ghost use Rattle.vx_heap.specs.Heap.{IsHeap, IsHeapFor, IsCellRead, IsStaticRead, IsStaticWritten, IsInitWritten, IsTextPut, KeepsPlain, class_at_slot, has_options, heap_ids, init_of, is_held, literal_at, object_ids, object_in, resolved_in, static_of};
 ghost use Rattle.vx_cond.specs.Slots.{slot_at};
@@ -319,6 +319,33 @@ impl<S: Space> Heap<S> {
         let cells = CellList::of(alloc, &[Slot::Text(text)])?;
         let reference = self.append(class, 0, path, cells)?;
         Ok(reference)
+    }
+
+    /// Makes a copy of an object in the configurations of a path, which is inside its presence: of its class and length, with the
+    /// values that its cells have there (JVMS 6.4.4, JLS 10.7). It takes 24 bytes for a cell, and more for one that differs there.
+    /// After want of memory the heap is as it was.
+    pub fn copy_object(
+        &mut self,
+        alloc: Global,
+        space: &mut S,
+        object: u64,
+        path: S::Id,
+    ) -> Result<u64, SpaceFault>
+        requires heap { IsHeap (S.sets space.old) self.old }
+        requires object { object < length self.old.objects }
+        requires known { IsKnown (S.sets space.old) path }
+        requires inside { IsInside (S.sets space.old) path (object_in self.old object).presence }
+        ensures extends { Extends (S.sets space.old) (S.sets space.new) }
+        ensures ok { IfOk result (IsMadeAt (S.sets space.old) (S.sets space.new) self.old path (named_object (S.sets space.old) self.old object) self.new) }
+        ensures err { OnErr result (self.new ≡ self.old) }
+    {
+        let original = self.object(object);
+        let class = original.class;
+        let size = original.length;
+        let presence = original.presence;
+        let cells = original.cells.inside(alloc, space, path, presence)?;
+        let copy = self.append(class, size, path, cells)?;
+        Ok(copy)
     }
 
     fn static_at(&self, field: FieldId) -> &Cond<Slot, S>

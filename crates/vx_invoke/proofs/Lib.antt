@@ -13,4 +13,3 @@ pub mod ObjectCalls
 pub mod ReadyCalls
 pub mod StaticCalls
 pub mod References
-pub mod Clones

@@ -1,9 +1,9 @@
 -- From what a reference comes to to the attempt of a call.
-use Rattle.std.proofs.Common.{◌≡◌, ◌⊎◌, ◌<◌, ◌^◌, ℕ, Bool, true, false, List, refl, sym, ◌∙◌, ap, subst, inl, inr, arith, length}
+use Rattle.std.proofs.Common.{◌≡◌, ◌<◌, ◌^◌, ℕ, Bool, true, false, List, refl, sym, ◌∙◌, ap, subst, arith, length}
 use Rattle.std.specs.Prelude.{◌||◌, Option, not}
 use Rattle.vx_class.specs.Members.{STATIC}
 use Rattle.vx_desc.specs.declared.java_type.JavaType.{JavaType}
-use Rattle.vx_families.specs.Attempts.{AttemptsIn, IsAttemptIn, IsGiven, row_by}
+use Rattle.vx_families.specs.Attempts.{AttemptsBy, AttemptsIn, IsAttemptIn, IsGiven, row_by}
 use Rattle.vx_families.specs.Bounds.{IsBounded, is_short}
 use Rattle.vx_families.specs.Pools.{pool_of}
 use Rattle.vx_families.proofs.AttemptLaws.{AttemptsBy-gives, AttemptsIn-by}
@@ -19,7 +19,7 @@ use Rattle.vx_group_states.specs.Stands.{StandsIn, state_at}
 use Rattle.vx_group_states.specs.declared.site.Site.{Site}
 use Rattle.vx_group_states.proofs.OutcomeStates.{CameTo-same}
 use Rattle.vx_heap.specs.Heap.{HeapView}
-use Rattle.vx_java.specs.Calls.{call_instance, call_static}
+use Rattle.vx_java.specs.Calls.{call_instance, call_static, clone_array}
 use Rattle.vx_java.specs.Machine.{Here, State}
 use Rattle.vx_java.specs.Machine.{Outcome as PlainOutcome}
 use Rattle.vx_java.specs.declared.operation.Mode.{Mode}
@@ -34,7 +34,7 @@ use Rattle.vx_link.specs.declared.program.Program.{Program}
 use Rattle.vx_outcome.specs.declared.outcome.Outcome.{Outcome}
 use Rattle.vx_references.specs.Calls.{IsMethodReference, IsSound, by_reference, call_found, may_call}
 use Rattle.vx_references.specs.declared.calls.MethodReference.{MethodReference}
-use Rattle.vx_references.specs.declared.calls.MethodReference.TheVariants.{Found}
+use Rattle.vx_references.specs.declared.calls.MethodReference.TheVariants.{Clone, Found, NoClass, NoMethod, WrongKind}
 use Rattle.vx_space.specs.Sets.{Extends, Sets}
 use Rattle.vx_space.proofs.Spaces.{Extends-refl}
 use Rattle.vx_value.specs.declared.ids.ClassId.{ClassId}
@@ -42,7 +42,7 @@ use Rattle.vx_value.specs.declared.ids.MethodId.{MethodId}
 use Rattle.vx_invoke.proofs.Rooms.{each_method}
 use Rattle.vx_invoke.specs.Called.{IsTarget}
 use Rattle.vx_invoke.proofs.Selections.{not_static}
-use Rattle.vx_invoke.specs.Calling.{IsCallable, IsMemberOf}
+use Rattle.vx_invoke.specs.Calling.{IsCallable, IsMemberOf, is_unresolved}
 use Rattle.vx_invoke.specs.declared.target.Target.{Target}
 
 -- an attempt by another row that comes to the same
@@ -119,12 +119,6 @@ module _ {S I : Type 0} (site : Site) (group : GroupView S I) (top : Frame S I) 
 pub static-attempts : {S I : Type 0} (site : Site) (target : Target) (types : List JavaType) (s0 s1 : Sets I) (before after : HeapView S I) (tree later : List (Option (Caller S I))) (group : GroupView S I) (outcomes : List (Outcome S I)) → target.mode ≡ Static → (signature (method_at site.program.now target.resolved.0).descriptor).arguments ≡ types → (m : Member) → IsMemberOf site.program.now group target m → ((m : Member) → (signature m.descriptor).arguments ≡ types → AttemptsIn site (λ s. call_static (here site s) m target.resolved.0) s0 s1 before after tree later group outcomes) → AttemptsIn site (λ s. call_found (here site s) target.mode m target.named.0 target.resolved.0) s0 s1 before after tree later group outcomes
 static-attempts site target types s0 s1 before after tree later group outcomes static are m member made = AttemptsIn-same site (λ s. call_static (here site s) m target.resolved.0) (λ s. call_found (here site s) target.mode m target.named.0 target.resolved.0) s0 s1 before after tree later group outcomes (λ c. ap (λ mode. call_found (here site (state_at s0 before tree group c)) mode m target.named.0 target.resolved.0) (sym static)) (made m (ap (λ (text : List ℕ). (signature text).arguments) (sym member.descriptor) ∙ are))
 
--- the others
-pub other_modes : (mode : Mode) → (mode ≡ Virtual) ⊎ ((mode ≡ Special) ⊎ (mode ≡ Interface)) → mode ≡ Static → ⊥
-other_modes mode (inl e) s = cc
-other_modes mode (inr (inl e)) s = cc
-other_modes mode (inr (inr e)) s = cc
-
 -- call a method on an object
 instance_mode : (h : Here) (m : Member) (mode : Mode) (named resolved : ℕ) → (mode ≡ Static → ⊥) → call_instance h mode m named resolved ≡ call_found h mode m named resolved
 instance_mode h m Virtual named resolved f = refl
@@ -149,7 +143,34 @@ of_object Interface l f h = neither (has STATIC l.flags) (has PRIVATE l.flags) h
     neither false b h = refl
 of_object Static l f h = absurd (f refl)
 
+-- ---- the clone of an array
+
+pub clone-attempts : {S I : Type 0} (site : Site) (s0 s1 : Sets I) (before after : HeapView S I) (tree : List (Option (Caller S I))) (group : GroupView S I) (mode : Mode) (index : ℕ) (reference : MethodReference) (named : ClassId) (outcomes : List (Outcome S I)) → StandsIn site.program.now s0 before tree group → IsMethodReference site.program.now (pool_of site group) index mode reference → reference ≡ Clone named → ((m : Member) → IsSound site.program.now mode m (Clone named) → AttemptsBy site (λ s. clone_array (here site s) mode m named.0) s0 s1 before after group outcomes) → IsAttemptIn site (Invoke mode index) s0 s1 before after tree tree group outcomes
+clone-attempts {S = S} {I = I} site s0 s1 before after tree group mode index reference named outcomes stands f is made =
+    let says : State → PlainOutcome = λ s. clone_array (here site s) mode m named.0 in
+    AttemptsIn-same site says (row_by site (Invoke mode index)) s0 s1 before after tree tree group outcomes same_row (AttemptsIn-by site says s0 s1 before after tree group outcomes stands (made m sound))
+  where
+    m : Member
+    m = member (pool_of site group) index
+
+    sound : IsSound site.program.now mode m (Clone named)
+    sound =
+        let P : MethodReference → Type 0 = λ r. IsSound site.program.now mode m r in
+        subst P is f.sound
+
+    same_row : (c : List Bool) → clone_array (here site (state_at s0 before tree group c)) mode m named.0 ≡ row_by site (Invoke mode index) (state_at s0 before tree group c)
+    same_row c =
+        let h = here site (state_at s0 before tree group c) in
+        ap (by_reference h mode m) (sym is) ∙ sym (f.decides h)
+
 -- ---- none that may be called
+
+pub is_missing : (reference : MethodReference) → ((named : ClassId) (resolved : MethodId) → reference ≡ Found named resolved → ⊥) → ((named : ClassId) → reference ≡ Clone named → ⊥) → is_unresolved reference ≡ true
+is_missing (Found named resolved) found clones = absurd (found named resolved refl)
+is_missing (Clone named) found clones = absurd (clones named refl)
+is_missing NoClass found clones = refl
+is_missing NoMethod found clones = refl
+is_missing WrongKind found clones = refl
 
 pub missing-attempts : {S I : Type 0} (site : Site) (operation : Operation) (sets : Sets I) (heap : HeapView S I) (tree : List (Option (Caller S I))) (group : GroupView S I) (mode : Mode) (index : ℕ) (reference : MethodReference) (m : Member) (outcomes : List (Outcome S I)) → IsGiven site operation sets heap group → StandsIn site.program.now sets heap tree group → IsMethodReference site.program.now (pool_of site group) index mode reference → m ≡ member (pool_of site group) index → Gives site.program.now (λ s. by_reference (here site s) mode m reference) sets sets group outcomes → IsAttemptIn site (Invoke mode index) sets sets heap heap tree tree group outcomes
 missing-attempts {S = S} {I = I} site operation sets heap tree group mode index reference m outcomes given stands f names gives =

@@ -17,7 +17,6 @@ use Rattle.vx_group_states.specs.declared.site.Site.{Site}
 use Rattle.vx_heap.specs.Heap.{HeapView, IsHeap, IsHeapFor}
 use Rattle.vx_java.specs.Initialisation.{max_locals}
 use Rattle.vx_java.specs.Machine.{Outcome, State, illegal}
-use Rattle.vx_java.specs.declared.operation.Mode.{Mode}
 use Rattle.vx_java.specs.declared.operation.Mode.TheVariants.{Static}
 use Rattle.vx_link.specs.Names.{Member}
 use Rattle.vx_link.specs.Parts.{has, method_at}
@@ -37,17 +36,11 @@ use Rattle.vx_invoke.specs.declared.call.Call.{Call}
 use Rattle.vx_invoke.specs.declared.call.Call.TheVariants.{Enter}
 use Rattle.vx_invoke.specs.declared.target.Target.{Target}
 
--- a method is there that the instruction may call
-abbrev pub is_found : MethodReference → Bool
-is_found (Found named resolved) = true
-is_found _ = false
-
--- nothing is there that the instruction may call; invokestatic may not call the clone of an array
-abbrev pub is_unresolved : Mode → MethodReference → Bool
-is_unresolved mode (Found named resolved) = false
-is_unresolved Static (Clone named) = true
-is_unresolved _ (Clone named) = false
-is_unresolved mode _ = true
+-- nothing is there that the instruction may call
+abbrev pub is_unresolved : MethodReference → Bool
+is_unresolved (Found named resolved) = false
+is_unresolved (Clone named) = false
+is_unresolved _ = true
 
 -- an operand at a configuration, by its place from the top
 abbrev pub operand_at : {S I : Type 0} → Sets I → GroupView S I → ℕ → List Bool → Slot

@@ -3,7 +3,6 @@
 ghost use Rattle.std.specs.Prelude.{◌≡◌, IfOk, true};
 ghost use Rattle.vx_families.specs.Attempts.{AttemptsIn, IsAttemptIn, IsGiven};
 ghost use Rattle.vx_families.specs.Bounds.{IsBounded};
-ghost use Rattle.vx_families.specs.Pools.{pool_of};
 ghost use Rattle.vx_group_states.specs.Sites.{here};
 ghost use Rattle.vx_group_states.specs.Stands.{StandsIn};
 ghost use Rattle.vx_heap.specs.Heap.{IsHeapFor};
@@ -14,13 +13,14 @@ ghost use Rattle.vx_references.specs.Calls.{IsMethodReference, call_found};
 ghost use Rattle.vx_space.specs.Sets.{Extends};
 ghost use Rattle.vx_invoke.specs.Called.{IsTarget};
 ghost use Rattle.vx_invoke.specs.Calling.{IsCallable, IsMemberOf};
-ghost use Rattle.vx_invoke.specs.Named.{is_built_call};
+ghost use Rattle.vx_invoke.specs.Named.{is_invoke};
 
 use crate::instances::instance_call;
 use crate::statics::static_call;
 use crate::target::Target;
 use crate::unresolved::unresolved;
 use std::alloc::Global;
+use vx_copy::clone_arrays;
 use vx_desc::is_init;
 use vx_group::{Callers, Group};
 use vx_group_states::Site;
@@ -112,7 +112,8 @@ fn target_of(
 
 /// One attempt of a group by a call (JVMS 6.5 invokestatic, invokespecial, invokevirtual, invokeinterface, Java SE 8). What the instruction
 /// names is looked at first, then the arguments and the receiver; invokestatic makes its class ready; the method is selected, and its
-/// frame pushed, unless that is one frame too many. A native method is left to be carried out, with its arguments on the operands.
+/// frame pushed, unless that is one frame too many. A native method is left to be carried out, with its arguments on the operands. The
+/// clone of an array copies it.
 /// `synchronized` has no effect (own). After a refusal heap, callers and group are given up.
 pub fn attempt<S: Space>(
     alloc: Global,
@@ -125,7 +126,7 @@ pub fn attempt<S: Space>(
 ) -> Result<Outcomes<S>, SpaceFault>
     requires given { IsGiven site.now operation (S.sets space.old) heap.old group }
     requires stands { StandsIn site.now.program.now (S.sets space.old) heap.old callers.old group }
-    requires family { is_built_call (pool_of site.now group) operation ≡ true }
+    requires family { is_invoke operation ≡ true }
     ensures extends { Extends (S.sets space.old) (S.sets space.new) }
     ensures ok { IfOk result (λ r. IsAttemptIn site.now operation (S.sets space.old) (S.sets space.new) heap.old heap.new callers.old callers.new group r.items.items) }
 {
@@ -138,6 +139,10 @@ pub fn attempt<S: Space>(
         MethodReference::Found { named, resolved } => {
             let target = target_of(mode, &member, named, resolved, class);
             found_call(alloc, site, space, heap, callers, group, &target)
+        }
+        MethodReference::Clone(_) => {
+            let cloned = clone_arrays(alloc, site, space, heap, group)?;
+            Ok(cloned)
         }
         missing => unresolved(alloc, site, group, missing, &member),
     }

@@ -1,13 +1,13 @@
 //! Calls whose reference names no method that the instruction may call (JVMS 5.4.3.3, 5.4.3.4, 6.5).
 
-ghost use Rattle.std.specs.Prelude.{◌≡◌, IfOk, false, true};
+ghost use Rattle.std.specs.Prelude.{◌≡◌, IfOk, true};
 ghost use Rattle.vx_group_states.specs.Sites.{Gives, here};
 ghost use Rattle.vx_java.specs.Ids.{HasClassNumbers};
 ghost use Rattle.vx_java.specs.Named.{in_bytes};
 ghost use Rattle.vx_java.specs.declared.operation.Mode.{Mode};
 ghost use Rattle.vx_references.specs.Calls.{by_reference};
 ghost use Rattle.vx_space.specs.Sets.{Sets};
-ghost use Rattle.vx_invoke.specs.Calling.{is_found, is_unresolved};
+ghost use Rattle.vx_invoke.specs.Calling.{is_unresolved};
 
 use std::alloc::Global;
 use vx_families::{CLASS_WORD, METHOD_WORD, raise, unsupported};
@@ -20,7 +20,7 @@ use vx_space::{Space, SpaceFault};
 use vx_value::Name;
 
 /// All runs end outside the accepted language where the class or the method isn't there, and raise an exception where the instruction may
-/// not call the method, or is invokestatic and names the clone of an array.
+/// not call the method.
 pub(crate) fn unresolved<S: Space>(
     alloc: Global,
     site: &Site,
@@ -29,8 +29,8 @@ pub(crate) fn unresolved<S: Space>(
     named: &MemberReference<'_>,
 ) -> Result<Outcomes<S>, SpaceFault>
     requires classes { HasClassNumbers site.now.program.now }
-    requires missing { is_found reference ≡ false }
-    ensures { IfOk result (λ r. (mode : Mode) (sets : Sets S.Id) → is_unresolved mode reference ≡ true → Gives site.now.program.now (λ s. by_reference (here site.now s) mode (in_bytes named.now) reference) sets sets group r.items.items) }
+    requires missing { is_unresolved reference ≡ true }
+    ensures { IfOk result (λ r. (mode : Mode) (sets : Sets S.Id) → Gives site.now.program.now (λ s. by_reference (here site.now s) mode (in_bytes named.now) reference) sets sets group r.items.items) }
 {
     match reference {
         MethodReference::NoClass => {
@@ -41,7 +41,7 @@ pub(crate) fn unresolved<S: Space>(
             let name = member_text(alloc, named)?;
             unsupported(alloc, site.program, &group, METHOD_WORD, name)
         }
-        MethodReference::WrongKind | MethodReference::Clone(_) => {
+        MethodReference::WrongKind => {
             let raised = raise(
                 alloc,
                 site.program,
@@ -50,6 +50,6 @@ pub(crate) fn unresolved<S: Space>(
             )?;
             Ok(raised)
         }
-        MethodReference::Found { .. } => unreachable!(),
+        MethodReference::Found { .. } | MethodReference::Clone(_) => unreachable!(),
     }
 }

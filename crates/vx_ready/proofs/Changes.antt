@@ -14,7 +14,7 @@ use Rattle.vx_value.specs.Slot.{init_state_cmp}
 use Rattle.vx_value.specs.declared.slot.InitState.{InitState}
 use Rattle.vx_value.specs.declared.slot.InitState.TheVariants.{Done}
 use Rattle.vx_ready.specs.Changing.{IsChanged}
-use Rattle.vx_ready.specs.Initialising.{marked_at, with_done}
+use Rattle.vx_ready.specs.Initialising.{marked_at, with_state}
 use Rattle.vx_ready.specs.declared.initialising.Mark.{Mark}
 use Rattle.vx_ready.proofs.States.{length-inits}
 
@@ -72,8 +72,8 @@ inits_with-append : (inits : List InitState) (i : InitState) (xs ys : List ℕ) 
 inits_with-append inits i [] ys = refl
 inits_with-append inits i (x ∷ xs) ys = inits_with-append (set inits x i) i xs ys
 
-pub with_done-append : (xs ys : List ℕ) (g : Globals) → with_done (xs ++ ys) g ≡ with_done ys (with_done xs g)
-with_done-append xs ys g = ap (λ is. record g { inits = is }) (inits_with-append g.inits Done xs ys)
+pub with_state-append : (state : InitState) (xs ys : List ℕ) (g : Globals) → with_state state (xs ++ ys) g ≡ with_state state ys (with_state state xs g)
+with_state-append state xs ys g = ap (λ is. record g { inits = is }) (inits_with-append g.inits state xs ys)
 
 set_beyond : {A : Type 0} (xs : List A) (i : ℕ) (v : A) → length xs ≤ i → set xs i v ≡ xs
 set_beyond [] i v l = refl
@@ -81,18 +81,18 @@ set_beyond (x ∷ xs) zero v l = absurd (omega arith)
 set_beyond (x ∷ xs) (suc i) v l = ap (λ ys. x ∷ ys) (set_beyond xs i v (omega arith))
 
 -- a class that the program doesn't have
-pub mark_beyond : {S I : Type 0} (p : Program) (sets : Sets I) (heap : HeapView S I) (mark : Mark S I) → IsHeap sets heap → IsHeapFor p heap → length p.classes ≤ mark.class.0 → Extends sets sets → IsChanged sets sets heap heap (λ c. with_done (marked_at sets (mark ∷ []) c))
-mark_beyond p sets heap mark v h l e = IsChanged-before e heap heap (λ c g. g) (λ c. with_done (marked_at sets (mark ∷ []) c)) v (λ c. same c (sets.test mark.condition c)) (IsChanged-none e heap v)
+pub mark_beyond : {S I : Type 0} (p : Program) (sets : Sets I) (heap : HeapView S I) (mark : Mark S I) (state : InitState) → IsHeap sets heap → IsHeapFor p heap → length p.classes ≤ mark.class.0 → Extends sets sets → IsChanged sets sets heap heap (λ c. with_state state (marked_at sets (mark ∷ []) c))
+mark_beyond p sets heap mark state v h l e = IsChanged-before e heap heap (λ c g. g) (λ c. with_state state (marked_at sets (mark ∷ []) c)) v (λ c. same c (sets.test mark.condition c)) (IsChanged-none e heap v)
   where
-    same : (c : List Bool) (b : Bool) → globals_at sets heap c ≡ with_done (if b then mark.class.0 ∷ [] else []) (globals_at sets heap c)
+    same : (c : List Bool) (b : Bool) → globals_at sets heap c ≡ with_state state (if b then mark.class.0 ∷ [] else []) (globals_at sets heap c)
     same c true =
         let few : length (inits_at sets heap c) ≤ mark.class.0 = omega (arith, length-inits p sets heap c h) in
-        ap (λ is. record (globals_at sets heap c) { inits = is }) (sym (set_beyond (inits_at sets heap c) mark.class.0 Done few))
+        ap (λ is. record (globals_at sets heap c) { inits = is }) (sym (set_beyond (inits_at sets heap c) mark.class.0 state few))
     same c false = refl
 
 -- and one that it has
-pub mark_there : {S I : Type 0} (old new : Sets I) (before after : HeapView S I) (mark : Mark S I) (done : Conditional InitState S I) → done.scope ≡ mark.condition → IsCondOf init_state_cmp old (value_within old mark.condition (λ _. Some Done)) done → IsInitWritten old new before mark.class.0 done after → IsChanged old new before after (λ c. with_done (marked_at old (mark ∷ []) c))
-mark_there {S = S} {I = I} old new before after mark done s d w = record {
+pub mark_there : {S I : Type 0} (old new : Sets I) (before after : HeapView S I) (mark : Mark S I) (state : InitState) (states : Conditional InitState S I) → states.scope ≡ mark.condition → IsCondOf init_state_cmp old (value_within old mark.condition (λ _. Some state)) states → IsInitWritten old new before mark.class.0 states after → IsChanged old new before after (λ c. with_state state (marked_at old (mark ∷ []) c))
+mark_there {S = S} {I = I} old new before after mark state states s d w = record {
   is_heap = w.is_heap;
   same = w.same ∙ same_statics w.same;
   statics = ap (λ (h : HeapView S I). length h.statics) w.same;
@@ -103,12 +103,12 @@ mark_there {S = S} {I = I} old new before after mark done s d w = record {
     same_statics : after ≡ record before { inits = after.inits } → record before { inits = after.inits } ≡ record before { statics = after.statics; inits = after.inits }
     same_statics e = λ i. record before { statics = (sym e i).statics; inits = after.inits }
 
-    done_there : (b : Bool) → b ≡ true → unwrap_or (if b then Some Done else None) Done ≡ Done
-    done_there true h = refl
-    done_there false h = refl
+    state_there : (b : Bool) → b ≡ true → unwrap_or (if b then Some state else None) Done ≡ state
+    state_there true h = refl
+    state_there false h = cc
 
-    at : (c : List Bool) (b : Bool) → old.test mark.condition c ≡ b → globals_at new after c ≡ with_done (if b then mark.class.0 ∷ [] else []) (globals_at old before c)
+    at : (c : List Bool) (b : Bool) → old.test mark.condition c ≡ b → globals_at new after c ≡ with_state state (if b then mark.class.0 ∷ [] else []) (globals_at old before c)
     at c true t =
         w.inside c (ap (λ i. old.test i c) s ∙ t)
-        ∙ ap (λ state. record (globals_at old before c) { inits = set (inits_at old before c) mark.class.0 state }) (ap (λ o. unwrap_or o Done) (cond_at-of init_state_cmp old _ done c d) ∙ done_there (old.test mark.condition c) t)
+        ∙ ap (λ x. record (globals_at old before c) { inits = set (inits_at old before c) mark.class.0 x }) (ap (λ o. unwrap_or o Done) (cond_at-of init_state_cmp old _ states c d) ∙ state_there (old.test mark.condition c) t)
     at c false t = w.outside c (ap (λ i. old.test i c) s ∙ t)

@@ -1,5 +1,5 @@
 -- The initialisation of a class where a row needs it, at each configuration of a path (JVMS 5.5).
-use Rattle.std.specs.Prelude.{◌≡◌, ℕ, Bool, true, false, List, [], ◌∷◌, ◌&&◌, not, if◌then◌else◌, Option, Some, None, is_some}
+use Rattle.std.specs.Prelude.{◌≡◌, ℕ, Bool, true, false, List, [], ◌∷◌, ◌&&◌, not, if◌then◌else◌, Option, Some, None, is_some, map}
 use Rattle.vx_group.specs.Group.{GroupView}
 use Rattle.vx_group.specs.declared.callers.Caller.{Caller}
 use Rattle.vx_heap.specs.Heap.{Globals, HeapView, IsHeap, inits_at}
@@ -12,11 +12,16 @@ use Rattle.vx_space.specs.Sets.{IsSet, Sets}
 use Rattle.vx_group_states.specs.Sites.{here}
 use Rattle.vx_group_states.specs.Stands.{CameTo, StandsIn, state_at}
 use Rattle.vx_group_states.specs.declared.site.Site.{Site}
+use Rattle.vx_value.specs.declared.ids.ClassId.{ClassId}
 use Rattle.vx_value.specs.declared.slot.InitState.{InitState}
 use Rattle.vx_value.specs.declared.slot.InitState.TheVariants.{Done}
 use Rattle.vx_ready.specs.Changing.{IsChanged}
 use Rattle.vx_ready.specs.declared.initialising.Mark.{Mark}
 use Rattle.vx_ready.specs.declared.initialising.Readiness.{Readiness}
+
+-- classes by their numbers
+abbrev pub numbers_of : List ClassId → List ℕ
+numbers_of classes = map (λ c. c.0) classes
 
 -- ---- one configuration
 
@@ -31,9 +36,13 @@ is_quiet p class = not (class_at p class).own_initialiser && not (is_some (block
 abbrev pub goes_on : Program → List InitState → ℕ → Bool
 goes_on p inits class = not (has_failed inits class) && quiet_chain p inits class
 
+-- classes get a state
+abbrev pub with_state : InitState → List ℕ → Globals → Globals
+with_state state classes g = record g { inits = inits_with g.inits state classes }
+
 -- classes are initialised
 abbrev pub with_done : List ℕ → Globals → Globals
-with_done classes g = record g { inits = inits_with g.inits Done classes }
+with_done classes g = with_state Done classes g
 
 -- the class and those above it that have not begun are initialised where the row goes on
 abbrev pub readied : Program → (class : ℕ) → (there : Bool) → Globals → Globals

@@ -10,7 +10,7 @@ ghost use Rattle.vx_java.specs.Machine.{init_at};
 ghost use Rattle.vx_space.specs.Sets.{Extends, IsKnown, IsSet};
 ghost use Rattle.vx_value.specs.Slot.{init_state_cmp};
 ghost use Rattle.vx_ready.specs.Changing.{IsChanged};
-ghost use Rattle.vx_ready.specs.Initialising.{AreMarks, IsReadied, has_failed, is_quiet, is_yes, marked_at, with_done};
+ghost use Rattle.vx_ready.specs.Initialising.{AreMarks, IsReadied, has_failed, is_quiet, is_yes, marked_at, numbers_of, with_done, with_state};
 
 use std::alloc::Global;
 use vx_cond::Cond;
@@ -21,7 +21,7 @@ use vx_link::Program;
 use vx_space::{Space, SpaceFault};
 use vx_value::{ClassId, InitState};
 
-/// A class whose initialisation is done without running anything, in the configurations of the condition.
+/// A class that gets a state of initialisation, in the configurations of the condition.
 #[derive(Drop)]
 pub struct Mark<S: Space> {
     pub class: ClassId,
@@ -51,7 +51,7 @@ pub fn where_yes<S: Space>(space: &S, answers: &Cond<bool, S>) -> S::Id
 }
 
 /// The states of a class inside a path. A class that the program doesn't have is initialised.
-fn states_inside<S: Space>(
+pub fn states_inside<S: Space>(
     alloc: Global,
     program: &Program,
     space: &mut S,
@@ -65,6 +65,7 @@ fn states_inside<S: Space>(
     requires inside { IsInside (S.sets space.old) path heap.now.allowed }
     ensures extends { Extends (S.sets space.old) (S.sets space.new) }
     ensures cond { IfOk result (IsCond init_state_cmp (S.sets space.new)) }
+    ensures scope { IfOk result (λ r. r.scope ≡ path) }
     ensures at { IfOk result (λ r. (c : List Bool) → cond_at (S.sets space.new) r c ≡ (if (S.sets space.old).test path c then Some (init_at (inits_at (S.sets space.old) heap.now c) class.0) else None)) }
 {
     if class.0 as usize >= program.classes.len() {
@@ -217,30 +218,58 @@ fn chain_marks<S: Space>(
     Ok(marks)
 }
 
-/// Marks one class. A class that the program doesn't have has no state.
+/// Gives one class a state. A class that the program doesn't have has none.
 pub fn mark_one<S: Space>(
     alloc: Global,
     program: &Program,
     space: &mut S,
     heap: &mut Heap<S>,
     mark: &Mark<S>,
+    state: InitState,
 ) -> Result<(), SpaceFault>
     requires heap { IsHeap (S.sets space.old) heap.old }
     requires program { IsHeapFor program.now heap.old }
     requires known { IsKnown (S.sets space.old) mark.now.condition }
     requires inside { IsInside (S.sets space.old) mark.now.condition heap.old.allowed }
     ensures extends { Extends (S.sets space.old) (S.sets space.new) }
-    ensures ok { OnOk result (IsChanged (S.sets space.old) (S.sets space.new) heap.old heap.new (λ c. with_done (marked_at (S.sets space.old) (mark.now ∷ []) c))) }
+    ensures ok { OnOk result (IsChanged (S.sets space.old) (S.sets space.new) heap.old heap.new (λ c. with_state state (marked_at (S.sets space.old) (mark.now ∷ []) c))) }
 {
     if mark.class.0 as usize >= program.classes.len() {
         return Ok(());
     }
-    let done = Cond::one(alloc, space, InitState::Done, mark.condition)?;
-    heap.set_init(space, mark.class, &done)?;
+    let states = Cond::one(alloc, space, state, mark.condition)?;
+    heap.set_init(space, mark.class, &states)?;
     Ok(())
 }
 
-/// Marks classes, each in its condition.
+/// Gives classes a state in the configurations of a condition, which runs. After want of memory the heap is given up.
+pub fn mark_classes<S: Space>(
+    alloc: Global,
+    program: &Program,
+    space: &mut S,
+    heap: &mut Heap<S>,
+    classes: &[ClassId],
+    condition: S::Id,
+    state: InitState,
+) -> Result<(), SpaceFault>
+    requires heap { IsHeap (S.sets space.old) heap.old }
+    requires program { IsHeapFor program.now heap.old }
+    requires known { IsKnown (S.sets space.old) condition }
+    requires inside { IsInside (S.sets space.old) condition heap.old.allowed }
+    ensures extends { Extends (S.sets space.old) (S.sets space.new) }
+    ensures ok { OnOk result (IsChanged (S.sets space.old) (S.sets space.new) heap.old heap.new (λ c. with_state state (if (S.sets space.old).test condition c then numbers_of classes.now else []))) }
+{
+    for class in classes {
+        let mark = Mark {
+            class: *class,
+            condition,
+        };
+        mark_one(alloc, program, space, heap, &mark, state)?;
+    }
+    Ok(())
+}
+
+/// Initialises classes, each in its condition.
 fn mark_all<S: Space>(
     alloc: Global,
     program: &Program,
@@ -255,7 +284,7 @@ fn mark_all<S: Space>(
     ensures ok { OnOk result (IsChanged (S.sets space.old) (S.sets space.new) heap.old heap.new (λ c. with_done (marked_at (S.sets space.old) marks.now c))) }
 {
     for mark in marks {
-        mark_one(alloc, program, space, heap, mark)?;
+        mark_one(alloc, program, space, heap, mark, InitState::Done)?;
     }
     Ok(())
 }

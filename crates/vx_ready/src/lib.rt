@@ -5,5 +5,7 @@
 pub mod initialising;
 pub mod stopping;
 
-pub use initialising::{Mark, Readiness, make_ready, mark_one, where_yes};
+pub use initialising::{
+    Mark, Readiness, make_ready, mark_classes, mark_one, states_inside, where_yes,
+};
 pub use stopping::{ended_part, stop_others};

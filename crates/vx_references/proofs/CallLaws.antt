@@ -1,23 +1,27 @@
 -- How the row of a call goes on, step by step.
-use Rattle.std.proofs.Common.{◌≡◌, ℕ, Bool, true, false, refl, ◌∙◌, ap, Some, None}
+use Rattle.std.proofs.Common.{◌≡◌, ◌≤◌, ◌⊎◌, ℕ, Bool, true, false, arith, refl, ◌∙◌, ap, inl, inr, length, sym, Some, None}
 use Rattle.std.proofs.Math.Bool.{beq}
-use Rattle.std.specs.Prelude.{Option, if◌then◌else◌, option_map, not, ◌||◌}
-use Rattle.vx_class.specs.Members.{STATIC}
+use Rattle.std.proofs.lemmas.Bool.Decides.{nat_tests}
+use Rattle.std.proofs.lemmas.Option.{slice_get_past}
+use Rattle.std.specs.Prelude.{Option, if◌then◌else◌, nat_lt, option_map, not, ◌&&◌, ◌||◌}
+use Rattle.vx_class.specs.Members.{INTERFACE, STATIC}
 use Rattle.vx_java.specs.Calls.{call_instance, call_resolved, call_static, clone_array, if_method, on_class, wrong_kind}
 use Rattle.vx_java.specs.Checks.{if_there, same_bool}
 use Rattle.vx_java.specs.Ids.{as_class, as_method}
 use Rattle.vx_java.specs.Machine.{Here, Outcome, when}
 use Rattle.vx_java.specs.declared.operation.Mode.{Mode}
 use Rattle.vx_java.specs.declared.operation.Mode.TheVariants.{Interface, Special, Static, Virtual}
-use Rattle.vx_link.specs.ClassNames.{class_named}
+use Rattle.vx_link.specs.ClassNames.{class_named, is_array}
 use Rattle.vx_link.specs.Names.{Member, member}
 use Rattle.vx_link.specs.Parts.{PRIVATE, has, is_interface, method_at}
 use Rattle.vx_link.specs.Resolution.{is_array_clone, resolve_method}
+use Rattle.vx_link.specs.declared.program.LinkedClass.{LinkedClass}
 use Rattle.vx_link.specs.declared.program.Program.{Program}
 use Rattle.vx_pool.specs.declared.pool.Pool.{Pool}
 use Rattle.vx_value.specs.declared.ids.ClassId.{ClassId}
 use Rattle.vx_references.proofs.Numbers.{class_none, class_some}
 use Rattle.vx_references.proofs.Searches.{resolved_named}
+use Rattle.vx_references.proofs.Tables.{class_missing}
 use Rattle.vx_references.specs.Calls.{IsMethodReference, IsSound, by_reference, found_in, may_call}
 use Rattle.vx_references.specs.Fields.{seeing}
 use Rattle.vx_references.specs.declared.calls.MethodReference.{MethodReference}
@@ -59,11 +63,37 @@ clone_static p pool i named n k a = record {
   sound = tt;
 }
 
-pub clone_of : (p : Program) (pool : Pool) (i : ℕ) (mode : Mode) (named : ClassId) → Some named ≡ option_map as_class (class_named p (member pool i).class) → same_bool (member pool i).by_interface (is_interface p named.0) ≡ true → is_array_clone p named.0 (member pool i).name (member pool i).descriptor ≡ true → IsMethodReference p pool i mode (Clone named)
-clone_of p pool i mode named n k a = record {
+-- the class of an array is no interface
+array_class : (p : Program) (c : ℕ) → is_array p c ≡ true → is_interface p c ≡ false
+array_class p c a = ap (λ (x : LinkedClass). has INTERFACE x.flags) (sym (class_missing p c (sym (slice_get_past p.classes c (past (nat_lt c (length p.classes)) refl a)))))
+  where
+    past : (b : Bool) → nat_lt c (length p.classes) ≡ b → not b ≡ true → length p.classes ≤ c
+    past true e f = cc f
+    past false e f = grind (arith, nat_tests)
+
+no_interface : (p : Program) (m : Member) (named : ℕ) → same_bool m.by_interface (is_interface p named) ≡ true → is_array_clone p named m.name m.descriptor ≡ true → m.by_interface ≡ false
+no_interface p m named k a = unlike m.by_interface (is_interface p named) k (array_class p named (both_first (is_array p named) _ a))
+  where
+    unlike : (a b : Bool) → same_bool a b ≡ true → b ≡ false → a ≡ false
+    unlike true true e f = cc f
+    unlike true false e f = cc e
+    unlike false b e f = refl
+
+    both_first : (a b : Bool) → (a && b) ≡ true → a ≡ true
+    both_first true b e = refl
+    both_first false b e = cc e
+
+pub clone_of : (p : Program) (pool : Pool) (i : ℕ) (mode : Mode) (named : ClassId) → Some named ≡ option_map as_class (class_named p (member pool i).class) → same_bool (member pool i).by_interface (is_interface p named.0) ≡ true → is_array_clone p named.0 (member pool i).name (member pool i).descriptor ≡ true → (mode ≡ Static → ⊥) → IsMethodReference p pool i mode (Clone named)
+clone_of p pool i mode named n k a other = record {
   decides = λ h. class_there p pool i mode named true n k a h;
-  sound = tt;
+  sound = (a, no_interface p (member pool i) named.0 k a, other);
 }
+
+-- a mode that isn't static
+pub other_modes : (mode : Mode) → (mode ≡ Virtual) ⊎ ((mode ≡ Special) ⊎ (mode ≡ Interface)) → mode ≡ Static → ⊥
+other_modes mode (inl e) s = cc
+other_modes mode (inr (inl e)) s = cc
+other_modes mode (inr (inr e)) s = cc
 
 -- ---- a method that is looked for
 

@@ -1,5 +1,5 @@
 -- What a reference to a method comes to (JVMS 5.4.3.3, 5.4.3.4, 6.5).
-use Rattle.std.specs.Prelude.{◌≡◌, ℕ, Bool, true, not, ◌||◌, if◌then◌else◌, Option, Some, None}
+use Rattle.std.specs.Prelude.{◌≡◌, ℕ, Bool, true, false, not, ◌||◌, if◌then◌else◌, Option, Some, None}
 use Rattle.vx_class.specs.Members.{STATIC}
 use Rattle.vx_java.specs.Calls.{call_instance, call_static, clone_array, invoke, member_text, wrong_kind}
 use Rattle.vx_java.specs.Ids.{as_method}
@@ -9,6 +9,7 @@ use Rattle.vx_java.specs.declared.operation.Mode.{Mode}
 use Rattle.vx_java.specs.declared.operation.Mode.TheVariants.{Interface, Static}
 use Rattle.vx_link.specs.Names.{Member, member}
 use Rattle.vx_link.specs.Parts.{PRIVATE, has, method_at}
+use Rattle.vx_link.specs.Resolution.{is_array_clone}
 use Rattle.vx_link.specs.declared.program.LinkedMethod.{LinkedMethod}
 use Rattle.vx_link.specs.declared.program.Program.{Program}
 use Rattle.vx_pool.specs.declared.pool.Pool.{Pool}
@@ -36,9 +37,10 @@ by_reference h mode m NoClass = unsupported h class_word m.class
 by_reference h mode m NoMethod = unsupported h method_word (member_text m)
 by_reference h mode m WrongKind = wrong_kind h
 
--- a method that is found has the name's descriptor, and may be called
+-- a method that is found has the name's descriptor, and may be called; the clone is that of an array, named as a class and not called by invokestatic
 abbrev pub IsSound : Program → Mode → Member → MethodReference → Type 0
 IsSound p mode m (Found named resolved) = (may_call mode (method_at p resolved.0) ≡ true) × ((method_at p resolved.0).descriptor ≡ m.descriptor)
+IsSound p mode m (Clone named) = (is_array_clone p named.0 m.name m.descriptor ≡ true) × (m.by_interface ≡ false) × (mode ≡ Static → ⊥)
 IsSound p mode m _ = Unit {0}
 
 -- what is found in the class that is named, where the search of the name gives this

@@ -30,7 +30,7 @@ use Rattle.vx_standing.specs.State.{configurations, shared_ids}
 use Rattle.vx_value.specs.Ends.{compare_ends}
 use Rattle.vx_reporting.specs.Listed.{attempts_line, end_line, lines_with, piece_line, report_with}
 use Rattle.vx_reporting.specs.Fitting.{IsFitting}
-use Rattle.vx_reporting.specs.Reported.{IsReportable, IsReported, SaysLockstep, attempts_of, end_of, piece_of}
+use Rattle.vx_reporting.specs.Reported.{IsReportOf, IsReportable, IsReported, SaysLockstep, attempts_of, end_of, piece_of}
 use Rattle.vx_reporting.proofs.Lawful.{IsReady, ended_there, lawful, spent_shown as spent_shown_by}
 use Rattle.vx_reporting.proofs.OneText.{allowed_of}
 use Rattle.vx_reporting.proofs.Rising.{lines_rise}
@@ -112,18 +112,17 @@ projected sets version options limit f nodes numbers p is_allowed c are findings
     let attempts = spent_shown nodes sets (version == 2) f.spent (drop (length f.found + length f.ends) numbers) c r.attempts are.spent (λ hold. attempts_same nodes sets f.spent (drop (length f.found + length f.ends) numbers) c hold ∙ parts.attempts_is) in
     ap (option_map _) end ∙ (λ i. Some (record { output = output i; end = r.end; attempts = attempts i }))
 
-pub reported : {S I : Type 0} (sets : Sets I) (version : ℕ) (options : List (List ℕ)) (limit : ℕ) (f : FindingsView S I) (ids : List I) (nodes : List Node) (numbers : List ℕ) (report : Report) (text : List ℕ) (p : Program) (is_allowed : Config → Bool)
+pub reported : {S I : Type 0} (sets : Sets I) (version : ℕ) (options : List (List ℕ)) (limit : ℕ) (f : FindingsView S I) (ids : List I) (nodes : List Node) (numbers : List ℕ) (report : Report) (p : Program) (is_allowed : Config → Bool)
     → length options ≡ sets.options
     → ids ≡ shared_ids f.found ++ (shared_ids f.ends ++ (if version == 2 then shared_ids f.spent else []))
     → IsListing sets ids nodes numbers
     → report ≡ report_with version options limit f nodes numbers
     → IsFitting report
-    → text ≡ report_text report
     → IsReportable version options limit is_allowed p
     → AreFindings p sets is_allowed limit f
     → ((list : List Config) (version : ℕ) → AreAllowed sets.options is_allowed list → lock_report p list limit version ≡ report_by sets list limit version f)
-    → IsReported version options limit is_allowed p text
-reported sets version options limit f ids nodes numbers report text p is_allowed count are_ids listing is_report fits is_text reportable findings lock =
+    → IsReportOf version options limit is_allowed p report
+reported sets version options limit f ids nodes numbers report p is_allowed count are_ids listing is_report fits reportable findings lock =
     let are = are_numbers sets version f nodes numbers (rw are_ids at listing.hold) in
     let made = report_with version options limit f nodes numbers in
     let roots = roots_are sets version options limit f nodes numbers are in
@@ -154,19 +153,22 @@ reported sets version options limit f ids nodes numbers report text p is_allowed
       spent = spent_shown_by made (version == 2) (lockstep.lockstep p one limit).members reportable.some.0 (projection_of version r) r.attempts one refl one_says.attempts there refl;
     } in
     record {
-      report = made;
-      spells = record { text = is_text ∙ ap report_text is_report; good = lawful_good made (lawful made one (lock_report p one limit version) ready one_says (reportable.spelled one)) };
-      version_is = refl;
-      options_are = refl;
-      limit_is = refl;
-      runs = λ c size allowed. shown c allowed;
-      others = λ c size refused.
-          let none = findings.others c refused in
-          let spent = spent_nowhere sets (version == 2) f.spent c (none_holds sets f.spent c none.spent) in
-          let ends = all_append (λ id. not (sets.test id c)) (shared_ids f.ends) _ (none_holds sets f.ends c none.end) spent in
-          rw roots (held_nowhere nodes sets _ numbers c are.all (all_append (λ id. not (sets.test id c)) (shared_ids f.found) _ none.texts ends));
-      numbered = numbered;
-      lockstep = says;
+      reported = record {
+        report = made;
+        spells = record { text = ap report_text is_report; good = lawful_good made (lawful made one (lock_report p one limit version) ready one_says (reportable.spelled one)) };
+        version_is = refl;
+        options_are = refl;
+        limit_is = refl;
+        runs = λ c size allowed. shown c allowed;
+        others = λ c size refused.
+            let none = findings.others c refused in
+            let spent = spent_nowhere sets (version == 2) f.spent c (none_holds sets f.spent c none.spent) in
+            let ends = all_append (λ id. not (sets.test id c)) (shared_ids f.ends) _ (none_holds sets f.ends c none.end) spent in
+            rw roots (held_nowhere nodes sets _ numbers c are.all (all_append (λ id. not (sets.test id c)) (shared_ids f.found) _ none.texts ends));
+        numbered = numbered;
+        lockstep = says;
+      };
+      same = sym is_report;
     }
 
 -- ---- known sets
@@ -184,17 +186,18 @@ pub shown_known : {S I : Type 0} (sets : Sets I) (version : ℕ) (f : FindingsVi
 shown_known sets version f k =
     known_front sets (shared_ids f.found) _ _ (known_front sets (shared_ids f.ends) _ _ (known_spent sets (version == 2) f.spent)) k
 
--- the text that is written of it
-pub reported_text : {S I : Type 0} (sets : Sets I) (version : ℕ) (options : List (List ℕ)) (limit : ℕ) (f : FindingsView S I) (ids : List I) (nodes : List Node) (numbers : List ℕ) (report : Report) (r : Result (Vec ℕ Global) AllocError)
-    → length options ≡ sets.options
-    → ids ≡ shared_ids f.found ++ (shared_ids f.ends ++ (if version == 2 then shared_ids f.spent else []))
-    → IsListing sets ids nodes numbers
-    → report ≡ report_with version options limit f nodes numbers
-    → IsFitting report
-    → IfOk r (λ text. text.items ≡ report_text report)
-    → IfOk r (λ text. (p : Program) (is_allowed : Config → Bool) → IsReportable version options limit is_allowed p → AreFindings p sets is_allowed limit f
+-- what holds of the findings of every program
+abbrev pub IsFor : {S I : Type 0} → Sets I → (version : ℕ) → List (List ℕ) → (limit : ℕ) → FindingsView S I → (Program → (Config → Bool) → Type 0) → Type 0
+IsFor sets version options limit f Says =
+    (p : Program) (is_allowed : Config → Bool) → IsReportable version options limit is_allowed p → AreFindings p sets is_allowed limit f
     → ((list : List Config) (version : ℕ) → AreAllowed sets.options is_allowed list → lock_report p list limit version ≡ report_by sets list limit version f)
-    → IsReported version options limit is_allowed p text.items)
-reported_text sets version options limit f ids nodes numbers report (Err e) count are_ids listing is_report fits is_text = tt
-reported_text sets version options limit f ids nodes numbers report (Ok text) count are_ids listing is_report fits is_text =
-    λ p is_allowed reportable findings lock. reported sets version options limit f ids nodes numbers report text.items p is_allowed count are_ids listing is_report fits is_text reportable findings lock
+    → Says p is_allowed
+
+-- the text that is written of a report
+pub written_text : {S I : Type 0} (sets : Sets I) (version : ℕ) (options : List (List ℕ)) (limit : ℕ) (f : FindingsView S I) (report : Report) (r : Result (Vec ℕ Global) AllocError)
+    → IsFor sets version options limit f (λ p is_allowed. IsReportOf version options limit is_allowed p report)
+    → IfOk r (λ text. text.items ≡ report_text report)
+    → IfOk r (λ text. IsFor sets version options limit f (λ p is_allowed. IsReported version options limit is_allowed p text.items))
+written_text sets version options limit f report (Err e) are is_text = tt
+written_text sets version options limit f report (Ok text) are is_text =
+    λ p is_allowed reportable findings lock. subst (IsReported version options limit is_allowed p) (sym is_text) (are p is_allowed reportable findings lock).reported

@@ -10,6 +10,7 @@ use Rattle.vx_java.specs.Report.{LockReport, lock_report, projection_of}
 use Rattle.vx_java.specs.Step.{Config, run}
 use Rattle.vx_link.specs.declared.program.Program.{Program}
 use Rattle.vx_report.specs.Projection.{project}
+use Rattle.vx_report.specs.Text.{report_text}
 use Rattle.vx_report.specs.declared.report.AttemptLine.{AttemptLine}
 use Rattle.vx_report.specs.declared.report.EndLine.{EndLine}
 use Rattle.vx_report.specs.declared.report.Piece.{Piece}
@@ -63,6 +64,11 @@ pub record IsReported (version : ℕ) (options : List (List ℕ)) (limit : ℕ) 
   pub others : (c : Config) → length c ≡ length options → is_allowed c ≡ false → IsHeldNowhere report c
   pub numbered : IsNumbered (length options) report.nodes (roots_of report)
   pub lockstep : (list : List Config) → AreAllowed (length options) is_allowed list → SaysLockstep list (lock_report program list limit version) report
+
+-- A report is that of the program: the text that it has is, and spells it.
+pub record IsReportOf (version : ℕ) (options : List (List ℕ)) (limit : ℕ) (is_allowed : Config → Bool) (program : Program) (report : Report) : Type 0 where
+  pub reported : IsReported version options limit is_allowed program (report_text report)
+  pub same : reported.report ≡ report
 
 -- no other text is the report of the program
 pub record IsOnlyReport (version : ℕ) (options : List (List ℕ)) (limit : ℕ) (is_allowed : Config → Bool) (program : Program) (text : List ℕ) : Type 0 where

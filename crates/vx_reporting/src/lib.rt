@@ -4,4 +4,4 @@
 mod lines;
 pub mod reporting;
 
-pub use reporting::report_findings;
+pub use reporting::{found_report, report_findings};

@@ -9,7 +9,7 @@ ghost use Rattle.vx_standing.specs.State.{shared_ids};
 ghost use Rattle.vx_space.specs.Sets.{AreKnown};
 ghost use Rattle.vx_reporting.specs.Fitting.{IsFitting};
 ghost use Rattle.vx_reporting.specs.Listed.{report_with};
-ghost use Rattle.vx_reporting.specs.Reported.{IsOnlyReport, IsReportable, IsReported};
+ghost use Rattle.vx_reporting.specs.Reported.{IsOnlyReport, IsReportOf, IsReportable, IsReported};
 
 use crate::lines::{attempts_of, ends_of, pieces_of};
 use std::alloc::{AllocError, Global};
@@ -95,6 +95,29 @@ fn report_with<S: Space>(
     })
 }
 
+/// The report of findings, in version 1 or 2, with these options and the limit of attempts.
+pub fn found_report<S: Space>(
+    alloc: Global,
+    space: &S,
+    version: u8,
+    options: Items<Name>,
+    limit: u64,
+    findings: Findings<S>,
+) -> Result<Report, AllocError>
+    requires options { length options ≡ (S.sets space.now).options }
+    requires known { AreKnown (S.sets space.now) (shared_ids findings.found ++ (shared_ids findings.ends ++ shared_ids findings.spent)) }
+    ensures { IfOk result (λ report. (program : Program) (is_allowed : Config → Bool) →
+        IsReportable version options limit is_allowed program →
+        AreFindings program (S.sets space.now) is_allowed limit findings →
+        ((list : List Config) (version : ℕ) → AreAllowed (S.sets space.now).options is_allowed list → lock_report program list limit version ≡ report_by (S.sets space.now) list limit version findings) →
+        IsReportOf version options limit is_allowed program report) }
+{
+    let ids = sets_of(alloc, version, &findings)?;
+    let list = listing(alloc, space, ids.as_slice())?;
+    let report = report_with(alloc, version, options, limit, findings, list)?;
+    Ok(report)
+}
+
 /// The text of the report of findings, in version 1 or 2, with these options and the limit of attempts.
 pub fn report_findings<S: Space>(
     alloc: Global,
@@ -117,8 +140,6 @@ pub fn report_findings<S: Space>(
     ensures only { IfOk result (λ text. (program : Program) (is_allowed : Config → Bool) →
         IsReported version options limit is_allowed program text.items → IsOnlyReport version options limit is_allowed program text.items) }
 {
-    let ids = sets_of(alloc, version, &findings)?;
-    let list = listing(alloc, space, ids.as_slice())?;
-    let report = report_with(alloc, version, options, limit, findings, list)?;
+    let report = found_report(alloc, space, version, options, limit, findings)?;
     write_report(alloc, &report)
 }

@@ -16,7 +16,7 @@ use Rattle.vx_frames.specs.Entering.{with_frame}
 use Rattle.vx_frames.specs.Giving.{GivesIn}
 use Rattle.vx_frames.specs.Uncovering.{IsUncovered}
 use Rattle.vx_frames.specs.Waking.{IsWoken}
-use Rattle.vx_families.specs.Built.{is_call}
+use Rattle.vx_frames.specs.Unwinding.{is_call}
 use Rattle.vx_group.specs.declared.callers.Caller.{Caller}
 use Rattle.vx_group.specs.Callers.{callers_of, frames_at}
 use Rattle.vx_group.specs.Group.{GroupView, IsGroup, path_of}

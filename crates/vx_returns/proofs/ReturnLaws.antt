@@ -6,7 +6,7 @@ use Rattle.std.specs.Prelude.{Option, Some, None, Ok, Err, if◌then◌else◌, 
 use Rattle.vx_class.specs.declared.class_file.Code.{Code}
 use Rattle.vx_families.proofs.SlotSorts.{same_sort}
 use Rattle.vx_families.specs.Bounds.{IsBounded, has_short_code, is_short}
-use Rattle.vx_families.specs.Built.{is_call}
+use Rattle.vx_frames.specs.Unwinding.{is_call}
 use Rattle.vx_families.specs.Sorts.{slot_is_of}
 use Rattle.vx_fields.proofs.Pools.{below}
 use Rattle.vx_fields.specs.Statics.{top_of}

@@ -2,7 +2,7 @@
 use Rattle.std.specs.Prelude.{◌+◌, ◌++◌, ◌&&◌, ◌∷◌, Bool, true, false, List, [], if◌then◌else◌, nat_lt, not, Option}
 use Rattle.vx_cond.specs.Cond.{Conditional}
 use Rattle.vx_families.specs.Bounds.{IsBounded}
-use Rattle.vx_families.specs.Built.{is_call}
+use Rattle.vx_frames.specs.Unwinding.{is_call}
 use Rattle.vx_group.specs.declared.callers.Caller.{Caller}
 use Rattle.vx_group.specs.Group.{GroupView, depth_of}
 use Rattle.vx_group_states.specs.Stands.{StandsIn}

@@ -32,7 +32,7 @@ use vx_outcome::Outcomes;
 use vx_ready::{Mark, ended_part, mark_one, where_yes};
 use vx_references::signature;
 use vx_space::{Space, SpaceFault};
-use vx_value::{Kind, Slot};
+use vx_value::{InitState, Kind, Slot};
 
 /// Whether the frame on top is an initialisation that another frame waits for.
 fn has_initialised<S: Space>(group: &Group<S>) -> bool
@@ -64,7 +64,7 @@ fn mark_initialised<S: Space>(
         class: class_of_method(program, group.top_frame().method),
         condition: path,
     };
-    mark_one(alloc, program, space, heap, &done)
+    mark_one(alloc, program, space, heap, &done, InitState::Done)
 }
 
 /// The configurations of a group, which has an operand, in which the operand on top is of a sort.

@@ -1,39 +1,40 @@
 //! The start of all runs.
 
-ghost use Rattle.std.specs.Prelude.{◌≡◌, ◌<◌, Err, IfOk, IfSome, None, Ok, OnOk, codes, length, option_map, true};
+ghost use Rattle.std.specs.Prelude.{◌≡◌, ◌<◌, [], IfOk, IfSome, None, Ok, codes, false, length, option_map, true};
 ghost use Rattle.vx_space.specs.Sets.{Extends, IsKnown};
 ghost use Rattle.vx_families.specs.Bounds.{IsBounded};
 ghost use Rattle.vx_frame.specs.Frame.{IsFrameOf, scope_of, shape_of};
-ghost use Rattle.vx_heap.specs.Heap.{IsHeap, IsHeapFor, has_options};
+ghost use Rattle.vx_heap.specs.Heap.{IsHeapFor, has_options};
 ghost use Rattle.vx_java.specs.Ids.{HasClassNumbers, as_class};
 ghost use Rattle.vx_java.specs.Initialisation.{chain_blocked, quiet_chain};
 ghost use Rattle.vx_java.specs.Machine.{place_at};
 ghost use Rattle.vx_java.specs.Operation.{class_word};
 ghost use Rattle.vx_java.specs.Step.{first_inits};
 ghost use Rattle.vx_link.specs.Parts.{class_at};
-ghost use Rattle.vx_standing.specs.Rounds.{IsStart, MeetsUnbuilt};
-ghost use Rattle.vx_starting.specs.Starting.{AreInitialised, EndAtStart, GoOn, IsDone, IsMainGroup, IsMarkedHeap, MayStart, are_below, main_chain, main_class, main_frame, main_locals, numbers_of};
+ghost use Rattle.vx_ready.specs.Initialising.{numbers_of};
+ghost use Rattle.vx_standing.specs.Rounds.{IsStart};
+ghost use Rattle.vx_starting.specs.Starting.{EndAtStart, GoOn, IsMainGroup, IsMarkedHeap, IsPushedGroup, MayStart, begun_state, main_chain, main_class, main_frame, main_locals};
 ghost use Rattle.vx_value.specs.declared.end.End.TheVariants.{Uncaught, Unsupported};
 ghost use Rattle.vx_value.specs.declared.key.Kind.TheVariants.{Call};
 
 use std::alloc::{AllocError, Global};
 use vx_cond::Cond;
-use vx_families::{AttemptFault, CLASS_WORD};
+use vx_families::CLASS_WORD;
 use vx_findings::Shared;
 use vx_frame::Frame;
 use vx_group::{Callers, Group};
 use vx_heap::Heap;
+use vx_init::{MOST_FRAMES, push_chain};
 use vx_initial_heap::first_inits;
 use vx_java::parts::{class_of_method, name_of_class};
 use vx_java::{blocked, init_chain, place, quiet_chain};
 use vx_link::Program;
+use vx_ready::mark_classes;
 use vx_sched::Waiting;
 use vx_space::{Space, SpaceFault};
 use vx_standing::State;
+use vx_turns::sweep;
 use vx_value::{ClassId, End, InitState, Kind, Name, Slot};
-
-/// The most frames that a run may have.
-const FRAME_BOUND: usize = 1024;
 
 /// The first interface that would be initialised before a class of a chain (JVMS 5.5).
 fn blocked_in(program: &Program, chain: &[ClassId]) -> Option<ClassId>
@@ -81,12 +82,13 @@ fn first_end(
     requires quiet { is_quiet ≡ quiet_chain program.now (first_inits program.now) (main_class program.now) }
     ensures over { IfOk result (λ end. IfSome end (EndAtStart program.now)) }
     ensures live { result ≡ Ok None → GoOn program.now is_quiet }
+    ensures few { result ≡ Ok None → is_quiet ≡ false → length chain.now < 1024 }
 {
     if let Some(interface) = blocked_in(program, chain) {
         let end = blocked_end(alloc, program, interface)?;
         return Ok(Some(end));
     }
-    if !is_quiet && chain.len() >= FRAME_BOUND {
+    if !is_quiet && chain.len() >= MOST_FRAMES {
         let end = overflow_end(alloc)?;
         return Ok(Some(end));
     }
@@ -130,43 +132,23 @@ fn ended_start<S: Space>(
     })
 }
 
-/// Initialises classes in all configurations that run, without running anything. After want of memory the heap is given up.
-fn initialise<S: Space>(
-    space: &mut S,
-    heap: &mut Heap<S>,
-    classes: &[ClassId],
-    done: &Cond<InitState, S>,
-) -> Result<(), SpaceFault>
-    requires heap { IsHeap (S.sets space.old) heap.old }
-    requires done { IsDone (S.sets space.old) heap.old.allowed done.now }
-    requires within { are_below (length heap.old.inits) (numbers_of classes.now) ≡ true }
-    ensures extends { Extends (S.sets space.old) (S.sets space.new) }
-    ensures ok { OnOk result (AreInitialised (S.sets space.old) (S.sets space.new) heap.old (numbers_of classes.now) heap.new) }
-{
-    for class in classes {
-        heap.set_init(space, *class, done)?;
-    }
-    Ok(())
-}
-
-/// The heap with which runs begin, with some classes initialised.
+/// The heap with which runs begin, where some classes have a state.
 fn marked_heap<S: Space>(
     alloc: Global,
     program: &Program,
     space: &mut S,
     allowed: S::Id,
     classes: &[ClassId],
+    state: InitState,
 ) -> Result<Heap<S>, SpaceFault>
     requires bounded { IsBounded program.now }
     requires options { has_options (S.sets space.old).options program.now.fields ≡ true }
     requires known { IsKnown (S.sets space.old) allowed }
-    requires within { are_below (length program.now.classes) (numbers_of classes.now) ≡ true }
     ensures extends { Extends (S.sets space.old) (S.sets space.new) }
-    ensures ok { IfOk result (IsMarkedHeap program.now (S.sets space.new) allowed (numbers_of classes.now)) }
+    ensures ok { IfOk result (IsMarkedHeap program.now (S.sets space.new) allowed state (numbers_of classes.now)) }
 {
     let mut heap = Heap::new(alloc, program, space, allowed)?;
-    let done = Cond::one(alloc, space, InitState::Done, allowed)?;
-    initialise(space, &mut heap, classes, &done)?;
+    mark_classes(alloc, program, space, &mut heap, classes, allowed, state)?;
     Ok(heap)
 }
 
@@ -230,6 +212,30 @@ fn main_group<S: Space>(
     Ok(group)
 }
 
+/// The state of runs that stand in one group and have made no attempt.
+fn begun_state<S: Space>(
+    alloc: Global,
+    heap: Heap<S>,
+    callers: Callers<S>,
+    group: Group<S>,
+    limit: u64,
+) -> Result<State<S>, AllocError>
+    ensures { IfOk result (λ state. state ≡ begun_state heap callers limit group) }
+{
+    let mut groups = Waiting::new(alloc);
+    groups.push(group)?;
+    Ok(State {
+        heap,
+        callers,
+        groups,
+        limit,
+        rounds: 0,
+        found: Vec::new(alloc),
+        ends: Vec::new(alloc),
+        spent: Vec::new(alloc),
+    })
+}
+
 /// The state of runs that all begin with main, where the classes of the chain are initialised without running anything.
 fn quiet_start<S: Space>(
     alloc: Global,
@@ -245,47 +251,83 @@ fn quiet_start<S: Space>(
     ensures extends { Extends (S.sets space.old) (S.sets space.new) }
     ensures ok { IfOk result (IsStart program.now (S.sets space.new) allowed limit) }
 {
-    let heap = marked_heap(alloc, program, space, allowed, chain)?;
+    let heap = marked_heap(alloc, program, space, allowed, chain, InitState::Done)?;
     let group = main_group(alloc, program, space, &heap, allowed)?;
-    let mut groups = Waiting::new(alloc);
-    groups.push(group)?;
-    Ok(State {
-        heap,
-        callers: Callers::new(alloc),
-        groups,
-        limit,
-        rounds: 0,
-        found: Vec::new(alloc),
-        ends: Vec::new(alloc),
-        spent: Vec::new(alloc),
-    })
+    let state = begun_state(alloc, heap, Callers::new(alloc), group, limit)?;
+    Ok(state)
 }
 
-/// The state with which the runs of some configurations begin, each with at most `limit` attempts (JVMS 5.2). `NotYet`
-/// comes only where such a run begins at what isn't built. After a refusal ids that were known keep their sets.
+/// The group of all runs at the start of the topmost class of the chain, with the frames of the others and of main under it (JVMS 5.5).
+fn pushed_group<S: Space>(
+    alloc: Global,
+    program: &Program,
+    space: &S,
+    heap: &Heap<S>,
+    callers: &mut Callers<S>,
+    allowed: S::Id,
+    chain: &[ClassId],
+) -> Result<Group<S>, AllocError>
+    requires known { IsKnown (S.sets space.now) allowed }
+    requires some { 0 < main_locals program.now }
+    requires for_program { IsHeapFor program.now heap.now }
+    requires runs { heap.now.allowed ≡ allowed }
+    requires none { callers.old ≡ [] }
+    requires few { length chain.now < 1024 }
+    ensures { IfOk result (IsPushedGroup program.now (S.sets space.now) allowed heap.now callers.new (numbers_of chain.now)) }
+{
+    let group = main_group(alloc, program, space, heap, allowed)?;
+    let above = push_chain(alloc, program, space, callers, group, chain)?;
+    Ok(above)
+}
+
+/// The state of runs that all begin with the initialisation of the class of main: the classes of the chain are in progress, and have their
+/// frames above that of main (JVMS 5.5).
+fn pushed_start<S: Space>(
+    alloc: Global,
+    program: &Program,
+    space: &mut S,
+    allowed: S::Id,
+    limit: u64,
+    chain: &[ClassId],
+) -> Result<State<S>, SpaceFault>
+    requires start { MayStart program.now (S.sets space.old) allowed limit }
+    requires chain { numbers_of chain.now ≡ main_chain program.now }
+    requires few { length chain.now < 1024 }
+    requires live { GoOn program.now false }
+    ensures extends { Extends (S.sets space.old) (S.sets space.new) }
+    ensures ok { IfOk result (IsStart program.now (S.sets space.new) allowed limit) }
+{
+    let heap = marked_heap(alloc, program, space, allowed, chain, InitState::Running)?;
+    let mut callers = Callers::new(alloc);
+    let group = pushed_group(alloc, program, space, &heap, &mut callers, allowed, chain)?;
+    let mut state = begun_state(alloc, heap, callers, group, limit)?;
+    sweep(alloc, &mut state)?;
+    Ok(state)
+}
+
+/// The state with which the runs of some configurations begin, each with at most `limit` attempts (JVMS 5.2). After a refusal ids that
+/// were known keep their sets.
 pub fn start<S: Space>(
     alloc: Global,
     program: &Program,
     space: &mut S,
     allowed: S::Id,
     limit: u64,
-) -> Result<State<S>, AttemptFault>
+) -> Result<State<S>, SpaceFault>
     requires { MayStart program.now (S.sets space.old) allowed limit }
     ensures extends { Extends (S.sets space.old) (S.sets space.new) }
     ensures ok { IfOk result (IsStart program.now (S.sets space.new) allowed limit) }
-    ensures not_yet { result ≡ Err AttemptFault.NotYet → MeetsUnbuilt program.now ((S.sets space.old).test allowed) limit }
 {
     let states = first_inits(alloc, program)?;
     let class = class_of_method(program, program.main);
     let chain = init_chain(alloc, program, class, states.as_slice())?;
+    let classes = chain.as_slice();
     let is_quiet = quiet_chain(program, class, states.as_slice());
-    if let Some(end) = first_end(alloc, program, chain.as_slice(), is_quiet)? {
-        let state = ended_start(alloc, program, space, allowed, limit, end)?;
-        return Ok(state);
+    if let Some(end) = first_end(alloc, program, classes, is_quiet)? {
+        return ended_start(alloc, program, space, allowed, limit, end);
     }
     if is_quiet {
-        let state = quiet_start(alloc, program, space, allowed, limit, chain.as_slice())?;
-        return Ok(state);
+        return quiet_start(alloc, program, space, allowed, limit, classes);
     }
-    Err(AttemptFault::NotYet)
+    pushed_start(alloc, program, space, allowed, limit, classes)
 }

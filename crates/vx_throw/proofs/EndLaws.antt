@@ -1,14 +1,14 @@
 -- Runs that end since no frame takes what they throw, by the classes of the objects.
-use Rattle.std.proofs.Common.{◌≡◌, ℕ, ◌+◌, ◌<◌, ◌≤◌, Bool, true, false, List, [], ◌∷◌, ◌++◌, refl, sym, ◌∙◌, ap, subst, get_or, length, take}
+use Rattle.std.proofs.Common.{◌≡◌, ℕ, ◌+◌, ◌<◌, ◌≤◌, Bool, true, false, List, [], ◌∷◌, ◌++◌, refl, sym, ◌∙◌, ap, get_or, length, take}
 use Rattle.std.proofs.lemmas.List.{take_all}
 use Rattle.std.proofs.lemmas.List.Folds.{list_all-append}
-use Rattle.std.specs.Prelude.{Option, Some, None, ◌&&◌, ◌||◌, is_some, option_map, unwrap_or}
+use Rattle.std.specs.Prelude.{Option, None, ◌&&◌, ◌||◌, is_some, option_map, unwrap_or}
 use Rattle.std.specs.List.{list_all}
 use Rattle.std.specs.Ordering.{nat_cmp}
 use Rattle.vx_space.specs.Sets.{Sets, Extends}
 use Rattle.vx_cond.specs.declared.cond.Leaf.{Leaf}
 use Rattle.vx_cond.specs.Leaves.{AreLeaves, value_at}
-use Rattle.vx_cond.specs.Cond.{Conditional, IsCond, IsCondLifting, cond_at}
+use Rattle.vx_cond.specs.Cond.{Conditional, IsCondLifting, cond_at}
 use Rattle.vx_cond.specs.Slots.{slot_at}
 use Rattle.vx_cond.proofs.LeafLoops.{next_leaf}
 use Rattle.vx_cond.proofs.SideLaws.{cond_at-covers}
@@ -22,7 +22,7 @@ use Rattle.vx_group_states.proofs.EndingLaws.{GivesAt-before}
 use Rattle.vx_group_states.proofs.Gathering.{leaf_value, widened}
 use Rattle.vx_group_states.proofs.OutcomeStates.{CameTo-append, CameTo-none, CameTo-one, CameTo-same}
 use Rattle.vx_group_states.proofs.SettleLaws.{lifting_at}
-use Rattle.vx_heap.specs.Heap.{HeapView, class_at_slot, is_held, objects_at}
+use Rattle.vx_heap.specs.Heap.{HeapView, is_held, objects_at}
 use Rattle.vx_java.specs.Machine.{Ended, State, object_at}
 use Rattle.vx_java.specs.Machine.{Outcome as PlainOutcome}
 use Rattle.vx_link.specs.ClassNames.{class_text}

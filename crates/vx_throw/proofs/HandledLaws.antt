@@ -20,7 +20,7 @@ use Rattle.vx_group_states.proofs.SettleLaws.{lifting_at}
 use Rattle.vx_group_states.proofs.StateLaws.{Continues-same, both_first, state_at-extends}
 use Rattle.vx_heap.proofs.HeapLaws.{IsHeap-extends}
 use Rattle.vx_heap.proofs.Written.{within_there}
-use Rattle.vx_heap.specs.Heap.{HeapView, IsHeap}
+use Rattle.vx_heap.specs.Heap.{HeapView}
 use Rattle.vx_java.specs.Machine.{Outcome as PlainOutcome}
 use Rattle.vx_link.specs.declared.program.Program.{Program}
 use Rattle.vx_outcome.specs.declared.outcome.Outcome.{Outcome}

@@ -3,7 +3,6 @@ use Rattle.std.proofs.Common.{◌≡◌, ℕ, ◌+◌, ◌<◌, ◌≤◌, Bool,
 use Rattle.std.proofs.lemmas.List.{take_all}
 use Rattle.std.proofs.lemmas.List.Folds.{list_all-append}
 use Rattle.std.specs.Prelude.{Option, Some, None, ◌&&◌, ◌||◌, if◌then◌else◌, is_none, is_some, not, unwrap_or}
-use Rattle.std.specs.List.{list_all}
 use Rattle.vx_space.specs.Sets.{Sets, Extends, IsLawful}
 use Rattle.vx_space.proofs.Spaces.{Extends-refl, Extends-trans}
 use Rattle.vx_cond.specs.declared.cond.Leaf.{Leaf}
@@ -18,15 +17,15 @@ use Rattle.vx_group.specs.Group.{GroupView, IsGroup, IsPartOf, path_of}
 use Rattle.vx_group.proofs.GroupLaws.{IsGroup-path_known, IsPartOf-extends, IsPartOf-set}
 use Rattle.vx_group_states.specs.Answering.{operands_at}
 use Rattle.vx_group_states.specs.Sites.{GivesAt}
-use Rattle.vx_group_states.specs.Stands.{CameTo, is_object, object_named, state_at}
+use Rattle.vx_group_states.specs.Stands.{CameTo, state_at}
 use Rattle.vx_group_states.proofs.AnswerLaws.{values_scope}
 use Rattle.vx_group_states.proofs.Gathering.{leaf_value, part_path}
 use Rattle.vx_group_states.proofs.OutcomeStates.{CameTo-append, CameTo-extends, CameTo-none, CameTo-one, CameTo-same}
 use Rattle.vx_group_states.proofs.StateLaws.{Continues-moved, Continues-part, both, both_first, both_second, state_at-moved, state_at-part}
 use Rattle.vx_heap.proofs.HeapLaws.{IsHeap-extends}
 use Rattle.vx_heap.proofs.Written.{within_there}
-use Rattle.vx_heap.specs.Heap.{HeapView, value_of}
-use Rattle.vx_java.specs.Machine.{Go, Ref as RefValue, at_position}
+use Rattle.vx_heap.specs.Heap.{HeapView}
+use Rattle.vx_java.specs.Machine.{Go, at_position}
 use Rattle.vx_java.specs.Machine.{Outcome as PlainOutcome}
 use Rattle.vx_link.specs.declared.program.Program.{Program}
 use Rattle.vx_outcome.specs.declared.outcome.Outcome.{Outcome}
@@ -35,21 +34,11 @@ use Rattle.vx_ready.proofs.Splitting.{GivesWithin-part}
 use Rattle.vx_standing.specs.Attempted.{is_placed}
 use Rattle.vx_value.specs.Slot.{slot_cmp}
 use Rattle.vx_value.specs.declared.slot.Slot.{Slot}
-use Rattle.vx_value.specs.declared.slot.Slot.TheVariants.{Top, Int, Long, Null, Ref, Text}
-use Rattle.vx_throw.proofs.Within.{CameTo-within, objects_held, part_of_part, thrown_later, whole_part}
+use Rattle.vx_throw.proofs.Within.{CameTo-within, object_value, objects_held, part_of_part, thrown_later, whole_part}
 use Rattle.vx_throw.specs.Flights.{landing, landing_from}
 use Rattle.vx_throw.specs.Landings.{AreLanded, AreObjectsHeld, handler_by, handler_cmp, lands}
 
 -- ---- a group at a handler
-
--- what a slot that is an object stands for
-object_value : {S I : Type 0} (sets : Sets I) (heap : HeapView S I) (c : List Bool) (slot : Slot) → is_object slot ≡ true → value_of sets heap c slot ≡ RefValue (object_named sets heap c slot)
-object_value sets heap c Top h = cc h
-object_value sets heap c (Int n) h = cc h
-object_value sets heap c (Long n) h = cc h
-object_value sets heap c Null h = cc h
-object_value sets heap c (Ref i) h = refl
-object_value sets heap c (Text n) h = cc h
 
 pub landed-gives : {S I : Type 0} {s0 s1 : Sets I} → IsLawful s1 → Extends s0 s1 → (group after : GroupView S I) (objects object : Conditional Slot S I) (handler : ℕ) → IsGroup s0 group → IsCond slot_cmp s0 objects → IsInside s0 (path_of group) objects.scope → IsCondOf slot_cmp s1 (value_within s0 (path_of group) (cond_at s0 objects)) object → after ≡ record group { top = record (group.top) { position = handler; stack = record { scope = object.scope; conds = object ∷ [] } } } → (p : Program) (heap : HeapView S I) → AreObjectsHeld s0 heap (path_of group) objects → GivesAt p (landing_from s0 objects (λ _. Some handler)) s0 s1 group (shared.Go after ∷ []) heap
 landed-gives {S = S} {I = I} {s0 = s0} {s1 = s1} lawful e group after objects object handler w v i k same p heap held tree h s =

@@ -26,17 +26,10 @@ pub taken_here : (p : Program) (s : State) (r handler : ℕ) → handler_of p s 
 taken_here p s r handler h = taken_over p s r handler s.callers h
 
 -- no frame is left
-last_frame : (p : Program) (s : State) (r : ℕ) (kind : Kind) → kind ≡ Call → handler_of p s kind r ≡ None → elim (handler_of p s kind r) as (λ _. Next) [ Some handler ↦ next_in_handler s r handler | None ↦ uncaught p (passed_state p s kind r) (passed_object p s kind r) ] ≡ uncaught p s r
-last_frame p s r Wait k n = cc k
-last_frame p s r Init k n = cc k
-last_frame p s r Call k n = handled (handler_for p s.top.method s.top.position (object_at s r).class) n
-  where
-    handled : (o : Option ℕ) → o ≡ None → elim o as (λ _. Next) [ Some handler ↦ next_in_handler s r handler | None ↦ uncaught p s r ] ≡ uncaught p s r
-    handled None e = refl
-    handled (Some handler) e = cc e
-
-pub ends_there : (p : Program) (s : State) (r : ℕ) → s.callers ≡ [] → s.top.kind ≡ Call → handler_of p s s.top.kind r ≡ None → next_after_throw p s r ≡ uncaught p s r
-ends_there p s r c k n = ap (unwind p s r) c ∙ last_frame p s r s.top.kind k n
+pub ends_there : (p : Program) (s : State) (r : ℕ) → s.callers ≡ [] → handler_of p s s.top.kind r ≡ None → next_after_throw p s r ≡ uncaught p (passed_state p s s.top.kind r) (passed_object p s s.top.kind r)
+ends_there p s r c n =
+    ap (unwind p s r) c
+    ∙ ap (λ o. elim o as (λ _. Next) [ Some handler ↦ next_in_handler s r handler | None ↦ uncaught p (passed_state p s s.top.kind r) (passed_object p s s.top.kind r) ]) n
 
 -- the handler by the slot is the handler by the object that it names
 pub handler_there : {S I : Type 0} (p : Program) (sets : Sets I) (heap : HeapView S I) (c : List Bool) (s : State) (part : KeyPart) (slot : Slot) → s.heap ≡ objects_at sets heap c → s.top.method ≡ part.method.0 → s.top.position ≡ part.position → is_object slot ≡ true → is_held sets heap c slot ≡ true → handler_at p heap part slot ≡ handler_of p s part.kind (object_named sets heap c slot)

@@ -1,5 +1,5 @@
 -- Objects that are thrown, and outcomes, in a part of a group's path.
-use Rattle.std.proofs.Common.{◌≡◌, ℕ, Bool, true, false, List, ◌∷◌, refl, sym, ◌∙◌, ap}
+use Rattle.std.proofs.Common.{◌≡◌, Bool, true, List, refl, sym, ◌∙◌, ap}
 use Rattle.std.specs.Prelude.{Option, Some}
 use Rattle.vx_space.specs.Sets.{Sets, Extends}
 use Rattle.vx_cond.specs.Cond.{Conditional, IsCond, IsInside}
@@ -9,16 +9,39 @@ use Rattle.vx_group.specs.declared.callers.Caller.{Caller}
 use Rattle.vx_group.specs.Group.{GroupView, IsGroup, IsPartOf, path_of}
 use Rattle.vx_group.proofs.GroupLaws.{IsGroup-path_known}
 use Rattle.vx_group_states.proofs.OutcomeStates.{AreOutcomes-through, object_named-extends}
-use Rattle.vx_group_states.specs.Stands.{CameTo, Continues, is_object, object_named}
+use Rattle.vx_group_states.specs.Stands.{CameTo, Continues, Grows, is_object, object_named}
+use Rattle.vx_growth.proofs.NameLaws.{name_stays}
 use Rattle.vx_heap.proofs.HeapLaws.{is_held-extends}
-use Rattle.vx_heap.specs.Heap.{HeapView, IsHeap, is_held}
+use Rattle.vx_heap.specs.Heap.{HeapView, IsHeap, is_held, value_of}
+use Rattle.vx_java.specs.Machine.{Ref as RefValue}
 use Rattle.vx_java.specs.Machine.{Outcome as PlainOutcome}
 use Rattle.vx_link.specs.declared.program.Program.{Program}
 use Rattle.vx_outcome.specs.declared.outcome.Outcome.{Outcome}
 use Rattle.vx_value.specs.Slot.{slot_cmp}
 use Rattle.vx_value.specs.declared.slot.Slot.{Slot}
+use Rattle.vx_value.specs.declared.slot.Slot.TheVariants.{Top, Int, Long, Null, Ref, Text}
 use Rattle.vx_throw.specs.Flights.{thrown_at}
 use Rattle.vx_throw.specs.Landings.{AreObjectsHeld}
+
+-- ---- slots that are objects
+
+-- what one stands for
+pub object_value : {S I : Type 0} (sets : Sets I) (heap : HeapView S I) (c : List Bool) (slot : Slot) → is_object slot ≡ true → value_of sets heap c slot ≡ RefValue (object_named sets heap c slot)
+object_value sets heap c Top h = cc h
+object_value sets heap c (Int n) h = cc h
+object_value sets heap c (Long n) h = cc h
+object_value sets heap c Null h = cc h
+object_value sets heap c (Ref i) h = refl
+object_value sets heap c (Text n) h = cc h
+
+-- one that is there keeps its name over a heap that grew
+pub named_later : {S I : Type 0} {old new : Sets I} → Extends old new → (before after : HeapView S I) → IsHeap old before → Grows before after → (c : List Bool) (slot : Slot) → is_object slot ≡ true → is_held old before c slot ≡ true → object_named new after c slot ≡ object_named old before c slot
+named_later e before after v k c Top o h = cc
+named_later e before after v k c (Int n) o h = cc
+named_later e before after v k c (Long n) o h = cc
+named_later e before after v k c Null o h = cc
+named_later e before after v k c (Ref i) o h = name_stays e before after v k c i h
+named_later e before after v k c (Text n) o h = cc
 
 -- ---- objects over a later space
 
@@ -27,6 +50,10 @@ slot_later e objects v c = ap or_top (cond_at-extends slot_cmp e objects v c)
 
 pub thrown_later : {S I : Type 0} {old new : Sets I} → Extends old new → (heap : HeapView S I) → IsHeap old heap → (objects : Conditional Slot S I) → IsCond slot_cmp old objects → (c : List Bool) → thrown_at new heap objects c ≡ thrown_at old heap objects c
 thrown_later {old = old} {new = new} e heap h objects v c = ap (object_named new heap c) (slot_later e objects v c) ∙ object_named-extends e heap h c (slot_at old objects c)
+
+pub scope_known : {S I : Type 0} (sets : Sets I) (objects : Conditional Slot S I) → IsCond slot_cmp sets objects → sets.is_known objects.scope ≡ true
+unfolding IsCond
+scope_known sets objects v = v.scope_known
 
 -- and in a part of the path
 pub objects_inside : {S I : Type 0} {old new : Sets I} → Extends old new → (objects : Conditional Slot S I) → IsCond slot_cmp old objects → (path inner : I) → IsInside old path objects.scope → ((c : List Bool) → new.test inner c ≡ true → old.test path c ≡ true) → IsInside new inner objects.scope

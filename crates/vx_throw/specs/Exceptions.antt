@@ -3,13 +3,12 @@ use Rattle.std.specs.Prelude.{◌≢◌, ℕ, List, Option}
 use Rattle.vx_families.specs.Bounds.{IsBounded}
 use Rattle.vx_group.specs.declared.callers.Caller.{Caller}
 use Rattle.vx_group.specs.Group.{GroupView, path_of}
-use Rattle.vx_group_states.specs.Stands.{Attempts, IsMessage, StandsIn, message_of}
+use Rattle.vx_group_states.specs.Stands.{IsMessage, StandsIn, message_of}
 use Rattle.vx_heap.specs.Heap.{HeapView, IsHeap, IsHeapFor}
 use Rattle.vx_java.specs.Machine.{State}
 use Rattle.vx_java.specs.Machine.{Outcome as PlainOutcome}
 use Rattle.vx_java.specs.Throwing.{next_after_raise}
 use Rattle.vx_link.specs.declared.program.Program.{Program}
-use Rattle.vx_outcome.specs.declared.outcome.Outcome.{Outcome}
 use Rattle.vx_space.specs.Sets.{Sets}
 use Rattle.vx_standing.specs.Attempted.{outcome_of}
 
@@ -25,8 +24,3 @@ pub record IsRaising {S I : Type 0} (p : Program) (sets : Sets I) (heap : HeapVi
 -- what comes of it at a state
 abbrev pub raised_from : {S I : Type 0} → Program → HeapView S I → (class : ℕ) → (message : Option ℕ) → State → PlainOutcome
 raised_from p heap class message s = outcome_of (next_after_raise p s class (message_of heap message))
-
--- at each configuration of the path it was made and thrown until a frame took it or none was left, and nothing else changed
-pub record IsThrownOut {S I : Type 0} (p : Program) (says : State → PlainOutcome) (old new : Sets I) (before after : HeapView S I) (tree later : List (Option (Caller S I))) (group : GroupView S I) (outcomes : List (Outcome S I)) : Type 0 where
-  pub is_for : IsHeapFor p after
-  pub attempts : Attempts p says old new before after tree later group outcomes

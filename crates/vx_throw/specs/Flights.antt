@@ -1,18 +1,17 @@
 -- What is thrown goes down the frames of a group: the handlers of the frame on top take some of it, and the rest goes on in the caller (JVMS 2.10).
-use Rattle.std.specs.Prelude.{◌≡◌, ◌&&◌, ℕ, Bool, true, List, None, Option, Some, is_none, is_some, option_and_then, option_map, unwrap_or}
+use Rattle.std.specs.Prelude.{◌≡◌, ◌&&◌, ℕ, Bool, true, false, List, None, Option, Some, is_none, is_some, option_and_then, option_map, suc, unwrap_or}
 use Rattle.std.specs.List.{list_all}
 use Rattle.vx_cond.specs.Cond.{Conditional, IsCond}
 use Rattle.vx_cond.specs.Slots.{slot_at}
-use Rattle.vx_families.specs.Built.{is_call}
 use Rattle.vx_frame.specs.Frame.{part_of}
 use Rattle.vx_group.specs.declared.callers.Caller.{Caller}
-use Rattle.vx_group.specs.Group.{GroupView, IsPartOf, key_of, path_of}
-use Rattle.vx_group_states.specs.Stands.{IsThrown, StandsIn, object_named}
-use Rattle.vx_heap.specs.Heap.{HeapView, IsHeap, IsHeapFor, class_at_slot}
+use Rattle.vx_group.specs.Group.{IsPartOf, depth_of, path_of}
+use Rattle.vx_group_states.specs.Stands.{Continues, Grows, IsThrown, StandsIn, object_named, state_at}
+use Rattle.vx_heap.specs.Heap.{HeapView, IsHeap, IsHeapFor, class_at_slot, globals_at}
 use Rattle.vx_java.specs.Machine.{State}
 use Rattle.vx_java.specs.Machine.{Outcome as PlainOutcome, Throw}
 use Rattle.vx_java.specs.Selection.{handler_for}
-use Rattle.vx_java.specs.Throwing.{next_after_throw, next_in_handler, uncaught}
+use Rattle.vx_java.specs.Throwing.{handler_of, next_after_throw, next_in_handler, uncaught}
 use Rattle.vx_families.specs.Bounds.{IsBounded}
 use Rattle.vx_link.specs.declared.program.Program.{Program}
 use Rattle.vx_outcome.specs.declared.outcome.Outcome.{Outcome}
@@ -90,6 +89,22 @@ pub record IsHandled {S I : Type 0} (p : Program) (old new : Sets I) (heap : Hea
   pub landed : GivesWithin p (landing_from old before.objects (handler_in p old heap before)) (λ c. old.test (path_of before.group) c && is_some (handler_in p old heap before c)) old new before.group outcomes heap
   pub placed : list_all is_placed outcomes ≡ true
 
--- the frames of a group are those of calls
-abbrev pub are_calls : {S I : Type 0} → GroupView S I → Bool
-are_calls group = list_all (λ part. is_call part.kind) (key_of group)
+-- what comes of throwing, over this heap and this tree
+abbrev pub thrown_here : {S I : Type 0} → Program → Sets I → HeapView S I → List (Option (Caller S I)) → Flight S I → List Bool → PlainOutcome
+thrown_here p sets heap tree flight c = thrown_from p sets flight.objects heap c (state_at sets heap tree flight.group c)
+
+-- the frame on top doesn't take what is thrown
+abbrev pub NoneTakes : {S I : Type 0} → Program → Sets I → HeapView S I → List (Option (Caller S I)) → Flight S I → Type 0
+NoneTakes p sets heap tree flight =
+    (c : List Bool) → sets.test (path_of flight.group) c ≡ true
+    → handler_of p (state_at sets heap tree flight.group c) flight.group.top.kind (thrown_at sets heap flight.objects c) ≡ None
+
+-- What is thrown passed the frame on top: where that doesn't take it, what comes of throwing stays the same. Nothing else changed.
+pub record IsPassed {S I : Type 0} (p : Program) (old new : Sets I) (before after : HeapView S I) (tree : List (Option (Caller S I))) (flight next : Flight S I) : Type 0 where
+  pub is_flight : IsFlight p new after tree next
+  pub grows : Grows before after
+  pub continues : Continues p old new after tree flight.group next.group
+  pub path : path_of next.group ≡ path_of flight.group
+  pub depth : depth_of flight.group ≡ suc (depth_of next.group)
+  pub comes : NoneTakes p old before tree flight → (c : List Bool) → old.test (path_of flight.group) c ≡ true → thrown_here p new after tree next c ≡ thrown_here p old before tree flight c
+  pub outside : (c : List Bool) → old.test (path_of flight.group) c ≡ false → globals_at new after c ≡ globals_at old before c

@@ -79,15 +79,15 @@ mod tests {
             "p/Main.class",
             "class 0021 Main java/lang/Object\nfield 0009 X0 Z\nfield 0009 X1 Z\nfield 0009 Y0 Z\nfield 0009 Y1 Z\nmethod 0009 main ([Ljava/lang/String;)V 2 1\ngetstatic Main X0 Z\ngetstatic Main Y0 Z\nif_icmpne End\ngetstatic Main X1 Z\ngetstatic Main Y1 Z\nif_icmpne End\ngetstatic java/lang/System out Ljava/io/PrintStream;\niconst_1\ninvokevirtual java/io/PrintStream println (I)V\nEnd:\nreturn\nend\n",
         ),
-        // A class that is initialised by a method, which isn't built.
+        // A class that is initialised by a method.
         (
             "z/1.class",
             "class 0021 P java/lang/Object\nmethod 0008 <clinit> ()V 0 0\nreturn\nend\n",
         ),
-        // With the option on it makes an object of that class.
+        // With the option on it makes an object of that class, and then exits, which isn't built.
         (
             "z/2.class",
-            "class 0021 Main java/lang/Object\nfield 0009 A Z\nmethod 0009 main ([Ljava/lang/String;)V 1 1\ngetstatic Main A Z\nifeq Off\nnew P\npop\nOff:\nreturn\nend\n",
+            "class 0021 Main java/lang/Object\nfield 0009 A Z\nmethod 0009 main ([Ljava/lang/String;)V 1 1\ngetstatic Main A Z\nifeq Off\nnew P\npop\niconst_0\ninvokestatic java/lang/System exit (I)V\nOff:\nreturn\nend\n",
         ),
     ];
 
@@ -148,7 +148,7 @@ mod tests {
     ];
 
     /// Words, and what has to come: the code, `out`, and `err`.
-    const CASES: [(&str, u8, &str, &str); 58] = [
+    const CASES: [(&str, u8, &str, &str); 65] = [
         (
             "run a m Main 100 1",
             0,
@@ -355,6 +355,18 @@ mod tests {
         ("agree report cut", 10, "", "bad report line 6\n"),
         ("agree cut absent", 10, "", "bad report line 6\n"),
         ("agree report", 2, "", "usage\n"),
+        ("verify a m Main", 0, "verified\n", ""),
+        ("verify a none Main", 0, "verified\n", ""),
+        (
+            "verify i e Main",
+            0,
+            "refused Main.main([Ljava/lang/String;)V\n",
+            "",
+        ),
+        ("verify a bad Main", 5, "", "bad model line 2 reason 4\n"),
+        ("verify n m Main", 8, "", "no option A\n"),
+        ("verify c e Main", 8, "", "cycle P\n"),
+        ("verify n e", 2, "", "usage\n"),
         ("asm word", 12, "", "bad source line 1 reason 1\n"),
         ("asm", 2, "", "usage\n"),
     ];

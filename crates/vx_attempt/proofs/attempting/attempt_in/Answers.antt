@@ -1,5 +1,5 @@
 use Rattle.std.proofs.Common.{arith, refl}
-use Rattle.vx_attempt.proofs.Making.{code_is_short, given_at, no_instruction, unbuilt_decoded}
+use Rattle.vx_attempt.proofs.Making.{code_is_short, given_at, no_instruction}
 use Rattle.vx_attempt.proofs.attempting.attempt_in.Goals as goal
 
 pub decode-requires : goal.decode-requires
@@ -9,9 +9,6 @@ decode-requires g c =
 
 pub attempt_at-requires-clause-given : goal.attempt_at-requires-clause-given
 attempt_at-requires-clause-given g c = given_at (record { program = c.args.program; code = c.args.code; size = c.in-Ok.instruction.length }) c.operation-operation.result _ c.args.heap.now c.args.callers.now c.args.group c.in-Ok.instruction _ c.as_slice.result.now c.top_frame-top.result.now c.requires.may c.requires.code c.as_slice.ensures c.top_frame-top.ensures c.in-Ok.ensures.value c.in-Ok.ensures.bounds.1 refl c.operation-operation.ensures
-
-pub returns-in-None-clause-not_yet : goal.returns-in-None-clause-not_yet
-returns-in-None-clause-not_yet g c = λ _. unbuilt_decoded c.args.program.now (g.met.S.Space.lawful c.args.space.now) c.args.heap.now c.args.callers.now c.args.group c.args.code.now c.in-Ok.instruction _ c.as_slice.result.now c.top_frame-top.result.now c.class_of_method-class.result c.operation-operation.result c.requires.may c.requires.code c.as_slice.ensures c.top_frame-top.ensures c.in-Ok.ensures.value c.class_of_method-class.ensures c.operation-operation.ensures (c.in-None.ensures.unbuilt refl)
 
 pub end_there-requires-clause-nothing : goal.end_there-requires-clause-nothing
 end_there-requires-clause-nothing g c = λ s at there. no_instruction c.args.program.now c.args.group c.args.code.now c.in-Err._fault _ c.as_slice.result.now c.top_frame-top.result.now c.requires.code c.as_slice.ensures c.top_frame-top.ensures c.in-Err.ensures.value s at there

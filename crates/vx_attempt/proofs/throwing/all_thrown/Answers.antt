@@ -32,7 +32,7 @@ returns-in_err-some-clause-not_yet g c = λ e.
     let p = c.args.program.now in
     let k = rw c.in-Some.ensures.steps.0 at c.loop-outcome.invariant.1.0 in
     let q = err_from_is_err_and c.from_residual.result c.from_residual.ensures.1 in
-    SomeComesTo-next p (thrown_out p) c.args.heap.now c.loop-outcome.heap c.args.callers.now c.loop-outcome.callers c.args.outcomes.items.items c.in-Some.outcome (into_iter_items c.next.new.self) c.loop-outcome.made.items.items k (is_refused p) (c.in_err-some.ensures.not_yet (cc (e, q.1, q.2)))
+    SomeComesTo-next p (thrown_out p) c.args.heap.now c.loop-outcome.heap c.args.callers.now c.loop-outcome.callers c.args.outcomes.items.items c.in-Some.outcome (into_iter_items c.next.new.self) c.loop-outcome.made.items.items k is_refused (c.in_err-some.ensures.not_yet (cc (e, q.1, q.2)))
 
 pub loop-outcome-preserved : goal.loop-outcome-preserved
 loop-outcome-preserved g c =

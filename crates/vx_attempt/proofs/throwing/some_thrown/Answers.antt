@@ -1,9 +1,12 @@
 use Rattle.std.proofs.Common.{refl}
-use Rattle.std.proofs.lemmas.Result.{IfOk-weaker}
 use Rattle.vx_space.proofs.Spaces.{Extends-refl}
 use Rattle.vx_outcome.specs.declared.outcome.Outcome.TheVariants.{Raise, Throw}
+use Rattle.vx_standing.specs.Attempted.{thrown_out}
+use Rattle.vx_throw.specs.Exceptions.{raised_from}
+use Rattle.vx_throw.specs.Flights.{thrown_from}
 use Rattle.vx_attempt.proofs.Calls.{there_known}
-use Rattle.vx_attempt.proofs.Raised.{AreCarriedOut-kept, AreCarriedOut-raised, AreCarriedOut-thrown, SomeComesTo-raised, SomeComesTo-thrown, SomeComesTo-unmade, placed_other}
+use Rattle.vx_attempt.proofs.Carrying.{AreCarriedOut-at}
+use Rattle.vx_attempt.proofs.Raised.{AreCarriedOut-kept, SomeComesTo-unmade, placed_other}
 use Rattle.vx_attempt.proofs.throwing.some_thrown.Goals as goal
 
 pub raise-requires : goal.raise-requires
@@ -18,34 +21,21 @@ raise-requires g c =
       message = may.there.0.1;
     }
 
-pub returns-in-Raise-clause-carried : goal.returns-in-Raise-clause-carried
-returns-in-Raise-clause-carried g c = rw c.in-Raise.is (IfOk-weaker c.raise.result _ _ (λ r h. AreCarriedOut-raised c.args.program.now _ _ c.args.heap.now _ c.args.callers.now _ c.in-Raise.group c.in-Raise.class c.in-Raise.message r.items.items h) c.raise.ensures.raised)
-
-pub returns-in-Raise-clause-not_yet : goal.returns-in-Raise-clause-not_yet
-returns-in-Raise-clause-not_yet g c = λ e.
-    let may = rw c.in-Raise.is at c.requires.may in
+pub returns-in_ok-raised-in-Raise-clause-carried : goal.returns-in_ok-raised-in-Raise-clause-carried
+returns-in_ok-raised-in-Raise-clause-carried g c =
     let p = c.args.program.now in
-    let sets = g.S.Space.sets c.args.space.now in
-    let known = there_known p sets c.args.heap.now c.args.callers.now (Raise c.in-Raise.group c.in-Raise.class c.in-Raise.message) may.there.0 in
-    rw c.in-Raise.is (SomeComesTo-raised p (g.met.S.Space.lawful c.args.space.now) c.args.heap.now c.args.callers.now c.in-Raise.group c.in-Raise.class c.in-Raise.message known (rw c.in-Raise.is at c.requires.some) (c.raise.ensures.not_yet e))
+    rw c.in-Raise.is (AreCarriedOut-at p (thrown_out p) (g.S.Space.sets c.args.space.now) _ c.args.heap.now c.raise.new.heap c.args.callers.now c.raise.new.callers (λ _ s. raised_from p c.args.heap.now c.in-Raise.class.0 c.in-Raise.message s) (Raise c.in-Raise.group c.in-Raise.class c.in-Raise.message) c.in-Raise.group c.in_ok-raised-in-Raise.raised.items.items refl (λ start at k. k.0) (λ d. refl) c.in_ok-raised-in-Raise.ensures.raised)
 
 pub throw-requires : goal.throw-requires
 throw-requires g c =
     let may = rw c.in-Throw.is at c.requires.may in
     record { bounded = may.bounded; is_heap = may.is_heap; is_for = may.is_for; stands = may.there.0.0; thrown = may.there.0.1 }
 
-pub returns-in-Throw-clause-carried : goal.returns-in-Throw-clause-carried
-returns-in-Throw-clause-carried g c =
-    let may = rw c.in-Throw.is at c.requires.may in
-    rw c.in-Throw.is (IfOk-weaker c.throw.result _ _ (λ r h. AreCarriedOut-thrown c.args.program.now c.throw.ensures.extends c.args.heap.now c.args.callers.now c.throw.new.callers c.in-Throw.group c.in-Throw.thrown r.items.items may.is_heap may.is_for may.there.0.0 c.throw.ensures.callers h) c.throw.ensures.gives)
-
-pub returns-in-Throw-clause-not_yet : goal.returns-in-Throw-clause-not_yet
-returns-in-Throw-clause-not_yet g c = λ e.
-    let may = rw c.in-Throw.is at c.requires.may in
+pub returns-in_ok-made-in-Throw-clause-carried : goal.returns-in_ok-made-in-Throw-clause-carried
+returns-in_ok-made-in-Throw-clause-carried g c =
     let p = c.args.program.now in
     let sets = g.S.Space.sets c.args.space.now in
-    let known = there_known p sets c.args.heap.now c.args.callers.now (Throw c.in-Throw.group c.in-Throw.thrown) may.there.0 in
-    rw c.in-Throw.is (SomeComesTo-thrown p (g.met.S.Space.lawful c.args.space.now) c.args.heap.now c.args.callers.now c.in-Throw.group c.in-Throw.thrown known (rw c.in-Throw.is at c.requires.some) (c.throw.ensures.not_yet e))
+    rw c.in-Throw.is (AreCarriedOut-at p (thrown_out p) sets _ c.args.heap.now c.throw.new.heap c.args.callers.now c.throw.new.callers (λ d s. thrown_from p sets c.in-Throw.thrown c.args.heap.now d s) (Throw c.in-Throw.group c.in-Throw.thrown) c.in-Throw.group c.in_ok-made-in-Throw.made.items.items refl (λ start at k. k.0) (λ d. refl) c.in_ok-made-in-Throw.ensures.thrown)
 
 pub returns-in-Begin-clause-not_yet : goal.returns-in-Begin-clause-not_yet
 returns-in-Begin-clause-not_yet g c = λ _.

@@ -9,3 +9,9 @@ run_text-requires-clause-most g c = let range = rw c.in-Run.is at c.requires in 
 
 pub run_text-requires-clause-version : goal.run_text-requires-clause-version
 run_text-requires-clause-version g c = let range = rw c.in-Run.is at c.requires in range.2
+
+pub load_text-requires-clause-least : goal.load_text-requires-clause-least
+load_text-requires-clause-least g c = let range = rw c.in-Load.is at c.requires in range.1
+
+pub load_text-requires-clause-most : goal.load_text-requires-clause-most
+load_text-requires-clause-most g c = let range = rw c.in-Load.is at c.requires in range.2

@@ -1,14 +1,7 @@
-use Rattle.std.specs.Prelude.{◌≡◌, false, true}
-use Rattle.std.proofs.Common.{refl}
 use Rattle.std.proofs.lemmas.Result.{IfOk-weaker}
-use Rattle.vx_families.specs.Built.{is_built_operation}
-use Rattle.vx_families.specs.Pools.{pool_of}
-use Rattle.vx_java.specs.declared.operation.Operation.TheVariants.{Invoke}
+use Rattle.vx_fields.proofs.Families.{IsRunning-given}
 use Rattle.vx_java.specs.Named.{in_bytes}
-use Rattle.vx_space.proofs.Spaces.{Extends-refl}
-use Rattle.vx_invoke.proofs.Clones.{not_found, unresolved_by}
-use Rattle.vx_invoke.proofs.References.{IsAttemptIn-call, found-attempts, found_may_call, found_member, member_at, missing-attempts, reference_at}
-use Rattle.vx_invoke.specs.Calling.{is_found}
+use Rattle.vx_invoke.proofs.References.{IsAttemptIn-call, clone-attempts, found-attempts, found_may_call, found_member, is_missing, member_at, missing-attempts, reference_at}
 use Rattle.vx_invoke.proofs.invoking.attempt.Goals as goal
 
 pub referenced-requires-clause-bounded : goal.referenced-requires-clause-bounded
@@ -49,7 +42,7 @@ pub unresolved-requires-clause-classes : goal.unresolved-requires-clause-classes
 unresolved-requires-clause-classes g c = c.requires.given.bounded.classes
 
 pub unresolved-requires-clause-missing : goal.unresolved-requires-clause-missing
-unresolved-requires-clause-missing g c = not_found c.referenced.result c.in_default-referenced.not-Found
+unresolved-requires-clause-missing g c = is_missing c.referenced.result c.in_default-referenced.not-Found c.in_default-referenced.not-Clone
 
 pub returns-in_default-referenced-clause-ok : goal.returns-in_default-referenced-clause-ok
 returns-in_default-referenced-clause-ok g c =
@@ -60,7 +53,14 @@ returns-in_default-referenced-clause-ok g c =
     let m = in_bytes c.named_member-member.result in
     let f = reference_at site group top class c.top_frame.ensures c.class_of_method-class.ensures c.in-Invoke.mode c.in-Invoke.index c.referenced.result c.referenced.ensures in
     let names = member_at site group top class c.top_frame.ensures c.class_of_method-class.ensures c.in-Invoke.index m c.named_member-member.ensures in
-    let built : is_built_operation (pool_of site group) (Invoke c.in-Invoke.mode c.in-Invoke.index) ≡ true = rw c.in-Invoke.is at c.requires.family in
-    let missing : is_found c.referenced.result ≡ false = not_found c.referenced.result c.in_default-referenced.not-Found in
-    let unresolved = unresolved_by site.program.now (pool_of site group) c.in-Invoke.index c.in-Invoke.mode c.referenced.result built missing f in
-    IfOk-weaker c.unresolved.result _ _ (λ r gives. IsAttemptIn-call site c.args.operation c.in-Invoke.mode c.in-Invoke.index _ _ c.args.heap.now c.args.heap.now c.args.callers.now c.args.callers.now group r.items.items c.in-Invoke.is (missing-attempts site c.args.operation _ c.args.heap.now c.args.callers.now group c.in-Invoke.mode c.in-Invoke.index c.referenced.result m r.items.items c.requires.given c.requires.stands f names (gives c.in-Invoke.mode _ unresolved))) c.unresolved.ensures
+    IfOk-weaker c.unresolved.result _ _ (λ r gives. IsAttemptIn-call site c.args.operation c.in-Invoke.mode c.in-Invoke.index _ _ c.args.heap.now c.args.heap.now c.args.callers.now c.args.callers.now group r.items.items c.in-Invoke.is (missing-attempts site c.args.operation _ c.args.heap.now c.args.callers.now group c.in-Invoke.mode c.in-Invoke.index c.referenced.result m r.items.items c.requires.given c.requires.stands f names (gives c.in-Invoke.mode _))) c.unresolved.ensures
+
+pub clone_arrays-requires : goal.clone_arrays-requires
+clone_arrays-requires g c = record { running = IsRunning-given c.args.site.now c.args.operation _ c.args.heap.now c.args.group c.requires.given }
+
+pub returns-in_ok-cloned-in-Clone-clause-ok : goal.returns-in_ok-cloned-in-Clone-clause-ok
+returns-in_ok-cloned-in-Clone-clause-ok g c =
+    let site = c.args.site.now in
+    let group = c.args.group in
+    let f = reference_at site group c.top_frame.result.now c.class_of_method-class.result c.top_frame.ensures c.class_of_method-class.ensures c.in-Invoke.mode c.in-Invoke.index c.referenced.result c.referenced.ensures in
+    IsAttemptIn-call site c.args.operation c.in-Invoke.mode c.in-Invoke.index _ _ c.args.heap.now c.clone_arrays.new.heap c.args.callers.now c.args.callers.now group _ c.in-Invoke.is (clone-attempts site _ _ c.args.heap.now c.clone_arrays.new.heap c.args.callers.now group c.in-Invoke.mode c.in-Invoke.index c.referenced.result c.in-Clone.field-0 _ c.requires.stands f c.in-Clone.is (λ m sound. c.in_ok-cloned-in-Clone.ensures.ok c.in-Invoke.mode m c.in-Clone.field-0 sound))

@@ -4,7 +4,8 @@ use Rattle.vx_desc.specs.declared.java_type.Descriptor.{Descriptor}
 use Rattle.vx_link.specs.Parts.{method_at}
 use Rattle.vx_link.specs.Signature.{signature}
 use Rattle.vx_references.specs.Calls.{may_call}
-use Rattle.vx_invoke.proofs.References.{descriptor_short, object-attempts, of_object, other_modes, static-attempts}
+use Rattle.vx_references.proofs.CallLaws.{other_modes}
+use Rattle.vx_invoke.proofs.References.{descriptor_short, object-attempts, of_object, static-attempts}
 use Rattle.vx_invoke.proofs.invoking.found_call.Goals as goal
 
 pub signature-requires : goal.signature-requires

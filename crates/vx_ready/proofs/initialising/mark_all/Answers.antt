@@ -3,9 +3,10 @@ use Rattle.vx_ready.proofs.Changes.{IsChanged-allowed, IsHeapFor-changed}
 use Rattle.vx_ready.proofs.Readying.{IsMarking-end, IsMarking-start, IsMarking-step, mark_inside, mark_known}
 use Rattle.vx_ready.proofs.initialising.mark_all.Goals as goal
 use Rattle.vx_heap.proofs.Written.{allowed_known}
+use Rattle.vx_value.specs.declared.slot.InitState.TheVariants.{Done}
 
 pub loop-mark-init : goal.loop-mark-init
-loop-mark-init g c = IsMarking-start _ c.args.heap.now c.args.marks.now c.requires.heap
+loop-mark-init g c = IsMarking-start _ c.args.heap.now Done c.args.marks.now c.requires.heap
 
 pub mark_one-requires-clause-heap : goal.mark_one-requires-clause-heap
 mark_one-requires-clause-heap g c = c.loop-mark.invariant.changed.is_heap
@@ -25,10 +26,10 @@ mark_one-requires-clause-inside g c = record {
 }
 
 pub loop-mark-preserved : goal.loop-mark-preserved
-loop-mark-preserved g c = IsMarking-step _ c.args.heap.now c.loop-mark.heap c.mark_one.new.heap c.args.marks.now _ c.mark-item.result c.requires.marks c.loop-mark-test.true c.mark-item.is c.loop-mark.invariant c.in_ok-mark_one.ensures.extends c.in_ok-mark_one.ensures.ok
+loop-mark-preserved g c = IsMarking-step _ c.args.heap.now c.loop-mark.heap c.mark_one.new.heap Done c.args.marks.now _ c.mark-item.result c.requires.marks c.loop-mark-test.true c.mark-item.is c.loop-mark.invariant c.in_ok-mark_one.ensures.extends c.in_ok-mark_one.ensures.ok
 
 pub returns-clause-extends : goal.returns-clause-extends
 returns-clause-extends g c = c.loop-mark.invariant.extends
 
 pub returns-clause-ok : goal.returns-clause-ok
-returns-clause-ok g c = IsMarking-end _ _ c.args.heap.now c.loop-mark.heap c.args.marks.now _ c.loop-mark-test.false c.loop-mark.invariant
+returns-clause-ok g c = IsMarking-end _ _ c.args.heap.now c.loop-mark.heap Done c.args.marks.now _ c.loop-mark-test.false c.loop-mark.invariant

@@ -1,6 +1,6 @@
 use Rattle.std.proofs.Common.{◌≤◌, arith, length}
 use Rattle.vx_cond.proofs.CondLaws.{IsCond-of}
-use Rattle.vx_heap.proofs.Written.{init_is_cond}
+use Rattle.vx_heap.proofs.Written.{init_inside, init_is_cond, restricted_scope}
 use Rattle.vx_value.specs.Slot.{init_state_cmp}
 use Rattle.vx_ready.proofs.States.{states_beyond, states_there}
 use Rattle.vx_ready.proofs.initialising.states_inside.Goals as goal
@@ -21,3 +21,7 @@ returns-clause-cond g c = IsCond-of init_state_cmp _ _ c.in_ok-states.states c.i
 
 pub returns-clause-at : goal.returns-clause-at
 returns-clause-at g c = states_there _ _ c.args.heap.now c.args.class.0 c.args.path c.init_state.result.now c.in_ok-states.states c.requires.heap (omega arith) c.init_state.ensures c.requires.inside c.in_ok-states.ensures.ok
+
+pub returns-clause-scope : goal.returns-clause-scope
+returns-clause-scope g c =
+    restricted_scope init_state_cmp (g.met.S.Space.lawful c.restrict.new.space) c.in_ok-states.ensures.extends c.init_state.result.now c.in_ok-states.states c.args.path (init_is_cond _ c.args.heap.now c.args.class.0 c.init_state.result.now c.requires.heap (omega arith) c.init_state.ensures) c.requires.known (init_inside _ c.args.heap.now c.args.class.0 c.init_state.result.now c.args.path c.requires.heap (omega arith) c.init_state.ensures c.requires.inside) c.in_ok-states.ensures.ok

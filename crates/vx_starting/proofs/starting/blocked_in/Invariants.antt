@@ -1,6 +1,6 @@
 use Rattle.std.proofs.Common.{◌≡◌, drop}
 use Rattle.vx_java.specs.Initialisation.{chain_blocked}
-use Rattle.vx_starting.specs.Starting.{numbers_of}
+use Rattle.vx_ready.specs.Initialising.{numbers_of}
 use Rattle.vx_starting.proofs.starting.blocked_in.Given as goal
 
 abbrev pub invariant-loop-class : goal.invariant-loop-class

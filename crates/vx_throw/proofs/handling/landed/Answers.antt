@@ -1,4 +1,4 @@
-use Rattle.std.proofs.Common.{◌≡◌, arith, length, refl}
+use Rattle.std.proofs.Common.{arith, refl}
 use Rattle.vx_group.proofs.GroupLaws.{IsGroup-one_scope, IsGroup-path_known}
 use Rattle.vx_throw.proofs.LandingLaws.{landed-gives}
 use Rattle.vx_throw.proofs.handling.landed.Goals as goal

@@ -2,7 +2,7 @@ use Rattle.std.proofs.lemmas.Result.{IfOk-weaker}
 use Rattle.vx_cells.proofs.Somewhere.{somewhere_in}
 use Rattle.vx_group.proofs.GroupLaws.{IsGroup-path_known, IsGroupIn-group}
 use Rattle.vx_space.proofs.Spaces.{Extends-trans}
-use Rattle.vx_throw.proofs.RaiseLaws.{IsThrownOut-made, made_flight}
+use Rattle.vx_throw.proofs.RaiseLaws.{made_flight, raised-attempts}
 use Rattle.vx_throw.proofs.raising.raise.Goals as goal
 
 pub exception-requires-clause-classes : goal.exception-requires-clause-classes
@@ -30,4 +30,4 @@ pub returns-clause-extends : goal.returns-clause-extends
 returns-clause-extends g c = Extends-trans c.in_ok-object.ensures.extends c.throw.ensures.extends
 
 pub returns-clause-raised : goal.returns-clause-raised
-returns-clause-raised g c = IfOk-weaker c.throw.result _ _ (λ r h. IsThrownOut-made c.args.program.now c.args.heap.now c.exception.new.heap c.args.callers.now c.args.group c.args.class.0 c.args.message c.path-path.result c.in_ok-object.object c.in_ok-thrown.thrown c.requires c.path-path.ensures c.in_ok-object.ensures.extends c.in_ok-object.ensures.ok c.in_ok-thrown.ensures.scope c.in_ok-thrown.ensures.ok c.throw.new.callers _ c.throw.ensures.extends c.throw.ensures.callers h) c.throw.ensures.gives
+returns-clause-raised g c = IfOk-weaker c.throw.result _ _ (λ r h. raised-attempts c.args.program.now c.args.heap.now c.exception.new.heap c.args.callers.now c.args.group c.args.class.0 c.args.message c.path-path.result c.in_ok-object.object c.in_ok-thrown.thrown c.requires c.path-path.ensures c.in_ok-object.ensures.extends c.in_ok-object.ensures.ok c.in_ok-thrown.ensures.scope c.in_ok-thrown.ensures.ok c.throw.new.heap c.throw.new.callers _ h) c.throw.ensures.thrown

@@ -1,0 +1,98 @@
+-- What `verify` made of a model and of class files, in terms of its plan; and that a program has one verdict.
+use Rattle.std.proofs.Common.{Bool, Err, Global, IfErr, IfOk, List, MatchResult, None, Ok, Option, Result, Some, Vec, ap, arith, inl, inr, refl, sym, true, ℕ, ◌<◌, ◌∙◌, ◌≡◌, ◌⊎◌, ◌≤◌, length}
+use Rattle.std.proofs.lemmas.Bool.{cases_lt}
+use Rattle.std.specs.List.{list_all}
+use Rattle.std.specs.Prelude.{All}
+use Rattle.vx_class.specs.File.{Holds}
+use Rattle.vx_class.specs.declared.class_file.ClassFile.{ClassFile}
+use Rattle.vx_class.specs.declared.class_file.Code.{Code}
+use Rattle.vx_families.specs.Bounds as bounds
+use Rattle.vx_java.specs.Ids.{HasClassNumbers}
+use Rattle.vx_link.specs.declared.program.LinkedMethod.{LinkedMethod}
+use Rattle.vx_link.specs.declared.program.Program.{Program}
+use Rattle.vx_model.specs.declared.model.Model.{Model}
+use Rattle.vx_program_bounds.specs.Law.{LinkedAreBounded}
+use Rattle.vx_verify.specs.Verdict.{IsVerdict, has_short_code}
+use Rattle.vx_verify.specs.declared.verdict.Verdict.{Verdict}
+use Rattle.vx_verify.specs.declared.verdict.Verdict.TheVariants.{No, Yes}
+use Rattle.vx_cli.specs.Job.{IsTextOf, Judged, model_of, program_in, slashed}
+use Rattle.vx_cli.specs.KeepsFiles.{KeepsFiles}
+use Rattle.vx_cli.specs.Plan.{Leads, MayGive, MayStop, Plan, Write, attempt}
+use Rattle.vx_cli.specs.Run.{read_folder}
+use Rattle.vx_cli.specs.Sized.{most_bytes, read_sized}
+use Rattle.vx_cli.specs.Verdicts.{IsVerdictText, refused_text, verdict_text}
+use Rattle.vx_cli.specs.Verify.{IsUnjudged, IsVerdictOf, judge_classes, read_any_model, verify_plan}
+use Rattle.vx_cli.specs.declared.status.Status.{Status}
+use Rattle.vx_cli.specs.declared.status.Status.TheVariants.{NoMemory}
+use Rattle.vx_cli.proofs.Plans.{attempt_goes, keeps_then, then_leads, value_stops}
+use Rattle.vx_cli.proofs.Ran.{linked_is}
+use Rattle.vx_io.specs.Held.{FilesState, Held}
+
+-- ---- the model
+
+pub any_model_ok : (held : Option Held) (path bytes : List ℕ) (r : Result Model Status) → ((next : List ℕ → Plan) → Leads held (read_sized most_bytes path path next) (next bytes))
+    → MatchResult r (λ model. model_of path bytes ≡ Ok model) (λ status. (status ≡ NoMemory) ⊎ (model_of path bytes ≡ Err status))
+    → IfOk r (λ model. (next : Model → Plan) → Leads held (read_any_model path next) (next model))
+any_model_ok held path bytes (Err e) leads read = tt
+any_model_ok held path bytes (Ok model) leads read = λ next. then_leads (leads (λ b. attempt (model_of path b) next)) (attempt_goes held (model_of path bytes) next model read)
+
+pub any_model_err : (old new : FilesState) (path bytes : List ℕ) (r : Result Model Status) → KeepsFiles old new → ((next : List ℕ → Plan) → Leads old.held (read_sized most_bytes path path next) (next bytes))
+    → MatchResult r (λ model. model_of path bytes ≡ Ok model) (λ status. (status ≡ NoMemory) ⊎ (model_of path bytes ≡ Err status))
+    → IfErr r (λ status. (next : Model → Plan) → MayStop old new (read_any_model path next) status)
+any_model_err old new path bytes (Ok model) keeps leads read = tt
+any_model_err old new path bytes (Err e) keeps leads read = λ next. value_stops old new (read_any_model path next) (model_of path bytes) next e keeps (leads (λ b. attempt (model_of path b) next)) read
+
+-- ---- a linked program
+
+same_test : (code : Option Code) → bounds.has_short_code code ≡ has_short_code code
+same_test None = refl
+same_test (Some code) = refl
+
+short_codes : (methods : List LinkedMethod) → list_all (λ m. bounds.has_short_code m.code) methods ≡ list_all (λ m. has_short_code m.code) methods
+short_codes methods = ap (λ (f : LinkedMethod → Bool). list_all f methods) (λ i m. same_test m.code i)
+
+pub can_be_judged : (main : List ℕ) (model : Model) (classes : List ClassFile) (p : Program) → LinkedAreBounded → length classes ≤ 1024 → All Holds classes → program_in main model classes ≡ Ok p
+    → HasClassNumbers p × (list_all (λ m. has_short_code m.code) p.methods ≡ true)
+can_be_judged main model classes p law few read e =
+    let bounded = (law classes model.options (slashed main) p few read (linked_is main model classes p e)).0 in
+    (bounded.classes, sym (short_codes p.methods) ∙ bounded.codes)
+
+pub of_judged : (main : List ℕ) (model : Model) (classes : List ClassFile) (p : Program) (r : Result (Vec ℕ Global) Status) → program_in main model classes ≡ Ok p
+    → MatchResult r (λ text. IsTextOf (Judged p) text.items) (λ status. status ≡ NoMemory) → MatchResult r (λ text. IsVerdictOf main model classes text.items) (IsUnjudged main model classes)
+of_judged main model classes p (Ok text) linked made = record { program = p; is_program = linked; is_text = made }
+of_judged main model classes p (Err status) linked made = inl made
+
+-- ---- the plan
+
+pub verify_ok : (old mid new : FilesState) (folder path main : List ℕ) (model : Model) (paths : List (List ℕ)) (classes : List ClassFile) (r : Result (Vec ℕ Global) Status) → KeepsFiles old mid
+    → ((next : Model → Plan) → Leads old.held (read_any_model path next) (next model)) → ((next : List (List ℕ) → List ClassFile → Plan) → Leads mid.held (read_folder folder next) (next paths classes))
+    → MatchResult r (λ text. IsVerdictOf main model classes text.items) (IsUnjudged main model classes) → IfOk r (λ text. MayGive old.held old.faults new.faults (verify_plan folder path main) (Ok text.items))
+verify_ok old mid new folder path main model paths classes (Err e) keeps modeled found made = tt
+verify_ok old mid new folder path main model paths classes (Ok text) keeps modeled found made =
+    let there = then_leads (modeled (λ m. read_folder folder (judge_classes main m))) (rw keeps.held at (found (judge_classes main model))) in
+    (then_leads there (attempt_goes old.held (program_in main model classes) (λ p. Write (Judged p)) made.program made.is_program)).to old.faults new.faults (Ok text.items) (text.items, made.is_text, refl)
+
+pub verify_err : (old mid new : FilesState) (folder path main : List ℕ) (model : Model) (paths : List (List ℕ)) (classes : List ClassFile) (r : Result (Vec ℕ Global) Status) → KeepsFiles old mid → KeepsFiles mid new
+    → ((next : Model → Plan) → Leads old.held (read_any_model path next) (next model)) → ((next : List (List ℕ) → List ClassFile → Plan) → Leads mid.held (read_folder folder next) (next paths classes))
+    → MatchResult r (λ text. IsVerdictOf main model classes text.items) (IsUnjudged main model classes) → IfErr r (λ status. MayStop old new (verify_plan folder path main) status)
+verify_err old mid new folder path main model paths classes (Ok text) keeps more modeled found made = tt
+verify_err old mid new folder path main model paths classes (Err status) keeps more modeled found made =
+    let there = then_leads (modeled (λ m. read_folder folder (judge_classes main m))) (rw keeps.held at (found (judge_classes main model))) in
+    value_stops old new (verify_plan folder path main) (program_in main model classes) (λ p. Write (Judged p)) status (keeps_then keeps more) there made
+
+-- ---- one verdict
+
+-- the first method that has no typing is one
+one_verdict : (p : Program) (v w : Verdict) → IsVerdict p v → IsVerdict p w → verdict_text p v ≡ verdict_text p w
+one_verdict p Yes Yes h k = refl
+one_verdict p Yes (No m) h k = absurd (k.untyped (h m.0))
+one_verdict p (No m) Yes h k = absurd (h.untyped (k m.0))
+one_verdict p (No m) (No n) h k = by (cases_lt m.0 n.0) (cases_lt n.0 m.0)
+  where
+    by : (m.0 < n.0) ⊎ (n.0 ≤ m.0) → (n.0 < m.0) ⊎ (m.0 ≤ n.0) → verdict_text p (No m) ≡ verdict_text p (No n)
+    by (inl l) o = absurd (h.untyped (k.earlier m.0 l))
+    by (inr l) (inl o) = absurd (k.untyped (h.earlier n.0 o))
+    by (inr l) (inr o) = let same : m.0 ≡ n.0 = omega (arith, l, o) in ap (refused_text p) same
+
+pub one_verdict_text : (p : Program) (one other : List ℕ) → IsVerdictText p one → IsVerdictText p other → one ≡ other
+one_verdict_text p one other h k = h.2 ∙ one_verdict p h.0 k.0 h.1 k.1 ∙ sym k.2

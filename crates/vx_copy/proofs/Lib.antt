@@ -1,0 +1,2 @@
+mod ClonedLeaves
+mod CloneRows

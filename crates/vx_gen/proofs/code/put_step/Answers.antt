@@ -1,0 +1,6 @@
+use Rattle.std.proofs.Common.{refl}
+use Rattle.vx_gen.proofs.Loops.{four}
+use Rattle.vx_gen.proofs.code.put_step.Goals as goal
+
+pub returns : goal.returns
+returns c = four _ _ _ _ _ _ _ _ _ _ c.in_ok-push.ensures.items c.in_ok-put_constant.ensures c.in_ok-put_naming.ensures c.in_ok-extend_from_slice.ensures.items refl

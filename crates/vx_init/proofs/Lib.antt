@@ -1,0 +1,6 @@
+pub mod RiseLaws
+pub mod BeginLaws
+pub mod ChainLaws
+pub mod ClimbLaws
+pub mod MarkLaws
+pub mod PartLaws

@@ -1,0 +1,5 @@
+use Rattle.vx_verify.proofs.Sweeps.{IsSweeping}
+use Rattle.vx_verify.proofs.inference.Inference.sweep.Given as goal
+
+abbrev pub invariant-loop-at : goal.invariant-loop-at
+invariant-loop-at l = IsSweeping l.subject l.self l.at l.found

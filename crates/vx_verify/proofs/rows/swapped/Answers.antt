@@ -1,0 +1,18 @@
+use Rattle.std.proofs.lemmas.Result.{IfOk-weaker}
+use Rattle.vx_verify.proofs.MadeLaws.{on_again}
+use Rattle.vx_verify.proofs.StoreLaws.{are_types_kept}
+use Rattle.vx_verify.proofs.rows.swapped.Goals as goal
+
+pub on_top-requires-2-clause-store : goal.on_top-requires-2-clause-store
+on_top-requires-2-clause-store c = c.in_ok-lower.ensures.later.store
+
+pub on_top-requires-2-clause-tops : goal.on_top-requires-2-clause-tops
+on_top-requires-2-clause-tops c = are_types_kept c.args.store.now c.on_top.new.store c.args.under.now c.in_ok-lower.ensures.later.types c.requires.under
+
+pub on_top-requires-2-clause-under : goal.on_top-requires-2-clause-under
+on_top-requires-2-clause-under c = c.in_ok-lower.ensures.within
+
+pub returns : goal.returns
+returns c =
+    IfOk-weaker c.on_top-2.result _ _
+    (λ stack h. on_again c.args.store.now c.on_top.new.store _ c.args.under.now c.in_ok-lower.lower stack _ c.requires.under c.in_ok-lower.ensures h) c.on_top-2.ensures

@@ -1,0 +1,17 @@
+use Rattle.std.proofs.Common.{arith}
+use Rattle.vx_verify.proofs.VerdictLaws.{all_verified, first_untyped, typed_more}
+use Rattle.vx_verify.proofs.verdict.verdict_of.Goals as goal
+
+pub loop-place-init : goal.loop-place-init
+loop-place-init c = λ m l. absurd (omega (arith, l))
+
+pub returns-then-not-typed : goal.returns-then-not-typed
+returns-then-not-typed c =
+    first_untyped c.args.program.now c.loop-place.place c.in_ok-number.number c.in_ok-number.ensures c.loop-place.invariant (rw c.if-not-typed.true at c.in_ok-typed.ensures)
+
+pub loop-place-preserved : goal.loop-place-preserved
+loop-place-preserved c =
+    typed_more c.args.program.now c.loop-place.place c.in_ok-number.number c.in_ok-number.ensures c.loop-place.invariant (rw c.if-not-typed.false at c.in_ok-typed.ensures)
+
+pub returns : goal.returns
+returns c = all_verified c.args.program.now (λ m l. c.loop-place.invariant m (omega (arith, l)))

@@ -1,0 +1,9 @@
+pub mod Typing
+pub mod Verdict
+pub mod Forced
+pub mod Inferred
+pub mod States
+pub mod Moving
+pub mod Joining
+pub mod Inference
+pub mod Ranks

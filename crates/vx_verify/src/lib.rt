@@ -1,0 +1,11 @@
+//! The verifier: whether each method of a program has a typing, by inference (JVMS 4.10.2). Stack map tables are not looked at.
+#![tactic(auto)]
+
+mod inference;
+mod ranks;
+mod rows;
+mod start;
+mod store;
+mod verdict;
+
+pub use verdict::{Verdict, verify};

@@ -1,0 +1,80 @@
+//! The verdict over a program.
+
+ghost use Rattle.std.specs.Bool.{MatchBool};
+ghost use Rattle.std.specs.List.{list_all};
+ghost use Rattle.std.specs.Prelude.{◌≡◌, IfOk, option_copied, true};
+ghost use Rattle.vx_java.specs.Ids.{HasClassNumbers};
+ghost use Rattle.vx_link.specs.Parts.{method_at};
+ghost use Rattle.vx_verify.specs.Typing.{IsTyped};
+ghost use Rattle.vx_verify.specs.Verdict.{CanBeTyped, IsVerdict, has_short_code};
+
+use crate::inference::is_typed;
+use crate::ranks::{are_ranked, ranks_of};
+use std::alloc::{AllocError, Global};
+use vx_class::Code;
+use vx_link::Program;
+use vx_numbered::next_number;
+use vx_value::MethodId;
+
+/// Whether each method of a program has a typing.
+#[derive(Clone, Copy, Debug, PartialEq, Eq)]
+pub enum Verdict {
+    Yes,
+    /// The first method, by its number, that has none.
+    No { method: MethodId },
+}
+
+/// Whether a method has no code, or code that has a typing.
+fn is_method_typed(alloc: Global, program: &Program, method: MethodId) -> Result<bool, AllocError>
+    requires { CanBeTyped program.now }
+    ensures { IfOk result (λ typed. MatchBool typed (IsTyped program.now method.0) (¬ IsTyped program.now method.0)) }
+{
+    match code_of(program, method) {
+        Some(code) => is_typed(alloc, program, method, code),
+        None => Ok(true),
+    }
+}
+
+/// The code of a method, if it has one.
+fn code_of(program: &Program, method: MethodId) -> Option<&Code>
+    ensures { option_copied result ≡ (method_at program.now method.0).code }
+{
+    match program.method(method) {
+        Some(method) => match &method.code {
+            Some(code) => Some(code),
+            None => None,
+        },
+        None => None,
+    }
+}
+
+/// The verdict over a program whose classes have ranks.
+fn verdict_of(alloc: Global, program: &Program) -> Result<Verdict, AllocError>
+    requires { CanBeTyped program.now }
+    ensures { IfOk result (IsVerdict program.now) }
+{
+    for place in 0..program.methods.len() {
+        let number = next_number(place)?;
+        let method = MethodId(number);
+        let typed = is_method_typed(alloc, program, method)?;
+        if !typed {
+            return Ok(Verdict::No { method });
+        }
+    }
+    Ok(Verdict::Yes)
+}
+
+/// Infers the types of each method that has code, in the order of their numbers. Memory may run out; a verdict is then not given. A
+/// program with a class above itself, which linking refuses, counts as one for which memory lacks.
+pub fn verify(alloc: Global, program: &Program) -> Result<Verdict, AllocError>
+    requires classes { HasClassNumbers program.now }
+    requires codes { list_all (λ m. has_short_code m.code) program.now.methods ≡ true }
+    ensures exact { IfOk result (IsVerdict program.now) }
+{
+    let ranks = ranks_of(alloc, program)?;
+    let ranked = are_ranked(program, &ranks)?;
+    if !ranked {
+        return Err(AllocError);
+    }
+    verdict_of(alloc, program)
+}

@@ -1,0 +1,9 @@
+pub mod Holding
+pub mod Linking
+pub mod MainCode
+pub mod MainPool
+pub mod Modeling
+pub mod Naming
+pub mod References
+pub mod Stands
+pub mod Walks
