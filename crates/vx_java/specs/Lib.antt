@@ -19,6 +19,7 @@ pub mod Throwing
 pub mod Texts
 pub mod Library
 pub mod Natives
+pub mod NativeForms
 pub mod Step
 pub mod Lockstep
 pub mod Report

@@ -11,5 +11,6 @@ mod instances;
 mod making;
 
 pub use attempting::attempt;
+pub use comparing::same_slots;
 pub use constructing::object_init;
 pub use family::is_of_objects;

@@ -1,15 +1,16 @@
 -- Finding a text among texts, and putting one behind them.
-use Rattle.std.proofs.Common.{◌≡◌, ℕ, suc, ◌+◌, ◌<◌, ◌||◌, ◌⊎◌, List, [], ◌∷◌, ◌++◌, map, refl, ap, sym, ◌∙◌, Bool, true, false, not, cond, position, Some, None, length, get_or, arith, bytes_eq, true≢false, if◌then◌else◌, inl, inr, Result, Ok, Err, OnOk, OnErr, subst}
+use Rattle.std.proofs.Common.{◌≡◌, ℕ, suc, ◌+◌, ◌<◌, ◌≤◌, ◌^◌, ◌||◌, ◌⊎◌, List, [], ◌∷◌, ◌++◌, map, refl, ap, sym, ◌∙◌, Bool, true, false, not, cond, position, Option, Some, None, unwrap_or, length, get_or, arith, bytes_eq, true≢false, if◌then◌else◌, inl, inr, Result, Ok, Err, OnOk, OnErr, subst}
 use Rattle.std.specs.List.{list_any, position_or_len}
 use Rattle.std.proofs.lemmas.List.{length-map, map-append, length-append, get_or_append_left}
 use Rattle.std.proofs.Math.Seq.{get_or-append_seam}
 use Rattle.std.proofs.lemmas.List.Sums.{prefix_len-le-length, fails_before_first}
 use Rattle.std.proofs.lemmas.List.Quantifiers.{position-Some}
+use Rattle.std.proofs.lemmas.Bool.{cases_lt}
 use Rattle.std.proofs.lemmas.Grind.{common_steps}
-use Rattle.std.proofs.lemmas.Option.{unwrap_or-slice_get}
+use Rattle.std.proofs.lemmas.Option.{slice_get_past, unwrap_or-slice_get}
 use Rattle.std.proofs.Math.Nat.{eq-or-lt_of_le}
 use Rattle.std.proofs.lemmas.Slice.Eq.{bytes_eq-Decides}
-use Rattle.vx_value.specs.Texts.{AreDistinct, Extends, IsNumber, number_of, text_at}
+use Rattle.vx_value.specs.Texts.{AreDistinct, AreShort, Extends, IsNumber, number_of, text_at}
 
 -- ---- texts as what some keys hold
 
@@ -42,6 +43,13 @@ module _ {K : Type 0} (h : K → List ℕ) (units : List ℕ) where
 
 text-get_or : (texts : List (List ℕ)) (number : ℕ) → text_at texts number ≡ get_or texts number []
 text-get_or texts number = unwrap_or-slice_get texts number []
+
+-- past the last one there is no text
+pub text-past : (texts : List (List ℕ)) (number : ℕ) → length texts ≤ number → text_at texts number ≡ []
+text-past texts number past = ap (λ (o : Option (List ℕ)). unwrap_or o []) (slice_get_past texts number past)
+
+pub none-short : AreShort []
+none-short number = subst (λ (units : List ℕ). length units < 2 ^ 31) (sym (text-past [] number (omega arith))) (omega arith)
 
 module _ (texts : List (List ℕ)) (units : List ℕ) where
   -- where a text was found it is the text of that place
@@ -97,8 +105,24 @@ module _ (texts : List (List ℕ)) (units : List ℕ) where
         by (inr x) (inl y) = absurd (is_new a x (sym (earlier a x) ∙ e ∙ its_text b y))
         by (inr x) (inr y) = distinct a b x y (sym (earlier a x) ∙ e ∙ earlier b y)
 
+    -- and short, if it is
+    last-short : length units < 2 ^ 31 → AreShort texts → AreShort (texts ++ units ∷ [])
+    last-short few short number = by (cases_lt number (length texts)) (cases_lt (length texts) number)
+      where
+        by : (number < length texts) ⊎ (length texts ≤ number) → (length texts < number) ⊎ (number ≤ length texts) → length (text_at (texts ++ units ∷ []) number) < 2 ^ 31
+        by (inl known) _ = rw (earlier number known) (short number)
+        by (inr past) (inl behind) = rw (text-past (texts ++ units ∷ []) number (omega (arith, behind, length-append texts (units ∷ [])))) (omega arith)
+        by (inr past) (inr last) =
+            let same : number ≡ length texts = omega (arith, past, last) in
+            rw (same, last-text.text) few
+
     -- whether it was put or not
     pub put-distinct : {A E : Type 0} (r : Result A E) (after : List (List ℕ)) → OnOk r (after ≡ texts ++ units ∷ []) → OnErr r (after ≡ texts)
         → AreDistinct texts → AreDistinct after
     put-distinct (Ok _) after ok err distinct = subst AreDistinct (sym ok) (last-distinct distinct)
     put-distinct (Err _) after ok err distinct = subst AreDistinct (sym err) distinct
+
+    pub put-short : {A E : Type 0} (r : Result A E) (after : List (List ℕ)) → OnOk r (after ≡ texts ++ units ∷ []) → OnErr r (after ≡ texts)
+        → length units < 2 ^ 31 → AreShort texts → AreShort after
+    put-short (Ok _) after ok err few short = subst AreShort (sym ok) (last-short few short)
+    put-short (Err _) after ok err few short = subst AreShort (sym err) short

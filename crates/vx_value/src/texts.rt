@@ -2,7 +2,7 @@
 
 ghost use Rattle.std.specs.Prelude.{◌≡◌, ◌<◌, ◌^◌, [], ◌∷◌, ◌++◌, length, bytes_eq, position, IfOk, IfSome, OnOk, OnErr};
 ghost use Rattle.std.proofs.Props.{props};
-ghost use Rattle.vx_value.specs.Texts.{AreDistinct, Extends, IsNumber, number_of, text_at, with_text};
+ghost use Rattle.vx_value.specs.Texts.{AreDistinct, AreShort, Extends, IsNumber, number_of, text_at, with_text};
 
 use indexmap::IndexSet;
 use std::alloc::{AllocError, Global};
@@ -38,6 +38,10 @@ impl Texts {
         self.listed.len()
     }
 
+    fn allocator(&self) -> Global {
+        *self.listed.allocator()
+    }
+
     fn place_of(&self, units: &[u16]) -> Option<usize>
         ensures place { result ≡ position (bytes_eq units.now) self.now }
         ensures within { IfSome result (λ place. place < length self.now) }
@@ -63,11 +67,16 @@ impl Texts {
     }
 }
 
-/// A table of texts, each there once: the number of a text is its place. So numbers are equal exactly where their texts are.
+/// The most UTF-16 units of a text: so an int counts them.
+const MOST_UNITS: usize = 2_147_483_647;
+
+/// A table of texts, each there once: the number of a text is its place. So numbers are equal exactly where their texts are. No text has
+/// more units than an int can count.
 #[derive(Drop)]
 pub struct TextTable {
     pub texts: Texts,
     pub ghost distinct: { AreDistinct texts } by { Prim.hlevel props },
+    pub ghost short: { AreShort texts } by { Prim.hlevel props },
 }
 
 impl TextTable {
@@ -89,7 +98,7 @@ impl TextTable {
     }
 
     /// The number of a text, which is put behind the others unless it is there already. Earlier numbers keep their texts. A
-    /// known text takes no memory; after an error the texts are as they were.
+    /// known text takes no memory; for a text of 2^31 units or more there is none. After an error the texts are as they were.
     pub fn put(&mut self, units: &[u16]) -> Result<u64, AllocError>
         ensures number { IfOk result (λ number. number ≡ number_of self.old.texts units.now) }
         ensures texts { OnOk result (self.new.texts ≡ with_text self.old.texts units.now) }
@@ -100,11 +109,28 @@ impl TextTable {
         match self.texts.place_of(units) {
             Some(place) => Ok(place as u64),
             None => {
+                if units.len() > MOST_UNITS {
+                    return Err(AllocError);
+                }
                 let place = self.texts.len();
                 self.texts.push(units)?;
                 Ok(place as u64)
             }
         }
+    }
+
+    /// The number of the text that a known number has with units behind it, as by `put` of the whole text.
+    pub fn append(&mut self, number: u64, units: &[u16]) -> Result<u64, AllocError>
+        requires { number < length self.old.texts }
+        ensures number { IfOk result (λ appended. appended ≡ number_of self.old.texts (text_at self.old.texts number ++ units.now)) }
+        ensures texts { OnOk result (self.new.texts ≡ with_text self.old.texts (text_at self.old.texts number ++ units.now)) }
+        ensures text { IfOk result (λ appended. IsNumber self.new.texts appended (text_at self.old.texts number ++ units.now)) }
+        ensures extends { Extends self.old.texts self.new.texts }
+        ensures err { OnErr result (self.new.texts ≡ self.old.texts) }
+    {
+        let mut text = Vec::from_slice(self.texts.allocator(), self.text(number))?;
+        text.extend_from_slice(units)?;
+        self.put(&text)
     }
 
     /// The text of a known number. Takes no memory.

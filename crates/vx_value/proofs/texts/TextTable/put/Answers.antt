@@ -1,5 +1,5 @@
-use Rattle.std.proofs.Common.{sym, ◌∙◌}
-use Rattle.vx_value.proofs.Numbering.{absent-number, found-text, put-distinct, last-extends, last-text}
+use Rattle.std.proofs.Common.{◌<◌, ◌^◌, arith, length, sym, ◌∙◌}
+use Rattle.vx_value.proofs.Numbering.{absent-number, found-text, put-distinct, put-short, last-extends, last-text}
 use Rattle.vx_value.proofs.texts.TextTable.put.Goals as goal
 
 pub returns-in-Some-clause-text : goal.returns-in-Some-clause-text
@@ -11,6 +11,7 @@ push-requires c = absent-number _ _ (sym c.in-None.ensures.place)
 pub invariant_of-self : goal.invariant_of-self
 invariant_of-self c = record {
   distinct = put-distinct _ _ (sym c.in-None.ensures.place) c.push.result c.push.new.self c.push.ensures.ok c.push.ensures.err c.args.self.now.distinct;
+  short = put-short _ _ (sym c.in-None.ensures.place) c.push.result c.push.new.self c.push.ensures.ok c.push.ensures.err (omega arith) c.args.self.now.short;
 }
 
 pub returns-in_ok-push-in-None-clause-number : goal.returns-in_ok-push-in-None-clause-number
