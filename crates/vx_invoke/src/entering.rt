@@ -1,6 +1,6 @@
 //! What comes of the part of a group in which a call comes to one thing.
 
-ghost use Rattle.std.specs.Prelude.{IfOk, []};
+ghost use Rattle.std.specs.Prelude.{IfOk};
 ghost use Rattle.vx_frames.specs.Giving.{GivesIn};
 ghost use Rattle.vx_group.specs.Callers.{Keeps};
 ghost use Rattle.vx_group.specs.Group.{IsGroupIn};
