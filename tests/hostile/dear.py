@@ -34,8 +34,7 @@ BOUNDS = {
     'class file: method types of one long descriptor': 21, 'class file: static fields': 45, 'class file: instance fields': 90,
     'class file: native methods': 50, 'class file: methods': 18, 'class file: constant values': 30, 'class file: jumps to the end': 20,
     'class file: table switches': 11, 'class file: lookup switches': 7, 'class file: catch rows': 50, 'class file: jumps that run': 1.5,
-    'folder: interfaces in diamonds': 5, 'folder: interfaces in diamonds, and a blocking one': 5,
-    'folder: a cycle at the end of a chain': 6, 'folder: long lists of interfaces, and a cycle': 5,
+    'folder: long lists of interfaces, and a cycle': 5,
     'model: one long conjunction': 3, 'model: one long disjunction': 4, 'model: rules of pairs': 2.5, 'model: nested rules': 1.5,
     'clauses: clauses of pairs': 3.5, 'clauses: one long clause': 4.5, 'clauses: clauses of one literal': 2,
     'source: jumps and labels': 4.5, 'source: jumps to the last label': 13, 'source: fields': 21, 'source: methods': 10,
@@ -43,10 +42,8 @@ BOUNDS = {
     'project: pieces of one stream': 45, 'project: nodes': 8, 'interact: one long text': 10, 'interact: nodes': 10,
     'agree: one long text': 20, 'agree: pieces of both streams': 30, 'agree: nodes': 30}
 
-WALKS = 'a walk over superinterfaces comes to each as often as there are ways to it'
-KNOWN = {
-    'folder: interfaces in diamonds': WALKS, 'folder: interfaces in diamonds, and a blocking one': WALKS,
-    'folder: long lists of interfaces, and a cycle': 'where some class is above itself, each class takes rounds over all lists'}
+# Those that are known to be too dear, and why.
+KNOWN = {}
 
 
 class Dear(NamedTuple):

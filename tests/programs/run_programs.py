@@ -1,8 +1,6 @@
 """Runs the programs beside this file with varexj, and compares each configuration with what a Java machine did there.
 
     python3 run_programs.py VAREXJ
-
-A program that is refused with status 20 (not yet) passes where not_yet.txt names it, and one that not_yet.txt names has to be refused so.
 """
 
 import os
@@ -14,12 +12,6 @@ import tempfile
 import programs
 
 LIMIT = '1000000'
-NOT_YET = 20
-
-
-def waiting():
-    with open(os.path.join(programs.HERE, 'not_yet.txt')) as file:
-        return set(file.read().split())
 
 
 def called(varexj, *words):
@@ -44,34 +36,28 @@ def differences(varexj, name, report):
 
 
 def judged(varexj, name, folder):
-    """What is wrong with a program, or nothing; and whether it is refused as not yet."""
+    """What is wrong with a program, or nothing."""
     done = called(varexj, 'run', programs.place(name, 'classes'), programs.place(name, 'model'), programs.MAIN, LIMIT, '1')
-    if done.returncode == NOT_YET:
-        return None, True
     if done.returncode != 0:
-        return f'status {done.returncode}: {done.stderr.decode()}', False
+        return f'status {done.returncode}: {done.stderr.decode()}'
     report = os.path.join(folder, name)
     with open(report, 'wb') as file:
         file.write(done.stdout)
     found = differences(varexj, name, report)
-    return (f'differs at {" ".join(found[:4])} and {max(0, len(found) - 4)} more' if found else None), False
+    return f'differs at {" ".join(found[:4])} and {max(0, len(found) - 4)} more' if found else None
 
 
 def main(varexj):
-    listed, passed, failed, later = waiting(), 0, 0, 0
+    passed, failed = 0, 0
     with tempfile.TemporaryDirectory() as folder:
         for name in programs.programs():
-            wrong, is_refused = judged(varexj, name, folder)
-            if wrong is None and is_refused != (name in listed):
-                wrong = 'not yet' if is_refused else 'runs, and not_yet.txt names it'
+            wrong = judged(varexj, name, folder)
             if wrong:
                 failed += 1
                 print(f'{name}: {wrong}')
-            elif is_refused:
-                later += 1
             else:
                 passed += 1
-    print(f'programs: {passed} passed, {failed} failed, {later} not yet')
+    print(f'programs: {passed} passed, {failed} failed')
     return 1 if failed else 0
 
 

@@ -5,7 +5,7 @@
 Loops: a row has the rounds that were made (by the report), seconds, and microseconds a round, without the time of starting
 and reading, which is that of a run with a small limit. Whole programs: the same, with starting and reading. Each time is
 the least of three. With --count (valgrind is needed) a row also has the instructions of a round, which are the same each
-time; of a whole program, those of the run in millions. A program that isn't built yet says its status.
+time; of a whole program, those of the run in millions. A program that is refused says its status.
 """
 
 import argparse
