@@ -1,0 +1,2 @@
+mod CellCounts
+mod Laws

@@ -1,0 +1,2 @@
+mod Laws
+pub mod GoingOn

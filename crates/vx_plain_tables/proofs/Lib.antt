@@ -1,0 +1,4 @@
+mod TableLaws
+mod CellLaws
+pub mod Named
+pub mod Short
