@@ -7,7 +7,7 @@ In README.md, CONTRIBUTING.md and docs/*.md each of these has to be there:
 - the file of a relative link;
 - a path: what begins with a crate, with a folder at the top, or with `specs/`, `src/`, `proofs/` or `must-fail/` (of some crate).
   The ending .rt or .antt may be left out, and a star stands for any letters;
-- a word in backquotes: in the crates, in crates.txt, or in a script;
+- a word in backquotes: in the crates, in crates.txt, in a script, or in a Java source of the tests;
 - words in backquotes behind a crate and a colon: in that crate;
 - words in backquotes in the last column of a table that has crates in its first column: in one of those crates;
 - the words behind a .rt file in a block of code: as functions or types of that file.
@@ -34,7 +34,8 @@ def read(path):
 def files_at(*patterns):
     found = [path for pattern in patterns
              for path in glob.glob(pattern, root_dir=TOP, recursive=True)]
-    return [path for path in found if os.path.isfile(os.path.join(TOP, path))]
+    # What was built is no source.
+    return [path for path in found if os.path.isfile(os.path.join(TOP, path)) and 'out' not in path.split('/')]
 
 
 def words_in(paths):
@@ -62,7 +63,7 @@ class Sources:
     def __init__(self):
         self.crates = all_crates()
         self.words = {crate: words_in(crate_files(crate)) for crate in self.crates}
-        scripts = files_at('crates.txt', '.ci/run', 'examples/**/*', 'tests/**/*.py')
+        scripts = files_at('crates.txt', '.ci/run', 'examples/**/*', 'tests/**/*.py', 'tests/**/src/*.java')
         self.all_words = words_in(scripts).union(*self.words.values()) | ELSEWHERE
         self.top = {name for name in os.listdir(TOP) if os.path.isdir(os.path.join(TOP, name))}
 

@@ -1,8 +1,10 @@
 """Makes each allocation of the C library fail in turn, by itself and then with all that follow it.
 
-    python3 tests/hostile/allocations.py VAREXJ
+    python3 tests/hostile/allocations.py VAREXJ [SECONDS]
 
-A call ends with status 1 (no memory) and writes nothing, or it ends as it does where nothing fails. gcc is needed.
+A call ends with status 1 (no memory) and writes nothing, or it ends as it does where nothing fails. gcc is needed. A dozen runs of
+each command are tried, each for some SECONDS, which are one and a half where they aren't given. A run that has more allocations
+than can be tried in that time has those tried that are evenly spread over it.
 """
 
 import os
@@ -11,20 +13,16 @@ import sys
 import tempfile
 from concurrent.futures import ThreadPoolExecutor
 
+import runs
 import trying
 
-# So many of a run's allocations fail by themselves, and so many with all that follow; where there are more, they are evenly spread.
-MOST_ALONE = 5000
-MOST_WITH_REST = 300
+SECONDS_A_RUN = 1.5
+# Of the time of a run, the part in which one allocation fails with all that follow.
+PART_WITH_REST = 0.1
+LEAST_TRIES = 10
 SECONDS = 60
 FOREVER = 1 << 40
 NO_MEMORY = (1, b'', b'no memory\n')
-
-CASES = [
-    'print-an-option', 'dimacs-model', 'equal-pairs-4-options', 'attempts-by-branch', 'remainder-by-zero', 'shop', 'rule-without-operand',
-    'no-configuration', 'class-zero-byte-in-text', 'link-class-twice', 'folder-absent', 'limit-zero', 'project-option-on',
-    'project-not-allowed', 'report-other-numbering', 'assemble-class-with-option', 'assemble-version-52', 'source-unknown-label',
-    'interact-one-option', 'interact-two-options', 'agree-in-one-branch', 'agree-unlike']
 
 # It counts the allocations from the start of the program on, in a file that the script reads, and refuses those between two numbers.
 LIBRARY = r'''
@@ -73,11 +71,11 @@ int posix_memalign(void **block, size_t align, size_t size) {
 
 
 class Call:
-    """A worked case that is called again and again, each time with other allocations refused."""
+    """A run that is called again and again, each time with other allocations refused."""
 
-    def __init__(self, varexj, name, place, preloaded):
-        self.words = [varexj, *trying.case_words(name)]
-        self.folder = trying.case_folder(name, place)
+    def __init__(self, varexj, run, place, preloaded):
+        self.words = [varexj, *run.words]
+        self.folder = run.folder(place)
         self.preloaded = preloaded
 
     def with_refused(self, first, last):
@@ -98,6 +96,13 @@ def numbers(total, most):
     return [1 + i * (total - 1) // (most - 1) for i in range(most)]
 
 
+def ranges(total, most):
+    """What is refused in each try: one allocation, or one with all that follow."""
+    with_rest = max(LEAST_TRIES, int(most * PART_WITH_REST))
+    alone = [(first, first) for first in numbers(total, max(LEAST_TRIES, most - with_rest))]
+    return alone + [(first, FOREVER) for first in numbers(total, with_rest)]
+
+
 def problem(ended, whole, asked, first):
     if asked < first:
         return f'the allocation was not asked for: {asked} were'
@@ -106,31 +111,30 @@ def problem(ended, whole, asked, first):
     return f'{ended.told()}; without a failure {whole.told()}'
 
 
-def try_case(call, name, tally, pool):
+def try_run(call, name, seconds, tally, pool):
     whole, total = call.with_refused(0, 0)
-    ranges = [(first, first) for first in numbers(total, MOST_ALONE)] + [(first, FOREVER) for first in numbers(total, MOST_WITH_REST)]
-    answers = pool.map(lambda refused: call.with_refused(*refused), ranges)
+    tries = ranges(total, int(seconds * os.cpu_count() / whole.seconds))
+    answers = pool.map(lambda refused: call.with_refused(*refused), tries)
     refusals = 0
-    for (first, last), (ended, asked) in zip(ranges, answers):
+    for (first, last), (ended, asked) in zip(tries, answers):
         what = 'only' if last == first else 'and all that follow'
         tally.judge(f'{name}, allocation {first} {what}', problem(ended, whole, asked, first))
         refusals += ended.status == NO_MEMORY[0]
-    print(f'{name}: {total} allocations, {len(ranges)} tries, {refusals} without memory', flush=True)
+    print(f'{name}: {total} allocations, {len(tries)} tries, {refusals} without memory', flush=True)
     if total == 0:
         tally.judge(name, 'no allocation was counted: is the program linked with the C library?')
 
 
-def main(varexj):
+def main(varexj, seconds):
     trying.needs('gcc', 'gcc')
     tally = trying.Tally()
-    commands = trying.built_commands(varexj)
     with tempfile.TemporaryDirectory() as place, ThreadPoolExecutor(os.cpu_count()) as pool:
         preloaded = trying.library(LIBRARY, place, 'allocations')
-        for name in CASES:
-            if trying.case_words(name)[0] in commands:
-                try_case(Call(varexj, name, place, preloaded), name, tally, pool)
+        for run in runs.runs(varexj):
+            try_run(Call(varexj, run, place, preloaded), run.name(), seconds, tally, pool)
     return tally.status()
 
 
 if __name__ == '__main__':
-    sys.exit(main(trying.program()))
+    path, given = trying.program_and_word()
+    sys.exit(main(path, float(given or SECONDS_A_RUN)))

@@ -2,9 +2,8 @@
 
     python3 tests/hostile/dear.py VAREXJ [WORD]
 
-With WORD only the inputs whose names have it. Times are seconds of the processor. Each input has a bound in BOUNDS, of three times what was
-measured, and of half a second at least; the program is stopped there. A class file is to take no more than 0.3 seconds; those that
-take more are told.
+With WORD only the inputs whose names have it. Times are seconds of the processor. Each input has a bound, of three times what was measured, and
+of half a second at least; the program is stopped there. A class file is to take no more than 0.3 seconds; those that take more are told.
 """
 
 import os
@@ -29,24 +28,21 @@ STOPPED = (None, -signal.SIGXCPU, -signal.SIGKILL)
 
 # What has no line has the least bound.
 BOUNDS = {
-    'class file: classes of one long name': 85, 'class file: names and types of one long descriptor': 18,
-    'class file: methods of one long descriptor': 24, 'class file: fields of one long name': 15,
-    'class file: method types of one long descriptor': 21, 'class file: static fields': 45, 'class file: instance fields': 90,
-    'class file: native methods': 50, 'class file: methods': 18, 'class file: constant values': 30, 'class file: jumps to the end': 20,
-    'class file: table switches': 11, 'class file: lookup switches': 7, 'class file: catch rows': 50, 'class file: jumps that run': 1.5,
-    'folder: interfaces in diamonds': 5, 'folder: interfaces in diamonds, and a blocking one': 5,
-    'folder: a cycle at the end of a chain': 6, 'folder: long lists of interfaces, and a cycle': 5,
-    'model: one long conjunction': 3, 'model: one long disjunction': 4, 'model: rules of pairs': 2.5, 'model: nested rules': 1.5,
-    'clauses: clauses of pairs': 3.5, 'clauses: one long clause': 4.5, 'clauses: clauses of one literal': 2,
-    'source: jumps and labels': 4.5, 'source: jumps to the last label': 13, 'source: fields': 21, 'source: methods': 10,
-    'source: numbers': 1, 'project: one long text': 10, 'project: one long text of escapes': 8, 'project: pieces of both streams': 90,
-    'project: pieces of one stream': 45, 'project: nodes': 8, 'interact: one long text': 10, 'interact: nodes': 10,
-    'agree: one long text': 20, 'agree: pieces of both streams': 30, 'agree: nodes': 30}
+    'class file: classes of one long name': 58.5, 'class file: instance fields': 61, 'folder: 32 files of texts': 9.5,
+    'folder: 32 files of static fields': 5.5, 'folder: 32 files of methods': 4, 'folder: 32 files of constant values': 7,
+    'folder: 32 files of jumps to the end': 2.5, 'folder: 32 files of catch rows': 1.5, 'model: rules of pairs': 1,
+    'model: nested rules': 1, 'clauses: clauses of pairs': 1, 'verify: instance fields': 62.5, 'verify: long code': 1,
+    'verify: catch rows': 25.5, 'verify: jumps back': 4, 'source: jumps and labels': 6.5, 'source: jumps to the last label': 16.5,
+    'source: long switches': 1, 'source: fields': 28, 'source: methods': 13.5, 'source: numbers': 1, 'source: strings': 1,
+    'source: members': 1, 'project: one long text': 14.5, 'project: one long text of escapes': 9, 'project: pieces of both streams': 57,
+    'project: pieces of one stream': 53, 'project: nodes': 8.5, 'interact: one long text': 7, 'interact: nodes': 1,
+    'agree: one long text': 15, 'agree: pieces of both streams': 6.5, 'picture: one long text': 7.5, 'picture: pieces of both streams': 7,
+    'picture: pieces under options': 1, 'cover: one long text': 8, 'cover: pieces of both streams': 4.5, 'cover: nodes': 180,
+    'cover: pieces under options': 118, 'explain: one long text': 8.5, 'explain: pieces of both streams': 10, 'explain: nodes': 1,
+    'explain: pieces under options': 2}
 
-WALKS = 'a walk over superinterfaces comes to each as often as there are ways to it'
-KNOWN = {
-    'folder: interfaces in diamonds': WALKS, 'folder: interfaces in diamonds, and a blocking one': WALKS,
-    'folder: long lists of interfaces, and a cycle': 'where some class is above itself, each class takes rounds over all lists'}
+# Those that are known to be too dear, and why.
+KNOWN = {}
 
 
 class Dear(NamedTuple):
@@ -105,6 +101,15 @@ def class_folders():
         yield Dear(f'folder: {name}', files, ['run', 'f', 'model', 'Main', str(READS), '1'], right)
 
 
+def large_folders():
+    """Folders of many class files that are each as dear as one can be."""
+    for kind in dear_classes.MANY:
+        def files(kind=kind):
+            put_text('model', '')
+            put_classes(dear_classes.folder_of(kind))
+        yield Dear(f'folder: {dear_classes.MANY_FILES} files of {kind}', files, ['run', 'f', 'model', 'Main', '100', '1'], ends_as(0, RETURNED))
+
+
 def models():
     """Models of the greatest size, over a main that returns at once."""
     kinds = [('model', 'model', dear_texts.MODELS), ('clauses', 'model.cnf', dear_texts.CNF_MODELS)]
@@ -128,6 +133,52 @@ def reports():
             put_text('report', text)
             wanted.append(out)
         yield Dear(f'project: {name}', files, ['project', 'report', '-'], lambda ended, wanted=wanted: ends_as(0, wanted[0])(ended))
+
+
+def is_verdict(ended):
+    return ended.status == 0 and ended.out.startswith((b'verified\n', b'refused ')) and not ended.err
+
+
+def verdicts():
+    """The class files and the folders verified."""
+    for name, make in {**dear_classes.FILES, **dear_classes.VERIFIED}.items():
+        def files(make=make):
+            put_text('model', '')
+            put_classes({'Main': make()})
+        yield Dear(f'verify: {name}', files, ['verify', 'f', 'model', 'Main'], is_verdict)
+    for name, make in dear_classes.FOLDERS.items():
+        def files(make=make):
+            put_text('model', '')
+            put_classes(make())
+        right = (lambda ended: ended.status == 8 and not ended.out) if 'cycle' in name else is_verdict
+        yield Dear(f'verify: {name}', files, ['verify', 'f', 'model', 'Main'], right)
+
+
+def told(command, front):
+    """Reports of the greatest size, or near it, told of: what is written begins so."""
+    makers = {'one long text': dear_texts.one_long_text, 'pieces of both streams': lambda: dear_texts.many_pieces(1 << 24),
+              'nodes': lambda: dear_texts.many_nodes(14), 'pieces under options': lambda: dear_texts.many_cubes(1 << 22)}
+    for name, make in makers.items():
+        yield Dear(f'{command}: {name}', lambda make=make: put_text('report', make()[0]), [command, 'report'],
+                   lambda ended: ended.status == 0 and ended.out.startswith(front) and not ended.err)
+
+
+def pictures():
+    return told('picture', b'digraph report {\n')
+
+
+def covers():
+    return told('cover', b'varexj cover 1\n')
+
+
+def explanations():
+    return told('explain', b'varexj explain 1\n')
+
+
+def workloads():
+    for options in (1, 32, 64):
+        yield Dear(f'load: {options} options', lambda: None, ['load', '18446744073709551615', str(options)],
+                   lambda ended: ended.status == 0 and ended.out.startswith(b'varexj load 1\n') and not ended.err)
 
 
 def interactions():
@@ -161,8 +212,9 @@ def sources():
 
 
 def all_inputs(commands):
-    kinds = {'run': [class_files, class_folders, models], 'asm': [sources], 'project': [reports], 'interact': [interactions],
-             'agree': [agreements]}
+    kinds = {'run': [class_files, class_folders, large_folders, models], 'verify': [verdicts], 'asm': [sources], 'project': [reports],
+             'interact': [interactions], 'agree': [agreements], 'picture': [pictures], 'cover': [covers], 'explain': [explanations],
+             'load': [workloads]}
     for command, makers in kinds.items():
         if command in commands:
             for maker in makers:
@@ -194,6 +246,4 @@ def main(varexj, word):
 
 
 if __name__ == '__main__':
-    if len(sys.argv) not in (2, 3):
-        sys.exit(__doc__)
-    sys.exit(main(os.path.abspath(sys.argv[1]), sys.argv[2] if len(sys.argv) == 3 else ''))
+    sys.exit(main(*trying.program_and_word()))

@@ -3,11 +3,12 @@
 import struct
 
 import class_files
-from class_files import GETSTATIC, GOTO, ICONST_0, IFEQ, LOOKUPSWITCH, NATIVE, NOP, POP, PUBLIC, RETURN, STATIC, TABLESWITCH, ClassFile
+from class_files import GETSTATIC, GOTO, GOTO_W, ICONST_0, IFEQ, ISTORE, LOOKUPSWITCH, NATIVE, NOP, POP, PUBLIC, RETURN, STATIC, TABLESWITCH, WIDE, ClassFile
 
 MOST_CODE = 65535
 MOST_TEXT = 65535
 MOST_MEMBERS = 65535
+MOST_LOCALS = 65535
 MOST_CLASSES = 1024
 # How many methods with the longest code a file has room for.
 LONG_METHODS = 15
@@ -217,6 +218,31 @@ def jumps_that_run():
     return started(jump * ((MOST_CODE - 1) // 3) + bytes([RETURN] * (1 + (MOST_CODE - 1) % 3)))
 
 
+def jumps_back():
+    """A jump to the last of many, each of which leads to the one in front of it: a sweep from the front reaches one more."""
+    jumps = (MOST_CODE - 6) // 3
+    code = struct.pack('>BiB', GOTO_W, 6 + 3 * (jumps - 1), RETURN) + struct.pack('>Bh', GOTO, -1) + struct.pack('>Bh', GOTO, -3) * (jumps - 1)
+    return started(code)
+
+
+def many_locals():
+    """A store at every second instruction, each to another local variable."""
+    made = ClassFile()
+    stores = b''.join(struct.pack('>BBBH', ICONST_0, WIDE, ISTORE, 5 * number) for number in range(13000))
+    made.main(stores + bytes([RETURN]), 1, MOST_LOCALS)
+    return made
+
+
+def last_local():
+    """A store to the last of the local variables, which stays through all that follow."""
+    made = ClassFile()
+    made.main(struct.pack('>BBBH', ICONST_0, WIDE, ISTORE, MOST_LOCALS - 1) + bytes([NOP] * (MOST_CODE - 6) + [RETURN]), 1, MOST_LOCALS)
+    return made
+
+
+# Those that are dear to verify.
+VERIFIED = {'jumps back': jumps_back, 'many locals': many_locals, 'the last local': last_local}
+
 FILES = {
     'texts': many_texts, 'classes of one long name': classes_of_one_long_name,
     'names and types of one long descriptor': types_of_one_long_descriptor, 'methods of one long descriptor': methods_of_one_long_descriptor,
@@ -317,3 +343,27 @@ FOLDERS = {
     'a chain of superclasses': superclass_chain, 'a chain of interfaces': interface_chain, 'interfaces in diamonds': all_diamonds,
     'interfaces in diamonds, and a blocking one': diamonds_and_a_blocking_interface, 'a cycle at the end of a chain': cycle_at_the_end,
     'long lists of interfaces, and a cycle': long_lists_and_a_cycle}
+
+
+# Kinds of class files of which a folder has many, and how many.
+MANY = ('texts', 'static fields', 'methods', 'constant values', 'jumps to the end', 'catch rows')
+MANY_FILES = 32
+
+
+class Renamed:
+    """A class file with another name of four letters."""
+
+    def __init__(self, data, name):
+        self.data, self.name = data, name
+
+    def bytes(self):
+        own, other = (struct.pack('>BH', 1, 4) + name for name in (b'Main', self.name.encode()))
+        assert self.data.count(own) == 1
+        return self.data.replace(own, other)
+
+
+def folder_of(kind):
+    """Main, which returns at once, and many files that are as dear as those of a kind."""
+    data = FILES[kind]().bytes()
+    names = [f'D{number:03}' for number in range(MANY_FILES)]
+    return {'Main': started(), **{name: Renamed(data, name) for name in names}}

@@ -1,5 +1,7 @@
 """Models, reports and sources that are as dear to read as one file can be, each with what has to come of it."""
 
+import random
+
 MOST_BYTES = 1 << 20
 MOST_REPORT_BYTES = 1 << 28
 OPTIONS = 64
@@ -163,6 +165,24 @@ def many_nodes(bits=20):
     return text, b'out a\nend return\n'
 
 
+def many_cubes(most, seed=1):
+    """A report of about so many bytes: each piece comes where 12 options out of 64 have values that a generator gives."""
+    generator, numbers, lines, pieces, size = random.Random(seed), {}, [], [], 0
+    while size < most:
+        below = 1
+        for option in sorted(generator.sample(range(OPTIONS), 12), reverse=True):
+            parts = (option, 0, below) if generator.random() < 0.5 else (option, below, 0)
+            if parts not in numbers:
+                numbers[parts] = len(numbers) + 2
+                lines.append('node {} {} {} {}'.format(numbers[parts], *parts))
+                size += len(lines[-1]) + 1
+            below = numbers[parts]
+        pieces.append(f'out {below} {len(pieces)}')
+        size += len(pieces[-1]) + 1
+    text = report_front(OPTIONS) + '\n'.join([*lines, *pieces, '']).encode() + END
+    return text, None
+
+
 REPORTS = {
     'one long text': one_long_text, 'one long text of escapes': one_long_escaped_text, 'pieces of both streams': many_pieces,
     'pieces of one stream': many_joined_pieces, 'nodes': many_nodes}
@@ -186,6 +206,17 @@ def jumps_to_the_last_label():
     labels = ''.join(f'L{number}:\n' for number in range(30000))
     jumps = 'goto Last\n' * 10900
     return source([labels + jumps + 'Last:\n'] * 2)
+
+
+def repeated_label_of_long_name():
+    """Jumps to a label of 60,000 bytes, which are looked for again and again."""
+    label = 'a' * 60000
+    return source([f'{label}:\n' + f'goto {label}\n' * 16])
+
+
+def labels_of_long_names():
+    """Labels of 500 bytes that differ in their ends alone, each with a jump."""
+    return source([''.join(f'{"a" * 500}{number}:\ngoto {"a" * 500}{number}\n' for number in range(1000))])
 
 
 def long_switches():
@@ -235,7 +266,8 @@ def no_labels():
 
 # Sources that are assembled, and sources that are refused, with the line that says so.
 SOURCES = {
-    'jumps and labels': jumps_and_labels, 'jumps to the last label': jumps_to_the_last_label, 'long switches': long_switches,
+    'jumps and labels': jumps_and_labels, 'jumps to a long label': repeated_label_of_long_name, 'labels of long names': labels_of_long_names,
+    'jumps to the last label': jumps_to_the_last_label, 'long switches': long_switches,
     'fields': many_fields, 'methods': many_methods, 'numbers': many_numbers, 'strings': many_strings, 'members': many_members,
     'catch rows': many_catch_rows, 'interfaces': many_interfaces, 'one long comment': long_lines}
 BAD_SOURCES = {

@@ -19,6 +19,8 @@ STACK = 512 << 10
 # Bytes of address space, and the seconds of the processor in which they have to be used up.
 MEMORIES = {64 << 20: 20, 256 << 20: 60, 1 << 30: 200}
 NO_MEMORY = (1, b'', b'no memory\n')
+# Folders in each other whose path has fewer than 4,095 bytes.
+DEEPEST = 1900
 OPTIONS = 64
 PAIRS = OPTIONS // 2
 
@@ -38,21 +40,31 @@ def try_cases(varexj, tally, commands):
 
 
 def deep_inputs():
-    """Classes, folders and rules that are as deep as they may be: (name, files, words, what has to come)."""
+    """Classes and folders that are as deep as they may be: (name, files, words, what has to come)."""
     unfinished = b'varexj report 1\noptions 0\nlimit 100\nrounds 100\nend 1 unfinished\ndone\n'
+    returned = b'varexj report 1\noptions 0\nlimit 100\nrounds 1\nend 1 return\ndone\n'
+    run, verify = ['run', 'f', 'model', 'Main', '100', '1'], ['verify', 'f', 'model', 'Main']
     for name in ('a chain of superclasses', 'a chain of interfaces'):
         classes = {f'f/{key}.class': made.bytes() for key, made in dear_classes.FOLDERS[name]().items()}
-        yield name, {'model': b'', **classes}, ['run', 'f', 'model', 'Main', '100', '1'], (0, unfinished, b'')
+        yield name, {'model': b'', **classes}, run, (0, unfinished, b'')
+        yield f'{name}, verified', {'model': b'', **classes}, verify, (0, b'verified\n', b'')
     cycle = {f'f/{key}.class': made.bytes() for key, made in dear_classes.cycle_at_the_end().items()}
-    yield 'a cycle at the end of a chain', {'model': b'', **cycle}, ['run', 'f', 'model', 'Main', '100', '1'], (8, b'', b'cycle C1021\n')
+    yield 'a cycle at the end of a chain', {'model': b'', **cycle}, run, (8, b'', b'cycle C1021\n')
+    deep = {'model': b'', 'f/' + 'd/' * DEEPEST + 'Main.class': dear_classes.started().bytes()}
+    yield f'folders {DEEPEST} deep', deep, run, (0, returned, b'')
+    yield f'folders {DEEPEST} deep, verified', deep, verify, (0, b'verified\n', b'')
 
 
-def try_deep_inputs(varexj, tally):
+def try_deep_inputs(varexj, tally, commands):
     for name, files, words, wanted in deep_inputs():
+        if words[0] not in commands:
+            continue
         with tempfile.TemporaryDirectory() as folder:
             for path, data in files.items():
                 trying.write(os.path.join(folder, path), data)
             ended = trying.called([varexj, *words], folder, preexec_fn=limited(resource.RLIMIT_STACK, STACK))
+            # Python itself can't remove folders that are so deep.
+            subprocess.run(['rm', '-rf', os.path.join(folder, 'f')], check=True)
         tally.judge(f'{name}, with a stack of 512 KiB', None if ended[:3] == wanted else ended.told())
 
 
@@ -96,24 +108,66 @@ def exploding(varexj, folder):
     yield 'a program', 'model', model, program
 
 
+def report_of(nodes, pieces, ends):
+    """A report over all options, with these lines."""
+    front = ['varexj report 1', f'options {OPTIONS}', *(f'option o{i}' for i in range(OPTIONS)), 'limit 100', 'rounds 1']
+    return '\n'.join([*front, *nodes, *pieces, *ends, 'done', '']).encode()
+
+
+def each_where_on(first):
+    """A report with 32 pieces, each of another character, that come where each option from the first on is on."""
+    nodes = [f'node {2 + i} {first + i} 0 1' for i in range(PAIRS)]
+    return report_of(nodes, [f'out {2 + i} {chr(48 + i)}' for i in range(PAIRS)], ['end 1 return'])
+
+
+def ends_of_pairs():
+    """A report with 32 ends, each where an option and the one 32 behind it are on; each configuration may have many."""
+    nodes = [f'node {2 + 2 * i} {i + PAIRS} 0 1\nnode {3 + 2 * i} {i} 0 {2 + 2 * i}' for i in range(PAIRS)]
+    return report_of(nodes, [], [f'end {3 + 2 * i} exit {i}' for i in range(PAIRS)])
+
+
+# Reports whose sets explode where they are put together: (words, the files).
+EXPLODING_REPORTS = [
+    (['agree', 'one', 'other'], {'one': lambda: each_where_on(0), 'other': lambda: each_where_on(PAIRS)}),
+    (['cover', 'one'], {'one': ends_of_pairs}), (['explain', 'one'], {'one': ends_of_pairs})]
+
+
+def try_in_memories(varexj, words, name, tally, folder):
+    """Calls the program with little memory and with more: it ends without memory, in the seconds that it has."""
+    for most, seconds in MEMORIES.items():
+        ended = trying.measured([varexj, *words], folder, seconds, most)
+        print(f'{name} in {most >> 20} MiB: {ended.seconds:.1f} s of {seconds}', flush=True)
+        tally.judge(f'{name} in {most >> 20} MiB', None if ended[:3] == NO_MEMORY else ended.told())
+
+
+def try_exploding_reports(varexj, tally, commands):
+    for words, files in EXPLODING_REPORTS:
+        if words[0] in commands:
+            with tempfile.TemporaryDirectory() as folder:
+                for path, make in files.items():
+                    trying.write(os.path.join(folder, path), make())
+                try_in_memories(varexj, words, f'{words[0]} of sets that explode', tally, folder)
+
+
 def try_exploding(varexj, tally):
     with tempfile.TemporaryDirectory() as folder:
         for name, path, model, made in exploding(varexj, folder):
             trying.write(os.path.join(folder, path), model)
             trying.write(os.path.join(folder, 'f', 'Main.class'), made)
-            for most, seconds in MEMORIES.items():
-                words = [varexj, 'run', 'f', path, 'Main', '100000', '1']
-                ended = trying.measured(words, folder, seconds, most)
-                print(f'{name} that explode in {most >> 20} MiB: {ended.seconds:.1f} s of {seconds}', flush=True)
-                tally.judge(f'{name} that explode in {most >> 20} MiB', None if ended[:3] == NO_MEMORY else ended.told())
+            try_in_memories(varexj, ['run', 'f', path, 'Main', '100000', '1'], f'{name} that explode', tally, folder)
+            if name != 'a program':
+                # Verifying asks for no set of configurations.
+                ended = trying.measured([varexj, 'verify', 'f', path, 'Main'], folder, 1, min(MEMORIES))
+                tally.judge(f'{name} that explode, verified', None if ended[:3] == (0, b'verified\n', b'') else ended.told())
 
 
 def main(varexj):
     tally = trying.Tally()
     commands = trying.built_commands(varexj)
     try_cases(varexj, tally, commands)
-    try_deep_inputs(varexj, tally)
+    try_deep_inputs(varexj, tally, commands)
     try_exploding(varexj, tally)
+    try_exploding_reports(varexj, tally, commands)
     return tally.status()
 
 

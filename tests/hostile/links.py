@@ -27,10 +27,7 @@ NO_OPTION = (8, b'', b'no option A\n')
 NO_MAIN = (8, b'', b'no main\n')
 WITHOUT_OPTIONS = (0, b'varexj report 1\noptions 0\nlimit 100\nrounds 4\nout 1 0\\0a\nend 1 return\ndone\n', b'')
 
-KNOWN = {
-    'an empty folder whose name is not UTF-8':
-        'it should count only where a file stands below it; the toolchain gives such an entry no name and no kind',
-}
+KNOWN = {}
 
 # It removes a file or an empty folder right before the call that opens it or looks at it, and may put a folder in its place.
 LIBRARY = r'''
@@ -83,14 +80,16 @@ def too_large(path, room):
 class Place:
     """A folder with the class file and the model of a worked case, and the folder f, which is empty."""
 
-    def __init__(self, path):
-        self.path = path
+    def __init__(self, varexj, path):
+        self.varexj, self.path = varexj, path
         case = os.path.join(trying.CASES, CASE)
         os.makedirs(self.at('f'))
         shutil.copy(os.path.join(case, 'f', 'Main.class'), self.at('Main.class'))
         shutil.copy(os.path.join(case, 'model'), self.at('model'))
         with open(os.path.join(case, 'stdout'), 'rb') as file:
             self.good = (0, file.read(), b'')
+        with open(os.path.join(case, 'model'), 'rb') as file:
+            self.model = file.read()
 
     def at(self, *parts):
         return os.path.join(self.path, *parts)
@@ -120,6 +119,10 @@ class Try:
 
 def run(folder='f', model='model'):
     return ['run', folder, model, 'Main', '100', '1']
+
+
+def vanishing(call, path, **more):
+    return {'VANISH_CALL': call, 'VANISH_PATH': path, **more}
 
 
 TRIES = []
@@ -223,42 +226,86 @@ def _(place):
     return Try(fault('g'), run('g'))
 
 
-@tried('the model is a link to a file')
-def _(place):
+# What each command reads beside a folder: the words, where the path of a file is given.
+READS = {
+    'run': lambda path: run(model=path), 'verify': lambda path: ['verify', 'f', path, 'Main'], 'asm': lambda path: ['asm', path],
+    'project': lambda path: ['project', path, '-'], 'interact': lambda path: ['interact', path], 'picture': lambda path: ['picture', path],
+    'cover': lambda path: ['cover', path], 'explain': lambda path: ['explain', path], 'agree': lambda path: ['agree', path, 'report'],
+    'agree, the other one': lambda path: ['agree', 'report', path]}
+
+
+def good_file(place, word):
+    """A file that a command can read, and how the command then ends."""
     place.put_class()
-    place.link('m', 'model')
-    return Try(place.good, run(model='m'))
+    place.put('report', place.good[1])
+    data = {'asm': b'class 0021 Main java/lang/Object\n', 'run': place.model, 'verify': place.model}.get(word, place.good[1])
+    place.put('good', data)
+    ended = trying.called([place.varexj, *READS[word]('good')], place.path, SECONDS)
+    assert ended.status == 0, ended.told()
+    return data, ended[:3]
 
 
-@tried('the model is a link in a loop')
-def _(place):
-    place.link('m', 'm')
-    return Try(fault('m'), run(model='m'))
-
-
-for word in ('run', 'project', 'asm'):
+for word in READS:
     @tried(f'a folder in place of the file of {word}')
     def _(place, word=word):
-        return Try(fault('f'), {'run': run(model='f'), 'project': ['project', 'f', '-'], 'asm': ['asm', 'f']}[word])
+        good_file(place, word)
+        return Try(fault('f'), READS[word]('f'))
 
     @tried(f'an empty path as the file of {word}')
     def _(place, word=word):
-        return Try(fault(''), {'run': run(model=''), 'project': ['project', '', '-'], 'asm': ['asm', '']}[word])
+        good_file(place, word)
+        return Try(fault(''), READS[word](''))
 
     @tried(f'a path of 5,000 bytes as the file of {word}')
     def _(place, word=word):
-        path = 'a/' * 2500
-        return Try(fault(path), {'run': run(model=path), 'project': ['project', path, '-'], 'asm': ['asm', path]}[word])
+        good_file(place, word)
+        return Try(fault('a/' * 2500), READS[word]('a/' * 2500))
 
     @tried(f'a name of 256 bytes as the file of {word}')
     def _(place, word=word):
-        path = 'a' * 256
-        return Try(fault(path), {'run': run(model=path), 'project': ['project', path, '-'], 'asm': ['asm', path]}[word])
+        good_file(place, word)
+        return Try(fault('a' * 256), READS[word]('a' * 256))
 
     @tried(f'a word of {word} that is not UTF-8')
     def _(place, word=word):
-        path = b'\xff'
-        return Try((2, b'', b'usage\n'), {'run': run(model=path), 'project': ['project', path, '-'], 'asm': ['asm', path]}[word])
+        return Try((2, b'', b'usage\n'), READS[word](b'\xff'))
+
+    @tried(f'the file of {word} is a link to a link to a file')
+    def _(place, word=word):
+        _data, wanted = good_file(place, word)
+        place.link('second', 'good')
+        place.link('first', 'second')
+        return Try(wanted, READS[word]('first'))
+
+    @tried(f'the file of {word} is a link in a loop')
+    def _(place, word=word):
+        good_file(place, word)
+        place.link('first', 'second')
+        place.link('second', 'first')
+        return Try(fault('first'), READS[word]('first'))
+
+    @tried(f'the file of {word} is a link to nothing')
+    def _(place, word=word):
+        good_file(place, word)
+        place.link('first', 'nothing')
+        return Try(fault('first'), READS[word]('first'))
+
+    @tried(f'the file of {word} is a FIFO')
+    def _(place, word=word):
+        data, wanted = good_file(place, word)
+        os.mkfifo(place.at('pipe'))
+        return Try(wanted, READS[word]('pipe'), feeds=('pipe', data))
+
+    @tried(f'the file of {word} may not be read')
+    def _(place, word=word):
+        good_file(place, word)
+        os.chmod(place.at('good'), 0)
+        return Try(fault('good'), READS[word]('good'), as_nobody=True)
+
+    @tried(f'the file of {word} vanishes before it is read')
+    def _(place, word=word):
+        good_file(place, word)
+        return Try(fault('good'), READS[word]('good'), environment=vanishing('open', 'good'))
 
 
 @tried('an empty path as the folder')
@@ -303,7 +350,7 @@ def _(place):
 def _(place):
     place.put_class()
     os.mkdir(os.fsencode(place.at('f')) + b'/\xff')
-    return Try(place.good)
+    return Try(fault('f'))
 
 
 @tried('a name with a blank, a backslash, a line end and a letter outside of ASCII')
@@ -381,14 +428,6 @@ def _(place):
     place.link('f/Null.class', '/dev/null')
     place.link('f/Zero.class', '/dev/zero')
     return Try(place.good)
-
-
-@tried('the model is a FIFO')
-def _(place):
-    place.put_class()
-    os.mkfifo(place.at('m'))
-    with open(place.at('model'), 'rb') as file:
-        return Try(place.good, run(model='m'), feeds=('m', file.read()))
 
 
 @tried('the model is a FIFO with more bytes than a model has')
@@ -506,13 +545,6 @@ def _(place):
     return Try(place.good, as_nobody=True)
 
 
-@tried('a model that may not be read')
-def _(place):
-    place.put_class()
-    os.chmod(place.at('model'), 0)
-    return Try(fault('model'), as_nobody=True)
-
-
 for mode, what in ((0, 'neither listed nor searched'), (0o311, 'not listed'), (0o644, 'not searched')):
     @tried(f'a folder that may be {what}')
     def _(place, mode=mode):
@@ -535,10 +567,6 @@ def _(place):
     place.link('f/A.class', '../other/A.class')
     os.chmod(place.at('other'), 0)
     return Try(fault('f'), as_nobody=True)
-
-
-def vanishing(call, path, **more):
-    return {'VANISH_CALL': call, 'VANISH_PATH': path, **more}
 
 
 @tried('a class file that vanishes before it is read')
@@ -567,12 +595,6 @@ def _(place):
     return Try(fault('f'), environment=vanishing('open', 'f/inner/'))
 
 
-@tried('a model that vanishes before it is read')
-def _(place):
-    place.put_class()
-    return Try(fault('model'), environment=vanishing('open', 'model'))
-
-
 def feed(path, data):
     """Writes to a FIFO once it is opened; the program may leave before the end."""
     def write():
@@ -586,7 +608,7 @@ def feed(path, data):
 
 def problem(varexj, preloaded, function, path):
     """What is wrong with one try, or None."""
-    place = Place(path)
+    place = Place(varexj, path)
     one = function(place)
     environment = {**one.environment, 'LD_PRELOAD': preloaded} if one.environment else None
     before = NOBODY if one.as_nobody and os.geteuid() == 0 else []

@@ -17,6 +17,7 @@ import sys
 import tempfile
 from concurrent.futures import ThreadPoolExecutor
 
+import runs
 import trying
 
 SECONDS = 60
@@ -25,9 +26,6 @@ LISTS = ('getdents64', 'statx', 'newfstatat', 'lstat', 'stat')
 ERRORS = ('EIO', 'ENOSPC', 'EACCES', 'EMFILE', 'ENOMEM', 'EINTR')
 
 KNOWN = {}
-
-CASES = ['print-an-option', 'dimacs-model', 'no-configuration', 'link-class-twice', 'folder-absent', 'limit-zero', 'project-option-on',
-         'report-other-numbering', 'assemble-class-with-option', 'source-unknown-label', 'interact-one-option', 'agree-unlike']
 
 
 class Traced:
@@ -87,9 +85,9 @@ def own_calls(calls, words):
 
 def shown_path(call, words):
     """What a read fault names: the folder, a path below it, or a word of the command."""
-    folder = words[1]
-    if words[0] != 'run' or call.path == words[2]:
+    if words[0] not in ('run', 'verify') or call.path == words[2]:
         return call.path
+    folder = words[1]
     is_listing = call.name in LISTS or 'O_DIRECTORY' in call.line
     return folder if is_listing else call.path[len(folder) + 1:]
 
@@ -169,15 +167,13 @@ def folder_with_parts(place):
 def main(varexj):
     trying.needs('strace', 'strace')
     tally = trying.Tally(KNOWN)
-    commands = trying.built_commands(varexj)
     with tempfile.TemporaryDirectory() as place, ThreadPoolExecutor(os.cpu_count()) as pool:
         parts = folder_with_parts(os.path.join(place, 'parts'))
-        runs = [('a folder in the folder', parts, trying.case_words('print-an-option'))]
-        runs += [(name, trying.case_folder(name, place), trying.case_words(name)) for name in CASES]
-        for name, folder, words in runs:
-            if words[0] in commands:
-                try_failures(varexj, words, folder, name, tally, pool)
-                try_each_interrupted(varexj, words, folder, name, tally)
+        tries = [('a folder in the folder', parts, trying.case_words('print-an-option'))]
+        tries += [(run.name(), run.folder(place), run.words) for run in runs.runs(varexj)]
+        for name, folder, words in tries:
+            try_failures(varexj, words, folder, name, tally, pool)
+            try_each_interrupted(varexj, words, folder, name, tally)
     return tally.status()
 
 

@@ -19,7 +19,8 @@ BUSY = 30
 LACKING = 3
 
 # The words of each command that may be built, over files that aren't there.
-COMMANDS = {'run': ['f', 'm', 'Main', '1'], 'project': ['r', '-'], 'asm': ['s'], 'interact': ['r'], 'agree': ['r', 'o']}
+COMMANDS = {'run': ['f', 'm', 'Main', '1'], 'project': ['r', '-'], 'asm': ['s'], 'verify': ['f', 'm', 'Main'], 'interact': ['r'],
+            'agree': ['r', 'o'], 'picture': ['r'], 'cover': ['r'], 'explain': ['r'], 'load': ['1', '1'], '--help': [], '--version': []}
 USAGE = 2
 
 
@@ -116,8 +117,18 @@ def needs(tool, package):
     sys.exit(LACKING)
 
 
+def make_folders(path):
+    """Makes a folder and those that it stands in, however deep."""
+    missing = []
+    while path and not os.path.isdir(path):
+        missing.append(path)
+        path = os.path.dirname(path)
+    for folder in reversed(missing):
+        os.mkdir(folder)
+
+
 def write(path, data):
-    os.makedirs(os.path.dirname(path) or '.', exist_ok=True)
+    make_folders(os.path.dirname(path))
     with open(path, 'wb') as file:
         file.write(data)
 
@@ -160,3 +171,10 @@ def program():
     if len(sys.argv) != 2:
         sys.exit(sys.modules['__main__'].__doc__)
     return os.path.abspath(sys.argv[1])
+
+
+def program_and_word():
+    """The program, and a word behind it, which may be missing."""
+    if len(sys.argv) not in (2, 3):
+        sys.exit(sys.modules['__main__'].__doc__)
+    return os.path.abspath(sys.argv[1]), sys.argv[2] if len(sys.argv) == 3 else ''

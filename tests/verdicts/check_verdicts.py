@@ -3,19 +3,24 @@
     python3 check_verdicts.py VAREXJ
 
 Each folder beside this file has the assembler sources of a program, and `expected` its verdict, as the rules of docs/FORMATS.md and docs/DECISIONS.md give it. What javac
-made is verified, and with each program the core classes' own bodies. A method of 65,535 bytes takes less than ten seconds, also with as many local variables.
+made is verified, and with each program the core classes' own bodies. A method of 65,535 bytes takes less than ten seconds of a processor, also with as many local
+variables.
 """
 
 import glob
 import os
+import resource
 import shutil
 import subprocess
 import sys
 import tempfile
-import time
 
 HERE = os.path.dirname(os.path.abspath(__file__))
 ROOT = os.path.dirname(os.path.dirname(HERE))
+sys.path.insert(0, os.path.join(ROOT, 'tests', 'programs'))
+
+import programs
+
 MOST_SECONDS = 10
 MAIN = 'class 0021 Main java/lang/Object\nmethod 0009 main ([Ljava/lang/String;)V 0 1\nreturn\nend\n'
 
@@ -39,6 +44,12 @@ DEAR = {
 }
 
 
+def processor_seconds():
+    """The seconds of a processor that calls of the program have taken so far."""
+    used = resource.getrusage(resource.RUSAGE_CHILDREN)
+    return used.ru_utime + used.ru_stime
+
+
 class Judge:
     def __init__(self, varexj, folder):
         self.varexj, self.folder, self.passed, self.failed = varexj, folder, 0, 0
@@ -57,10 +68,10 @@ class Judge:
         os.makedirs(path)
         return path
 
-    def judge(self, name, classes, expected, model=None):
-        start = time.monotonic()
-        done = subprocess.run([self.varexj, 'verify', classes, model or self.model, 'Main'], capture_output=True, text=True)
-        seconds = time.monotonic() - start
+    def judge(self, name, classes, expected, model=None, main='Main'):
+        start = processor_seconds()
+        done = subprocess.run([self.varexj, 'verify', classes, model or self.model, main], capture_output=True, text=True)
+        seconds = processor_seconds() - start
         said = done.stdout.rstrip('\n') if done.returncode == 0 else f'status {done.returncode}: {done.stderr.rstrip()}'
         if said == expected and seconds < MOST_SECONDS:
             self.passed += 1
@@ -87,8 +98,8 @@ class Judge:
         return classes
 
     def made_by_javac(self):
-        for classes in sorted(glob.glob(os.path.join(ROOT, 'tests', 'programs', '*', 'classes'))):
-            self.judge(os.path.relpath(classes, ROOT), classes, 'verified', os.path.join(os.path.dirname(classes), 'model'))
+        for program in programs.programs():
+            self.judge(program.name, program.place('classes'), 'verified', program.model_place(), program.main())
         for loose in sorted(glob.glob(os.path.join(ROOT, 'crates', 'read_classes', 'data', '*'))):
             name = os.path.relpath(loose, ROOT)
             classes = self.written(name, MAIN)

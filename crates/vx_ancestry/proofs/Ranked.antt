@@ -1,11 +1,11 @@
--- Where parents have lesser ranks, no place is its own ancestor.
-use Rattle.std.proofs.Common.{◌≡◌, ℕ, List, [], ◌∷◌, refl, ap, ◌∙◌, Bool, true, false, zero, suc, ◌&&◌, length, nat_eq, nat_lt, ◌<◌, ◌≤◌, arith}
-use Rattle.std.specs.List.{list_any}
-use Rattle.std.specs.Bool.{OnTrue}
-use Rattle.std.proofs.lemmas.Bool.{ltb-true, ltb-false}
+-- Where no parent has a greater rank than its child, a place whose parents have lesser ranks is not its own ancestor.
+use Rattle.std.proofs.Common.{◌≡◌, ℕ, List, [], ◌∷◌, refl, ap, ◌∙◌, Bool, true, false, zero, suc, ◌&&◌, ◌||◌, length, nat_eq, nat_lt, ◌<◌, ◌≤◌, arith}
+use Rattle.std.specs.List.{list_all, list_any}
+use Rattle.std.specs.Prelude.{nat_le}
+use Rattle.std.proofs.lemmas.Bool.{leb-true, ltb-true, ltb-false}
 use Rattle.std.proofs.lemmas.Bool.Decides.{Decides-eqb}
 use Rattle.vx_ancestry.proofs.Rounds.{list_any-flat_map}
-use Rattle.vx_ancestry.specs.Ancestors.{parents_of, ancestors, is_ancestor_within, rank_of, are_below, AreRanked, NoneIsOwn}
+use Rattle.vx_ancestry.specs.Ancestors.{parents_of, ancestors, is_ancestor_within, is_own_ancestor, rank_of, are_at_most, are_below, AreRanked}
 
 -- a place past the last one has no parents
 parents_of-past : (parents : List (List ℕ)) (place : ℕ) → length parents ≤ place → parents_of parents place ≡ []
@@ -25,37 +25,56 @@ pub false-unless : (b : Bool) → (b ≡ true → ⊥) → b ≡ false
 false-unless false h = refl
 false-unless true h = absurd (h refl)
 
-are-below-at : (parents : List (List ℕ)) (ranks : List ℕ) → AreRanked parents ranks → (place : ℕ) (b : Bool) → nat_lt place (length parents) ≡ b
-    → are_below ranks (rank_of ranks place) (parents_of parents place) ≡ true
-are-below-at parents ranks h place true e = h place (ltb-true place (length parents) e)
-are-below-at parents ranks h place false e = rw (parents_of-past parents place (ltb-false place (length parents) e)) refl
+at-most-at : (parents : List (List ℕ)) (ranks : List ℕ) → AreRanked parents ranks → (place : ℕ) (b : Bool) → nat_lt place (length parents) ≡ b
+    → are_at_most ranks (rank_of ranks place) (parents_of parents place) ≡ true
+at-most-at parents ranks h place true e = h place (ltb-true place (length parents) e)
+at-most-at parents ranks h place false e = rw (parents_of-past parents place (ltb-false place (length parents) e)) refl
 
 -- a parent of a lesser rank is another place
-other : (ranks : List ℕ) (above p own : ℕ) → own ≤ rank_of ranks above → rank_of ranks p < own → nat_eq above p ≡ false
-other ranks above p own h lt =
-    false-unless (nat_eq above p) (λ e. let same : rank_of ranks above ≡ rank_of ranks p = ap (rank_of ranks) ((Decides-eqb above p).0 e) in omega (arith, same, h, lt))
+other : (ranks : List ℕ) (above p : ℕ) → rank_of ranks p < rank_of ranks above → nat_eq above p ≡ false
+other ranks above p lt =
+    false-unless (nat_eq above p) (λ e. let same : rank_of ranks above ≡ rank_of ranks p = ap (rank_of ranks) ((Decides-eqb above p).0 e) in omega (arith, same, lt))
 
--- parents below a rank are not the place above, and it is not among their ancestors
-none-among : (ranks : List ℕ) (above own : ℕ) (f : ℕ → List ℕ) → own ≤ rank_of ranks above
-    → ((p : ℕ) → rank_of ranks p < own → list_any (nat_eq above) (f p) ≡ false)
-    → (ps : List ℕ) → are_below ranks own ps ≡ true → list_any (λ p. list_any (nat_eq above) (p ∷ f p)) ps ≡ false
-none-among ranks above own f h far [] all = refl
-none-among ranks above own f h far (p ∷ ps) all =
-    let lt : rank_of ranks p < own = ltb-true (rank_of ranks p) own (and-left (nat_lt (rank_of ranks p) own) (are_below ranks own ps) all) in
-    rw (other ranks above p own h lt, far p lt) (none-among ranks above own f h far ps (and-right (nat_lt (rank_of ranks p) own) (are_below ranks own ps) all))
+-- a place is neither among parents that pass a test nor above them
+none-among : (above : ℕ) (f : ℕ → List ℕ) (test : ℕ → Bool) → ((p : ℕ) → test p ≡ true → list_any (nat_eq above) (p ∷ f p) ≡ false)
+    → (ps : List ℕ) → list_all test ps ≡ true → list_any (λ p. list_any (nat_eq above) (p ∷ f p)) ps ≡ false
+none-among above f test far [] all = refl
+none-among above f test far (p ∷ ps) all =
+    ap (λ b. b || list_any (λ p. list_any (nat_eq above) (p ∷ f p)) ps) (far p (and-left (test p) (list_all test ps) all))
+    ∙ none-among above f test far ps (and-right (test p) (list_all test ps) all)
 
--- a place of no lesser rank is not among the ancestors
-pub none-above : (parents : List (List ℕ)) (ranks : List ℕ) → AreRanked parents ranks
-    → (n above place : ℕ) → rank_of ranks place ≤ rank_of ranks above → is_ancestor_within parents n above place ≡ false
-none-above parents ranks h zero above place le = refl
-none-above parents ranks h (suc n) above place le =
+-- a parent of a lesser rank, under which the place isn't found
+far-from : (ranks : List ℕ) (above p : ℕ) (up : List ℕ) → rank_of ranks p < rank_of ranks above → list_any (nat_eq above) up ≡ false → list_any (nat_eq above) (p ∷ up) ≡ false
+far-from ranks above p up lt none = ap (λ b. b || list_any (nat_eq above) up) (other ranks above p lt) ∙ none
+
+-- a place of a greater rank is not among the ancestors
+none-above : (parents : List (List ℕ)) (ranks : List ℕ) → AreRanked parents ranks
+    → (n above place : ℕ) → rank_of ranks place < rank_of ranks above → is_ancestor_within parents n above place ≡ false
+none-above parents ranks h zero above place lt = refl
+none-above parents ranks h (suc n) above place lt =
     list_any-flat_map (nat_eq above) (λ p. p ∷ ancestors parents n p) (parents_of parents place)
-    ∙ none-among ranks above (rank_of ranks place) (ancestors parents n) le (λ p lt. none-above parents ranks h n above p (omega (arith, lt, le)))
-    (parents_of parents place) (are-below-at parents ranks h place (nat_lt place (length parents)) refl)
+    ∙ none-among above (ancestors parents n) (λ p. nat_le (rank_of ranks p) (rank_of ranks place))
+    (λ p t. let less : rank_of ranks p < rank_of ranks above = omega (arith, leb-true (rank_of ranks p) (rank_of ranks place) t, lt) in far-from ranks above p (ancestors parents n p) less (none-above parents ranks h n above p less))
+    (parents_of parents place) (at-most-at parents ranks h place (nat_lt place (length parents)) refl)
 
-pub none-own : (parents : List (List ℕ)) (ranks : List ℕ) → AreRanked parents ranks → NoneIsOwn parents
-none-own parents ranks h place = none-above parents ranks h (length parents) place place (omega arith)
+none-own : (parents : List (List ℕ)) (ranks : List ℕ) → AreRanked parents ranks → (n place : ℕ) → are_below ranks (rank_of ranks place) (parents_of parents place) ≡ true
+    → is_ancestor_within parents n place place ≡ false
+none-own parents ranks h zero place below = refl
+none-own parents ranks h (suc n) place below =
+    list_any-flat_map (nat_eq place) (λ p. p ∷ ancestors parents n p) (parents_of parents place)
+    ∙ none-among place (ancestors parents n) (λ p. nat_lt (rank_of ranks p) (rank_of ranks place))
+    (λ p t. let less = ltb-true (rank_of ranks p) (rank_of ranks place) t in far-from ranks place p (ancestors parents n p) less (none-above parents ranks h n place p less))
+    (parents_of parents place) below
 
-pub none-own-where : (parents : List (List ℕ)) (ranks : List ℕ) (ordered : Bool) → OnTrue ordered (AreRanked parents ranks) → OnTrue ordered (NoneIsOwn parents)
-none-own-where parents ranks true h = none-own parents ranks h
-none-own-where parents ranks false h = h
+-- a place whose parents have lesser ranks
+pub not_own : (parents : List (List ℕ)) (ranks : List ℕ) → AreRanked parents ranks → (place : ℕ) → are_below ranks (rank_of ranks place) (parents_of parents place) ≡ true
+    → is_own_ancestor parents place ≡ false
+not_own parents ranks h place below = none-own parents ranks h (length parents) place below
+
+all_zero : (places : List ℕ) → are_at_most [] 0 places ≡ true
+all_zero [] = refl
+all_zero (p ∷ ps) = all_zero ps
+
+-- all places have rank 0 where there are no ranks
+pub no_ranks : (parents : List (List ℕ)) → AreRanked parents []
+no_ranks parents place within = all_zero (parents_of parents place)

@@ -1,6 +1,6 @@
 -- Ancestors of places, where each place has a list of parents.
 use Rattle.std.specs.List.{list_all, list_any}
-use Rattle.std.specs.Prelude.{Bool, List, [], false, flat_map, length, map, nat_eq, nat_lt, suc, true, zero, ℕ, ◌<◌, ◌||◌, ◌∷◌, ◌≡◌}
+use Rattle.std.specs.Prelude.{Bool, List, [], false, flat_map, length, map, nat_eq, nat_le, nat_lt, suc, true, zero, ℕ, ◌<◌, ◌||◌, ◌∷◌, ◌≡◌}
 use Rattle.vx_list.specs.Places.{item_or}
 
 -- the parents of a place; none past the last place
@@ -43,11 +43,10 @@ rank_of ranks place = item_or ranks place 0
 abbrev pub are_below : List ℕ → ℕ → List ℕ → Bool
 are_below ranks own parents = list_all (λ p. nat_lt (rank_of ranks p) own) parents
 
--- each parent has a lesser rank than its child
+abbrev pub are_at_most : List ℕ → ℕ → List ℕ → Bool
+are_at_most ranks own parents = list_all (λ p. nat_le (rank_of ranks p) own) parents
+
+-- no parent has a greater rank than its child
 abbrev pub AreRanked : List (List ℕ) → List ℕ → Type 0
 AreRanked parents ranks =
-    (place : ℕ) → place < length parents → are_below ranks (rank_of ranks place) (parents_of parents place) ≡ true
-
--- no place is its own ancestor
-abbrev pub NoneIsOwn : List (List ℕ) → Type 0
-NoneIsOwn parents = (place : ℕ) → is_own_ancestor parents place ≡ false
+    (place : ℕ) → place < length parents → are_at_most ranks (rank_of ranks place) (parents_of parents place) ≡ true

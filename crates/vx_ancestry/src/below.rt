@@ -68,7 +68,7 @@ fn all_below(alloc: Global, parents: &[Items<usize>], above: usize) -> Result<Ve
 
 /// Whether a place is its own ancestor, up to as many steps as there are places. It takes as many rounds over all places as
 /// the longest way up to the place has steps.
-pub fn is_own_ancestor(
+pub fn is_own_by_rounds(
     alloc: Global,
     parents: &[Items<usize>],
     place: usize,

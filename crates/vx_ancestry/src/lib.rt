@@ -1,8 +1,10 @@
 //! Ancestors of places, where each place has a list of parents: whether a place is its own ancestor.
 #![tactic(auto)]
 
+mod ancestry;
 mod below;
+mod numbering;
 mod ranks;
+mod ways;
 
-pub use below::is_own_ancestor;
-pub use ranks::is_ordered;
+pub use ancestry::Ancestry;

@@ -1,6 +1,7 @@
 -- Loads of elements, and lengths: from what each configuration is answered to the attempt.
 use Rattle.std.proofs.Common.{◌≡◌, ℕ, ◌+◌, ◌<◌, ◌≤◌, zero, suc, Bool, true, false, List, [], ◌∷◌, refl, sym, ◌∙◌, ap, subst, arith, drop, length, map, nat_le, if◌then◌else◌}
 use Rattle.std.specs.Prelude.{Some}
+use Rattle.vx_families.proofs.Tops.{made_of_two, value_there}
 use Rattle.vx_cells.proofs.PlaceRows.{answered_given, answered_place}
 use Rattle.vx_cells.specs.Classes.{has_class}
 use Rattle.vx_cells.specs.Places.{place_cmp, place_if}
@@ -54,7 +55,7 @@ use Rattle.vx_arrays.specs.Elements.{element_place, length_value, loaded_place, 
 use Rattle.vx_arrays.specs.Moving.{AreLoaded}
 use Rattle.vx_arrays.proofs.ElementRows.{length_row, load_row}
 use Rattle.vx_arrays.proofs.Operands.{operand_held}
-use Rattle.vx_arrays.proofs.Placed.{element_held, give_held, made_of_two, placed_held, room_held, value_there}
+use Rattle.vx_arrays.proofs.Placed.{element_held, give_held, placed_held, room_held}
 
 -- ---- one configuration
 

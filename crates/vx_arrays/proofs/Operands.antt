@@ -1,6 +1,7 @@
 -- Operands of a group as conditional values, by their places from the top, and places that are made of them.
 use Rattle.std.proofs.Common.{◌≡◌, ℕ, ◌+◌, suc, Bool, true, List, sym, ◌∙◌, ap, subst, length}
 use Rattle.std.specs.Prelude.{Some, slice_get}
+use Rattle.vx_families.proofs.Tops.{value_there}
 use Rattle.vx_cells.specs.Through.{ArePlacesHeld, is_place_held, place_at}
 use Rattle.vx_cells.specs.declared.place.Place.{Place}
 use Rattle.vx_cond.specs.Cond.{Conditional, IsCond, cond_at}
@@ -22,7 +23,7 @@ use Rattle.vx_space.specs.Sets.{Extends, Sets}
 use Rattle.vx_value.specs.Slot.{slot_cmp}
 use Rattle.vx_value.specs.declared.slot.Slot.{Slot}
 use Rattle.vx_value.specs.declared.slot.Slot.TheVariants.{Top}
-use Rattle.vx_arrays.proofs.Placed.{place_held-extends, value_there}
+use Rattle.vx_arrays.proofs.Placed.{place_held-extends}
 
 -- an operand of a group, read off the frame that the group lent
 module _ {S I : Type 0} (sets : Sets I) (group : GroupView S I) (top : Frame S I) (v : IsGroup sets group) (same : top ≡ group.top) (n i k : ℕ) (cond : Conditional Slot S I) (count : n ≡ length top.stack.conds) (e : Some cond ≡ slice_get top.stack.conds i) (l : k + suc i ≡ n) where

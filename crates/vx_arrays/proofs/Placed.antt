@@ -2,15 +2,12 @@
 use Rattle.std.proofs.Common.{◌≡◌, ℕ, Bool, true, false, List, refl, ◌∙◌, ap, length, if◌then◌else◌}
 use Rattle.std.proofs.lemmas.Bool.{lt-ltb}
 use Rattle.std.specs.Prelude.{Option, None, Some, is_some, unwrap_or}
-use Rattle.std.specs.declared.cmp.Ordering.{Ordering}
 use Rattle.vx_cells.specs.Places.{place_cmp, place_if}
 use Rattle.vx_cells.specs.Through.{IsAnswered, IsGivenFrom, IsPass, is_cell, is_place_held, place_at}
 use Rattle.vx_cells.specs.declared.place.Place.{Place}
 use Rattle.vx_cells.specs.declared.place.Place.TheVariants as place
-use Rattle.vx_cond.specs.Cond.{Conditional, IsCond, IsCondLifting2, cond_at}
-use Rattle.vx_cond.specs.Leaves.{IsLifted2}
+use Rattle.vx_cond.specs.Cond.{Conditional, IsCond, cond_at}
 use Rattle.vx_cond.proofs.SideLaws.{cond_at-covers}
-use Rattle.vx_families.proofs.Tops.{lifting2_at}
 use Rattle.vx_group_states.specs.Answering.{is_answer_held}
 use Rattle.vx_group_states.specs.declared.answer.Answer.{Answer}
 use Rattle.vx_heap.specs.Heap.{HeapView, is_held, object_in}
@@ -23,28 +20,6 @@ use Rattle.vx_space.specs.Sets.{Extends, Sets}
 use Rattle.vx_value.specs.declared.slot.Slot.{Slot}
 use Rattle.vx_value.specs.declared.slot.Slot.TheVariants.{Top, Int, Long, Null, Ref, Text}
 use Rattle.vx_arrays.specs.Elements.{element_place, is_array_at, may_have, place_for, stored_place}
-
--- ---- what is made of two conditional values
-
-made_pair : {T U A : Type 0} (none : A) (R : T → U → A → Type 0) (f : T → U → A) (s : Option T) (r : Option U) (a : Option A) (x : T) (y : U) → ((s : T) (r : U) (a : A) → R s r a → a ≡ f s r) → s ≡ Some x → r ≡ Some y → IsLifted2 R s r a → unwrap_or a none ≡ f x y
-made_pair none R f None r a x y law e g l = cc e
-made_pair none R f (Some s) None a x y law e g l = cc g
-made_pair none R f (Some s) (Some r) None x y law e g l = absurd l
-made_pair none R f (Some s) (Some r) (Some a) x y law e g l =
-    let first : s ≡ x = cc in
-    let second : r ≡ y = cc in
-    law s r a l ∙ (λ i. f (first i) (second i))
-
-pub made_of_two : {T U A S I : Type 0} (none : A) (cmp : A → A → Ordering) (s1 s2 : Sets I) (R : T → U → A → Type 0) (f : T → U → A) (first : Conditional T S I) (second : Conditional U S I) (made : Conditional A S I) (c : List Bool) (x : T) (y : U) → ((s : T) (r : U) (a : A) → R s r a → a ≡ f s r) → cond_at s1 first c ≡ Some x → cond_at s1 second c ≡ Some y → IsCondLifting2 cmp s2 R (cond_at s1 first) (cond_at s1 second) made → unwrap_or (cond_at s2 made c) none ≡ f x y
-made_of_two none cmp s1 s2 R f first second made c x y law e g l = made_pair none R f (cond_at s1 first c) (cond_at s1 second c) (cond_at s2 made c) x y law e g (lifting2_at cmp s2 R (cond_at s1 first) (cond_at s1 second) made l c)
-
-there : {T : Type 0} (o : Option T) (none : T) → is_some o ≡ true → o ≡ Some (unwrap_or o none)
-there None none h = cc h
-there (Some x) none h = refl
-
--- the value of a configuration of the scope
-pub value_there : {T S I : Type 0} (none : T) (cmp : T → T → Ordering) (sets : Sets I) (cond : Conditional T S I) (c : List Bool) → IsCond cmp sets cond → sets.test cond.scope c ≡ true → cond_at sets cond c ≡ Some (unwrap_or (cond_at sets cond c) none)
-value_there none cmp sets cond c v t = there (cond_at sets cond c) none (cond_at-covers cmp sets cond v c ∙ t)
 
 -- ---- outside of the scope there is no cell
 

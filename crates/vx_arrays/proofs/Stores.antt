@@ -1,6 +1,7 @@
 -- Stores of elements: the values that are written and where, and from what each configuration is answered to the attempt.
 use Rattle.std.proofs.Common.{◌≡◌, ◌<◌, Bool, true, false, List, [], ◌∷◌, ◌&&◌, refl, sym, ◌∙◌, ap, subst, arith, drop, length, map, if◌then◌else◌}
 use Rattle.std.specs.Prelude.{Option, None, Some, unwrap_or}
+use Rattle.vx_families.proofs.Tops.{made_of_two, value_there}
 use Rattle.vx_cells.specs.Places.{place_cmp}
 use Rattle.vx_cells.specs.Through.{ArePlacesHeld, AreAnswers, IsAnswered, IsPass, by_place, is_cell, is_place_held, place_at, written_at, written_through}
 use Rattle.vx_cells.specs.declared.place.Place.{Place}
@@ -51,7 +52,7 @@ use Rattle.vx_arrays.specs.Elements.{element_place, kept, stored_place, written_
 use Rattle.vx_arrays.specs.Moving.{AreStored, AreWritten, change_there, place_there, writes_there}
 use Rattle.vx_arrays.proofs.ElementRows.{kept_row, store_row}
 use Rattle.vx_arrays.proofs.Operands.{operand_held, places_held}
-use Rattle.vx_arrays.proofs.Placed.{element_held, made_of_two, no_cell, pass_held, placed_held, stored_held, value_there}
+use Rattle.vx_arrays.proofs.Placed.{element_held, no_cell, pass_held, placed_held, stored_held}
 
 -- ---- what is written names what is there
 

@@ -9,16 +9,22 @@ use Rattle.vx_group.specs.Callers.{Keeps}
 use Rattle.vx_group.specs.Group.{GroupView, path_of}
 use Rattle.vx_group.proofs.CallerLaws.{Keeps-refl, Keeps-trans}
 use Rattle.vx_heap.specs.Heap.{HeapView, IsHeap, IsHeapFor, globals_at}
+use Rattle.vx_families.specs.Attempts.{AttemptsBy}
 use Rattle.vx_java.specs.Machine.{State}
 use Rattle.vx_java.specs.Machine.{Outcome as PlainOutcome}
+use Rattle.vx_java.specs.Natives.{native}
+use Rattle.vx_java.specs.Step.{outcome_carried_out}
 use Rattle.vx_link.specs.declared.program.Program.{Program}
 use Rattle.vx_outcome.specs.Outcome.{Divide, condition_of}
 use Rattle.vx_outcome.specs.declared.outcome.Outcome.{Outcome}
-use Rattle.vx_group_states.specs.Stands.{Attempts, CameTo, Continues, Grows, IsOutcome, outcome_at, state_at}
+use Rattle.vx_outcome.specs.declared.outcome.Outcome.TheVariants as shared
+use Rattle.vx_group_states.specs.Stands.{Attempts, CameTo, Continues, Grows, IsOutcome, StandsIn, outcome_at, state_at}
+use Rattle.vx_group_states.specs.declared.site.Site.{Site}
+use Rattle.vx_value.specs.declared.ids.MethodId.{MethodId}
 use Rattle.vx_group_states.proofs.GrownStates.{CameTo-grown, Grows-refl, Grows-trans}
 use Rattle.vx_group_states.proofs.OutcomeStates.{CameTo-append, CameTo-none, CameTo-one, CameTo-same, CameTo-through}
 use Rattle.vx_cells.proofs.Somewhere.{somewhere_in}
-use Rattle.vx_attempt.specs.Carrying.{AreCarriedOut, SomeComesTo, is_covered}
+use Rattle.vx_attempt.specs.Carrying.{AreCarriedOut, SomeUncarried, is_covered, is_uncarried}
 use Rattle.vx_standing.specs.Attempted.{AreConditionsKnown}
 
 -- ---- the first outcome, and those behind it
@@ -129,20 +135,23 @@ AreCarriedOut-at p carry s0 s1 before after tree later says x at made same conti
     no_more true h = cc h
     no_more false h = refl
 
--- by what is said of the state alone
-pub AreCarriedOut-attempted : {S I : Type 0} (p : Program) (carry : PlainOutcome → PlainOutcome) (s0 s1 : Sets I) (before after : HeapView S I) (tree later : List (Option (Caller S I))) (says : State → PlainOutcome) (x : Outcome S I) (at : GroupView S I) (made : List (Outcome S I)) → condition_of x ≡ path_of at → ((start : Sets I) (group : GroupView S I) → IsOutcome p start s0 before tree group x → Continues p start s0 before tree group at) → ((c : List Bool) → carry (outcome_at s0 before tree c x) ≡ says (state_at s0 before tree at c)) → IsHeapFor p after → Attempts p says s0 s1 before after tree later at made → AreCarriedOut p carry s0 s1 before after tree later (x ∷ []) made
-AreCarriedOut-attempted p carry s0 s1 before after tree later says x at made same continues law f a = AreCarriedOut-at p carry s0 s1 before after tree later (λ _. says) x at made same continues law (record { is_heap = a.is_heap; is_for = f; grows = a.grows; keeps = a.keeps; came = a.came; outside = a.outside })
+-- a native method is carried out for the group that stands at its call
+pub AreCarriedOut-native : {S I : Type 0} (site : Site) (s0 s1 : Sets I) (before after : HeapView S I) (tree : List (Option (Caller S I))) (group : GroupView S I) (method : MethodId) (made : List (Outcome S I)) → StandsIn site.program.now s0 before tree group → AttemptsBy site (λ s. native site.program.now s method.0) s0 s1 before after group made → AreCarriedOut site.program.now (outcome_carried_out site.program.now) s0 s1 before after tree tree (shared.Native group method ∷ []) made
+AreCarriedOut-native site s0 s1 before after tree group method made stands by =
+    let p = site.program.now in
+    let a = by.attempts tree stands in
+    AreCarriedOut-at p (outcome_carried_out p) s0 s1 before after tree tree (λ c s. native p s method.0) (shared.Native group method) group made refl (λ start at h. h) (λ c. refl) (record { is_heap = a.is_heap; is_for = by.is_for; grows = a.grows; keeps = a.keeps; came = a.came; outside = a.outside })
 
--- some configuration comes to it
-pub SomeComesTo-one : {S I : Type 0} (p : Program) (test : PlainOutcome → Bool) {sets : Sets I} → IsLawful sets → (heap : HeapView S I) (tree : List (Option (Caller S I))) (x : Outcome S I) → IsKnown sets (condition_of x) → condition_of x ≢ sets.never → ((start : Sets I) (group : GroupView S I) → IsOutcome p start sets heap tree group x → (c : List Bool) → test (outcome_at sets heap tree c x) ≡ true) → SomeComesTo p test sets heap tree (x ∷ [])
-SomeComesTo-one p test {sets = sets} lawful heap tree x known some passes =
+-- it is a native method or a beginning, and some configuration comes to it
+pub SomeUncarried-one : {S I : Type 0} (p : Program) {sets : Sets I} → IsLawful sets → (heap : HeapView S I) (tree : List (Option (Caller S I))) (x : Outcome S I) → IsKnown sets (condition_of x) → condition_of x ≢ sets.never → ((c : List Bool) → is_uncarried (outcome_at sets heap tree c x) ≡ true) → SomeUncarried p sets heap tree (x ∷ [])
+SomeUncarried-one p {sets = sets} lawful heap tree x known some is =
     let found = somewhere_in lawful (condition_of x) known some in
     record {
       config = found.config;
       comes = λ start group what set h.
           let at = only_at p start sets heap tree group what set x h found.config in
           let inside = sym at.0 ∙ found.inside in
-          (inside, ap test (at.1 inside) ∙ passes start group h.continue.0 found.config);
+          (inside, ap is_uncarried (at.1 inside) ∙ is found.config);
     }
 
 -- ---- all of them
@@ -191,8 +200,8 @@ module _ {S I : Type 0} (p : Program) (carry : PlainOutcome → PlainOutcome) {s
   pub next_known : IsKnown s1 (condition_of x)
   next_known = l.extends.known (condition_of x) l.known.0
 
-  pub SomeComesTo-next : (test : PlainOutcome → Bool) → SomeComesTo p test s1 now there (x ∷ []) → SomeComesTo p test s0 before tree items
-  SomeComesTo-next test u = record {
+  pub SomeUncarried-next : SomeUncarried p s1 now there (x ∷ []) → SomeUncarried p s0 before tree items
+  SomeUncarried-next u = record {
     config = u.config;
     comes = λ start group what set h.
         let half = l.half start group what set h in

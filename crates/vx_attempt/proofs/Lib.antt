@@ -1,7 +1,7 @@
 pub mod NativeRows
 pub mod Carrying
 pub mod Kept
-pub mod Refusals
+pub mod Uncarried
 pub mod Raised
 pub mod Calls
 pub mod Making

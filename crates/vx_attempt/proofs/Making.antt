@@ -1,5 +1,5 @@
--- From what a family made of a group to the attempt with native methods carried out, and what an attempt that isn't built means.
-use Rattle.std.proofs.Common.{◌≡◌, ℕ, ◌<◌, ◌+◌, ◌≤◌, zero, suc, Bool, true, false, List, [], ◌∷◌, refl, sym, ◌∙◌, ap, length, not}
+-- From what a family made of a group to the attempt, with native methods and beginnings carried out and exceptions thrown.
+use Rattle.std.proofs.Common.{◌≡◌, ℕ, ◌<◌, ◌+◌, ◌≤◌, zero, suc, Bool, true, List, [], ◌∷◌, refl, sym, ◌∙◌, ap, length}
 use Rattle.std.specs.List.{list_all}
 use Rattle.std.specs.Prelude.{Ok, Err, Option, Some, None, ok_or}
 use Rattle.vx_class.specs.declared.class_file.Code.{Code}
@@ -12,8 +12,7 @@ use Rattle.vx_group.proofs.GroupLaws.{IsGroupIn-group, IsGroup-path_known}
 use Rattle.vx_heap.specs.Heap.{HeapView}
 use Rattle.vx_families.specs.Attempts.{IsAtSite, IsAttemptIn, IsGiven, row_by}
 use Rattle.vx_families.specs.Bounds.{IsBounded, has_short_code}
-use Rattle.vx_families.specs.Built.{is_built_outcome}
-use Rattle.vx_families.proofs.BuiltRows.{row_there}
+use Rattle.vx_families.proofs.SiteRows.{row_there}
 use Rattle.vx_java.specs.Machine.{Ended, State, illegal_in, place_at}
 use Rattle.vx_java.specs.Operation.{operation_of}
 use Rattle.vx_java.specs.Row.{row, row_if, row_in}
@@ -34,11 +33,11 @@ use Rattle.vx_group_states.proofs.GrownStates.{Grows-refl}
 use Rattle.vx_group_states.proofs.OutcomeStates.{CameTo-one}
 use Rattle.vx_group_states.proofs.StateLaws.{both_first, both_second, top_held, top_shaped}
 use Rattle.vx_value.specs.declared.end.End.TheVariants.{Illegal}
-use Rattle.vx_standing.specs.Attempted.{IsAttempted, IsUnbuiltThere, MayAttempt, attempted_row, carried_out_row, is_placed, thrown_out}
-use Rattle.vx_attempt.specs.Carrying.{AreCarriedOut, MayCarryOut, MayThrow, SomeComesTo, is_refused, is_unbuilt}
+use Rattle.vx_standing.specs.Attempted.{IsAttempted, MayAttempt, attempted_row, carried_out_row, is_placed, thrown_out}
+use Rattle.vx_attempt.specs.Carrying.{AreCarriedOut, MayCarryOut, MayThrow, NoneUncarried}
 use Rattle.vx_attempt.proofs.Calls.{AreThere-outcomes, attempt_calls}
 use Rattle.vx_attempt.proofs.Carrying.{Attempts-carried, Attempts-same}
-use Rattle.vx_attempt.proofs.Refusals.{first_unbuilt, refused_unbuilt}
+use Rattle.vx_attempt.proofs.Uncarried.{carried_neither}
 use Rattle.vx_fields.proofs.Pools.{below}
 
 -- ---- the instruction where it stands
@@ -161,31 +160,11 @@ no_instruction p group code found fault bytes top e same is missing s at there =
     let none = missing_at (instruction_at code.bytes group.top.position) found fault (rw (same, is) at missing) in
     ap (λ m. row_in p s (method_at p m).code) at ∙ ap (row_in p s) e ∙ ap (λ n. row_if p s code (instruction_at code.bytes n)) there ∙ ap (row_if p s code) none
 
--- ---- what isn't built
+-- ---- what was carried out
 
-off_of : (b : Bool) → not b ≡ true → b ≡ false
-off_of true h = cc h
-off_of false h = refl
-
--- an outcome of its family isn't built
-pub unbuilt_outcome : {S I : Type 0} (site : Site) (operation : Operation) (s0 s1 : Sets I) (before middle : HeapView S I) (tree later : List (Option (Caller S I))) (group : GroupView S I) (family : List (Outcome S I)) → IsAtSite site operation group → IsAttemptIn site operation s0 s1 before middle tree later group family → SomeComesTo site.program.now (is_unbuilt site.program.now) s1 middle later family → IsUnbuiltThere site.program.now s0 before tree group
-unbuilt_outcome site operation s0 s1 before middle tree later group family at by u =
-    let p = site.program.now in
-    let there = u.comes s0 group (λ c. row_by site operation (state_at s0 before tree group c)) (s0.test (path_of group)) by.attempts.came in
-    let state = state_at s0 before tree group u.config in
-    record {
-      config = u.config;
-      holds = there.0;
-      unbuilt = first_unbuilt (is_built_outcome p (row p state)) (is_built_outcome p (outcome_carried_out p (row p state))) (ap (is_built_outcome p) (row_is site operation s0 before tree group at u.config) ∙ off_of (is_built_outcome p (row_by site operation state)) there.1);
-    }
-
--- what came of it is refused
-pub unbuilt_thrown : {S I : Type 0} (site : Site) (operation : Operation) (s0 s1 s2 : Sets I) (before middle after : HeapView S I) (tree later last : List (Option (Caller S I))) (group : GroupView S I) (family carried : List (Outcome S I)) → IsAtSite site operation group → IsAttemptIn site operation s0 s1 before middle tree later group family → AreCarriedOut site.program.now (outcome_carried_out site.program.now) s1 s2 middle after later last family carried → SomeComesTo site.program.now is_refused s2 after last carried → IsUnbuiltThere site.program.now s0 before tree group
-unbuilt_thrown site operation s0 s1 s2 before middle after tree later last group family carried at by k u =
+-- none of what came of a family's outcomes is a native method or a beginning
+pub none_uncarried : {S I : Type 0} (site : Site) (operation : Operation) (s0 s1 s2 : Sets I) (before middle after : HeapView S I) (tree later last : List (Option (Caller S I))) (group : GroupView S I) (family carried : List (Outcome S I)) → IsAtSite site operation group → IsAttemptIn site operation s0 s1 before middle tree later group family → AreCarriedOut site.program.now (outcome_carried_out site.program.now) s1 s2 middle after later last family carried → NoneUncarried site.program.now s2 after last carried
+none_uncarried site operation s0 s1 s2 before middle after tree later last group family carried at by k u =
     let p = site.program.now in
     let there = u.comes s0 group (λ c. carried_out_row p (state_at s0 before tree group c)) (s0.test (path_of group)) (attempted_so_far site operation s0 s1 s2 before middle after tree later last group family carried at by k).came in
-    record {
-      config = u.config;
-      holds = there.0;
-      unbuilt = refused_unbuilt p (state_at s0 before tree group u.config) there.1;
-    }
+    cc (there.1, carried_neither p (row p (state_at s0 before tree group u.config)))

@@ -1,5 +1,5 @@
 -- Outcomes that are carried out in the attempt that came to them: native methods and beginnings, and then exceptions that are thrown.
-use Rattle.std.specs.Prelude.{◌≡◌, ◌<◌, ◌||◌, Bool, true, false, List, [], ◌∷◌, length, not, Option}
+use Rattle.std.specs.Prelude.{◌≡◌, ◌<◌, ◌||◌, Bool, true, false, List, [], ◌∷◌, length, Option}
 use Rattle.vx_space.specs.Sets.{Sets, IsKnown}
 use Rattle.vx_group.specs.declared.callers.Caller.{Caller}
 use Rattle.vx_group.specs.Callers.{Keeps}
@@ -7,7 +7,6 @@ use Rattle.vx_group.specs.Group.{GroupView, path_of}
 use Rattle.vx_heap.specs.Heap.{HeapView, IsHeap, IsHeapFor, globals_at}
 use Rattle.vx_families.specs.Attempts.{IsAtSite}
 use Rattle.vx_families.specs.Bounds.{IsBounded}
-use Rattle.vx_families.specs.Built.{is_built_outcome}
 use Rattle.vx_java.specs.Machine.{Begin, Native}
 use Rattle.vx_java.specs.Machine.{Outcome as PlainOutcome}
 use Rattle.vx_java.specs.declared.operation.Operation.{Operation}
@@ -71,19 +70,17 @@ pub record AreCarriedOut {S I : Type 0} (p : Program) (carry : PlainOutcome → 
   pub came : (start : Sets I) (group : GroupView S I) (what : List Bool → PlainOutcome) (set : List Bool → Bool) → CameTo p start old before tree group what set items → CameTo p start new after later group (λ c. carry (what c)) set made
   pub outside : (c : List Bool) → is_covered old items c ≡ false → globals_at new after c ≡ globals_at old before c
 
--- of whatever these are the outcomes, some configuration comes to one that passes a test
-pub record SomeComesTo {S I : Type 0} (p : Program) (test : PlainOutcome → Bool) (sets : Sets I) (heap : HeapView S I) (tree : List (Option (Caller S I))) (items : List (Outcome S I)) : Type 0 where
+-- a native method or a beginning, which is carried out in its attempt
+abbrev pub is_uncarried : PlainOutcome → Bool
+is_uncarried (Native m s) = true
+is_uncarried (Begin c s) = true
+is_uncarried o = false
+
+-- of whatever these are the outcomes, some configuration comes to a native method or a beginning
+pub record SomeUncarried {S I : Type 0} (p : Program) (sets : Sets I) (heap : HeapView S I) (tree : List (Option (Caller S I))) (items : List (Outcome S I)) : Type 0 where
   pub config : List Bool
-  pub comes : (start : Sets I) (group : GroupView S I) (what : List Bool → PlainOutcome) (set : List Bool → Bool) → CameTo p start sets heap tree group what set items → (set config ≡ true) × (test (what config) ≡ true)
+  pub comes : (start : Sets I) (group : GroupView S I) (what : List Bool → PlainOutcome) (set : List Bool → Bool) → CameTo p start sets heap tree group what set items → (set config ≡ true) × (is_uncarried (what config) ≡ true)
 
--- ---- what isn't built
-
--- a row comes to it
-abbrev pub is_unbuilt : Program → PlainOutcome → Bool
-is_unbuilt p o = not (is_built_outcome p o)
-
--- a native method or a beginning, to which nothing comes after they were carried out
-abbrev pub is_refused : PlainOutcome → Bool
-is_refused (Native m s) = true
-is_refused (Begin c s) = true
-is_refused o = false
+-- none does
+abbrev pub NoneUncarried : {S I : Type 0} → Program → Sets I → HeapView S I → List (Option (Caller S I)) → List (Outcome S I) → Type 0
+NoneUncarried p sets heap tree items = SomeUncarried p sets heap tree items → ⊥

@@ -1,13 +1,13 @@
 //! One attempt of a group: the instruction where it stands, by its family, what a native method makes of it, and what is thrown.
 
-ghost use Rattle.std.specs.Prelude.{◌≡◌, Err, IfOk, Some, option_copied, true};
+ghost use Rattle.std.specs.Prelude.{◌≡◌, IfOk, Some, option_copied, true};
 ghost use Rattle.vx_space.specs.Sets.{Extends};
 ghost use Rattle.vx_java.specs.Machine.{State, illegal_in};
 ghost use Rattle.vx_java.specs.Row.{row};
 ghost use Rattle.vx_link.specs.Parts.{method_at};
 ghost use Rattle.vx_families.specs.Attempts.{IsAttemptIn, IsGiven};
 ghost use Rattle.vx_group_states.specs.Stands.{StandsIn};
-ghost use Rattle.vx_standing.specs.Attempted.{IsAttempted, IsUnbuiltThere, MayAttempt};
+ghost use Rattle.vx_standing.specs.Attempted.{IsAttempted, MayAttempt};
 ghost use Rattle.vx_attempt.specs.Families.{is_of};
 
 use crate::family::{Family, family_of};
@@ -15,7 +15,6 @@ use crate::natives::{carried_out, only};
 use crate::throwing::all_thrown;
 use std::alloc::Global;
 use vx_class::Code;
-use vx_families::AttemptFault;
 use vx_group::{Callers, Group};
 use vx_group_states::Site;
 use vx_heap::Heap;
@@ -80,13 +79,12 @@ fn attempt_at<S: Space>(
     family: Family,
     operation: Operation,
     group: Group<S>,
-) -> Result<Outcomes<S>, AttemptFault>
+) -> Result<Outcomes<S>, SpaceFault>
     requires may { MayAttempt site.now.program.now (S.sets space.old) heap.old callers.old group }
     requires given { IsGiven site.now operation (S.sets space.old) heap.old group }
     requires family { is_of family operation ≡ true }
     ensures extends { Extends (S.sets space.old) (S.sets space.new) }
     ensures ok { IfOk result (λ r. IsAttempted site.now.program.now (S.sets space.old) (S.sets space.new) heap.old heap.new callers.old callers.new group r.items.items) }
-    ensures not_yet { result ≡ Err AttemptFault.NotYet → IsUnbuiltThere site.now.program.now (S.sets space.old) heap.old callers.old group }
 {
     let outcomes = by_family(alloc, site, space, heap, callers, family, operation, group)?;
     let carried = carried_out(alloc, site, space, heap, callers, outcomes)?;
@@ -102,11 +100,10 @@ fn end_there<S: Space>(
     heap: &Heap<S>,
     callers: &Callers<S>,
     group: &Group<S>,
-) -> Result<Outcomes<S>, AttemptFault>
+) -> Result<Outcomes<S>, SpaceFault>
     requires may { MayAttempt program.now (S.sets space.now) heap.now callers.now group.now }
     requires nothing { (s : State) → s.top.method ≡ group.now.top.method.0 → s.top.position ≡ group.now.top.position → row program.now s ≡ illegal_in program.now s }
-    ensures ok { IfOk result (λ r. IsAttempted program.now (S.sets space.now) (S.sets space.now) heap.now heap.now callers.now callers.now group.now r.items.items) }
-    ensures not_yet { result ≡ Err AttemptFault.NotYet → IsUnbuiltThere program.now (S.sets space.now) heap.now callers.now group.now }
+    ensures { IfOk result (λ r. IsAttempted program.now (S.sets space.now) (S.sets space.now) heap.now heap.now callers.now callers.now group.now r.items.items) }
 {
     let top = group.top_frame();
     let place = place(alloc, program, top.method, top.position)?;
@@ -129,12 +126,11 @@ fn attempt_in<S: Space>(
     callers: &mut Callers<S>,
     code: &Code,
     group: Group<S>,
-) -> Result<Outcomes<S>, AttemptFault>
+) -> Result<Outcomes<S>, SpaceFault>
     requires may { MayAttempt program.now (S.sets space.old) heap.old callers.old group }
     requires code { (method_at program.now group.top.method.0).code ≡ Some code.now }
     ensures extends { Extends (S.sets space.old) (S.sets space.new) }
     ensures ok { IfOk result (λ r. IsAttempted program.now (S.sets space.old) (S.sets space.new) heap.old heap.new callers.old callers.new group r.items.items) }
-    ensures not_yet { result ≡ Err AttemptFault.NotYet → IsUnbuiltThere program.now (S.sets space.old) heap.old callers.old group }
 {
     let top = group.top_frame();
     match decode(code.bytes.as_slice(), top.position) {
@@ -154,7 +150,7 @@ fn attempt_in<S: Space>(
 
 /// Makes one attempt of each run of a group (JVMS 2.11, 6.5): the instruction where it stands, a native method where one is
 /// called, and the throwing of what is raised. Each outcome goes on, writes, or has ended, in the later heap and tree.
-/// `NotYet` comes only where one of the runs stands at what isn't built. After a refusal heap, tree and group are given up.
+/// The only refusal is want of memory, after which heap, tree and group are given up.
 pub fn attempt<S: Space>(
     alloc: Global,
     program: &Program,
@@ -162,11 +158,10 @@ pub fn attempt<S: Space>(
     heap: &mut Heap<S>,
     callers: &mut Callers<S>,
     group: Group<S>,
-) -> Result<Outcomes<S>, AttemptFault>
+) -> Result<Outcomes<S>, SpaceFault>
     requires { MayAttempt program.now (S.sets space.old) heap.old callers.old group }
     ensures extends { Extends (S.sets space.old) (S.sets space.new) }
     ensures ok { IfOk result (λ r. IsAttempted program.now (S.sets space.old) (S.sets space.new) heap.old heap.new callers.old callers.new group r.items.items) }
-    ensures not_yet { result ≡ Err AttemptFault.NotYet → IsUnbuiltThere program.now (S.sets space.old) heap.old callers.old group }
 {
     match code_of(program, group.top_frame().method) {
         Some(code) => attempt_in(alloc, program, space, heap, callers, code, group),

@@ -1,20 +1,19 @@
 //! Exceptions that an attempt raises or throws, thrown in the same attempt (JVMS 2.10).
 
-ghost use Rattle.std.specs.Prelude.{◌≡◌, ◌≢◌, ◌∷◌, [], Err, IfOk, true};
+ghost use Rattle.std.specs.Prelude.{◌≡◌, ◌≢◌, ◌∷◌, [], IfOk, true};
 ghost use Rattle.std.specs.List.{list_all};
 ghost use Rattle.vx_space.specs.Sets.{Extends};
 ghost use Rattle.vx_outcome.specs.Outcome.{condition_of};
 ghost use Rattle.vx_standing.specs.Attempted.{is_placed, thrown_out};
-ghost use Rattle.vx_attempt.specs.Carrying.{AreCarriedOut, MayThrow, SomeComesTo, is_refused};
+ghost use Rattle.vx_attempt.specs.Carrying.{AreCarriedOut, MayThrow, NoneUncarried};
 
 use crate::natives::only;
 use std::alloc::Global;
-use vx_families::AttemptFault;
 use vx_group::Callers;
 use vx_heap::Heap;
 use vx_link::Program;
 use vx_outcome::{Outcome, Outcomes};
-use vx_space::Space;
+use vx_space::{Space, SpaceFault};
 use vx_throw::{raise, throw};
 
 /// One outcome, to which some configuration comes.
@@ -25,28 +24,22 @@ fn some_thrown<S: Space>(
     heap: &mut Heap<S>,
     callers: &mut Callers<S>,
     outcome: Outcome<S>,
-) -> Result<Outcomes<S>, AttemptFault>
+) -> Result<Outcomes<S>, SpaceFault>
     requires may { MayThrow program.now (S.sets space.old) heap.old callers.old (outcome ∷ []) }
     requires some { condition_of outcome ≢ (S.sets space.old).never }
     ensures extends { Extends (S.sets space.old) (S.sets space.new) }
     ensures carried { IfOk result (λ r. AreCarriedOut program.now (thrown_out program.now) (S.sets space.old) (S.sets space.new) heap.old heap.new callers.old callers.new (outcome ∷ []) r.items.items) }
-    ensures placed { IfOk result (λ r. list_all is_placed r.items.items ≡ true) }
-    ensures not_yet { result ≡ Err AttemptFault.NotYet → SomeComesTo program.now is_refused (S.sets space.old) heap.old callers.old (outcome ∷ []) }
+    ensures placed { NoneUncarried program.now (S.sets space.old) heap.old callers.old (outcome ∷ []) → IfOk result (λ r. list_all is_placed r.items.items ≡ true) }
 {
     match outcome {
         Outcome::Raise {
             group,
             class,
             message,
-        } => {
-            let raised = raise(alloc, program, space, heap, callers, group, class, message)?;
-            Ok(raised)
-        }
+        } => raise(alloc, program, space, heap, callers, group, class, message),
         Outcome::Throw { group, thrown } => {
-            let made = throw(alloc, program, space, heap, callers, group, thrown)?;
-            Ok(made)
+            throw(alloc, program, space, heap, callers, group, thrown)
         }
-        Outcome::Begin { .. } | Outcome::Native { .. } => Err(AttemptFault::NotYet),
         other => {
             let same = only(alloc, other)?;
             Ok(same)
@@ -62,12 +55,11 @@ fn one_thrown<S: Space>(
     heap: &mut Heap<S>,
     callers: &mut Callers<S>,
     outcome: Outcome<S>,
-) -> Result<Outcomes<S>, AttemptFault>
+) -> Result<Outcomes<S>, SpaceFault>
     requires { MayThrow program.now (S.sets space.old) heap.old callers.old (outcome ∷ []) }
     ensures extends { Extends (S.sets space.old) (S.sets space.new) }
     ensures carried { IfOk result (λ r. AreCarriedOut program.now (thrown_out program.now) (S.sets space.old) (S.sets space.new) heap.old heap.new callers.old callers.new (outcome ∷ []) r.items.items) }
-    ensures placed { IfOk result (λ r. list_all is_placed r.items.items ≡ true) }
-    ensures not_yet { result ≡ Err AttemptFault.NotYet → SomeComesTo program.now is_refused (S.sets space.old) heap.old callers.old (outcome ∷ []) }
+    ensures placed { NoneUncarried program.now (S.sets space.old) heap.old callers.old (outcome ∷ []) → IfOk result (λ r. list_all is_placed r.items.items ≡ true) }
 {
     if space.is_never(outcome.condition()) {
         return Ok(Outcomes::new(alloc));
@@ -75,9 +67,9 @@ fn one_thrown<S: Space>(
     some_thrown(alloc, program, space, heap, callers, outcome)
 }
 
-/// The outcomes of an attempt with each exception that is raised or thrown made and thrown, so that each of them takes its
-/// place. Heap and tree may grow, and change at no configuration that comes to none of them. `NotYet` where some run comes to a native method
-/// or a beginning, which are carried out before; after a refusal heap and tree are given up.
+/// The outcomes of an attempt with each exception that is raised or thrown made and thrown. Each of them takes its place, as
+/// native methods and beginnings are carried out before. Heap and tree may grow, and change at no configuration that comes to none
+/// of them. The only refusal is want of memory, after which heap and tree are given up.
 pub(crate) fn all_thrown<S: Space>(
     alloc: Global,
     program: &Program,
@@ -85,12 +77,11 @@ pub(crate) fn all_thrown<S: Space>(
     heap: &mut Heap<S>,
     callers: &mut Callers<S>,
     outcomes: Outcomes<S>,
-) -> Result<Outcomes<S>, AttemptFault>
+) -> Result<Outcomes<S>, SpaceFault>
     requires { MayThrow program.now (S.sets space.old) heap.old callers.old outcomes.items.items }
     ensures extends { Extends (S.sets space.old) (S.sets space.new) }
     ensures carried { IfOk result (λ r. AreCarriedOut program.now (thrown_out program.now) (S.sets space.old) (S.sets space.new) heap.old heap.new callers.old callers.new outcomes.items.items r.items.items) }
-    ensures placed { IfOk result (λ r. list_all is_placed r.items.items ≡ true) }
-    ensures not_yet { result ≡ Err AttemptFault.NotYet → SomeComesTo program.now is_refused (S.sets space.old) heap.old callers.old outcomes.items.items }
+    ensures placed { NoneUncarried program.now (S.sets space.old) heap.old callers.old outcomes.items.items → IfOk result (λ r. list_all is_placed r.items.items ≡ true) }
 {
     let mut made = Outcomes::new(alloc);
     for outcome in outcomes.items {

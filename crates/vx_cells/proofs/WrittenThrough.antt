@@ -1,14 +1,12 @@
 -- What writing values to the cells at conditional places makes of a heap.
-use Rattle.std.proofs.Common.{◌≡◌, ◌≢◌, ℕ, ◌+◌, ◌<◌, ◌≤◌, zero, suc, Bool, true, false, List, [], ◌∷◌, refl, sym, ◌∙◌, ap, arith, take, get_or, length}
+use Rattle.std.proofs.Common.{◌≡◌, ℕ, ◌+◌, ◌<◌, ◌≤◌, zero, suc, Bool, true, false, List, [], ◌∷◌, refl, sym, ◌∙◌, ap, arith, take, get_or, length}
 use Rattle.std.proofs.lemmas.List.{take_all}
 use Rattle.std.specs.Prelude.{Option, Some, None, is_some, slice_get, if◌then◌else◌, unwrap_or}
-use Rattle.std.specs.declared.cmp.Ordering.{Ordering}
 use Rattle.vx_list.specs.Places.{item_or}
 use Rattle.vx_space.specs.Sets.{Sets, Extends, IsLawful}
-use Rattle.vx_space.proofs.Differences.{some_difference}
 use Rattle.vx_space.proofs.Spaces.{Extends-refl, Extends-trans}
 use Rattle.vx_cond.specs.declared.cond.Leaf.{Leaf}
-use Rattle.vx_cond.specs.Leaves.{AreLeaves, value_at, value_within}
+use Rattle.vx_cond.specs.Leaves.{value_at, value_within}
 use Rattle.vx_cond.specs.Cond.{Conditional, IsCond, IsCondOf, IsInside, cond_at}
 use Rattle.vx_cond.specs.Slots.{or_top, slot_at}
 use Rattle.vx_cond.proofs.CondLaws.{IsCond-extends, cond_at-extends, cond_at-of}
@@ -29,24 +27,9 @@ use Rattle.vx_cells.specs.Places.{place_cmp}
 use Rattle.vx_cells.specs.Through.{ArePlacesHeld, is_cell, is_place_held, place_at, written_at, written_through}
 use Rattle.vx_cells.specs.declared.place.Place.{Place}
 use Rattle.vx_cells.specs.declared.place.Place.TheVariants.{At, Illegal, Null, Outside, Refused}
+use Rattle.vx_cells.proofs.Somewhere.{leaf_somewhere}
 
 -- ---- a leaf that is a cell
-
--- some configuration has it
-pub somewhere : {K S I : Type 0} (cmp : K → K → Ordering) {sets : Sets I} → IsLawful sets → (xs : List (Leaf K S I)) (i : ℕ) (x : Leaf K S I) → AreLeaves cmp sets xs → i < length xs → x ≡ get_or xs i x → (c : List Bool) × (sets.test x.condition c ≡ true)
-somewhere {K = K} {S = S} {I = I} cmp {sets = sets} lawful xs i x h l e =
-    let known = (next_leaf cmp sets xs i x h l e).known in
-    let found = some_difference lawful x.condition sets.never known lawful.never_known (nonempty xs i h l e) in
-    (found.0, true_of (sets.test x.condition found.0) (λ t. found.1 (t ∙ sym (lawful.never_test found.0))))
-  where
-    nonempty : (ys : List (Leaf K S I)) (j : ℕ) → AreLeaves cmp sets ys → j < length ys → x ≡ get_or ys j x → x.condition ≢ sets.never
-    nonempty [] j h l e = absurd (omega (arith, l))
-    nonempty (y ∷ ys) zero h l e = λ q. h.0.nonempty (ap (λ (z : Leaf K S I). z.condition) (sym e) ∙ q)
-    nonempty (y ∷ ys) (suc j) h l e = nonempty ys j h.1 (omega (arith, l)) e
-
-    true_of : (b : Bool) → (b ≡ false → ⊥) → b ≡ true
-    true_of true f = refl
-    true_of false f = absurd (f refl)
 
 -- what a reference names is there
 object_held : {S I : Type 0} (sets : Sets I) (c : List Bool) (os : List (HeapObject S I)) (r : ℕ) (d : HeapObject S I) → is_object_held sets c (slice_get os r) ≡ true → (r < length os) × (sets.test (item_or os r d).presence c ≡ true)
@@ -74,7 +57,7 @@ leaf_held {s0 = s0} e before now places i x r cell v k w h l q is c t =
 -- its object is there in the condition of the leaf
 pub leaf_object : {S I : Type 0} {s0 s1 : Sets I} → IsLawful s0 → Extends s0 s1 → (heap : HeapView S I) (places : Conditional Place S I) (i : ℕ) (x : Leaf Place S I) (r cell : ℕ) → IsHeap s0 heap → IsCond place_cmp s0 places → ArePlacesHeld s0 heap places → i < length places.leaves → x ≡ get_or places.leaves i x → x.value ≡ At r cell → (r < length heap.objects) × IsInside s1 x.condition (object_in heap r).presence
 leaf_object {s0 = s0} {s1 = s1} lawful e heap places i x r cell v w h l q is = (
-  (let some = somewhere place_cmp lawful places.leaves i x (AreLeaves-of place_cmp s0 places w) l q in (object some.0 some.1).0),
+  (let some = leaf_somewhere place_cmp lawful places.leaves i x (AreLeaves-of place_cmp s0 places w) l q in (object some.config some.inside).0),
   record { inside = λ c t. (object c (sym (e.test x.condition c (next_leaf place_cmp s0 places.leaves i x (AreLeaves-of place_cmp s0 places w) l q).known) ∙ t)).1 },
 )
   where
@@ -178,7 +161,7 @@ pub record IsWritable {S I : Type 0} (sets : Sets I) (heap : HeapView S I) (refe
 
 pub writable : {S I : Type 0} {s0 s1 s2 : Sets I} → IsLawful s0 → IsLawful s2 → Extends s1 s2 → (before now : HeapView S I) (places : Conditional Place S I) (values made : Conditional Slot S I) (i : ℕ) (x : Leaf Place S I) (r cell : ℕ) → IsHeap s0 before → IsCond place_cmp s0 places → IsCond slot_cmp s0 values → values.scope ≡ places.scope → ArePlacesHeld s0 before places → IsValueHeld s0 before values → i < length places.leaves → x ≡ get_or places.leaves i x → x.value ≡ At r cell → IsWriting s0 s1 before now places values i → IsCondOf slot_cmp s2 (value_within s1 x.condition (cond_at s1 values)) made → IsWritable s2 now r made
 writable {s0 = s0} {s1 = s1} {s2 = s2} first lawful e before now places values made i x r cell v w u scopes objects held l q is h m = record {
-  there = (let some = somewhere place_cmp first places.leaves i x (AreLeaves-of place_cmp s0 places w) l q in (object some.0 some.1).0);
+  there = (let some = leaf_somewhere place_cmp first places.leaves i x (AreLeaves-of place_cmp s0 places w) l q in (object some.config some.inside).0);
   inside = record { inside = λ c t. (object c (sym (value.test c) ∙ t)).1 };
   held = record {
     held = λ c t.

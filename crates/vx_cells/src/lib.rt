@@ -9,7 +9,7 @@ pub mod rooms;
 pub mod writing;
 
 pub use place::{Place, place_if};
-pub use reading::read_through;
+pub use reading::{given_at, read_through};
 pub use refusing::{Refusals, passes_at, refusals_of, with_answer};
 pub use rooms::where_room;
 pub use writing::{write_inside, write_through};

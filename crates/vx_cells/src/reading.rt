@@ -50,7 +50,7 @@ fn given_inside<S: Space>(
 }
 
 /// Answers with the values of the cells at places given, and else as they were.
-fn given_at<S: Space>(
+pub fn given_at<S: Space>(
     space: &mut S,
     heap: &Heap<S>,
     places: &Cond<Place, S>,

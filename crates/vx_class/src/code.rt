@@ -1,13 +1,14 @@
 //! The code of a method (JVMS 4.7.3): its parts, then its instructions, its jumps and its catch rows.
 
-ghost use Rattle.std.specs.Prelude.{◌≡◌, ◌+◌, ◌*◌, ◌^◌, ◌<◌, length, IfOk, OnOk, Ok};
+ghost use Rattle.std.specs.Prelude.{◌≡◌, ◌+◌, ◌*◌, ◌^◌, ◌<◌, length, IfOk, OnOk, Ok, Some};
 ghost use Rattle.vx_cursor.specs.Reading.{Gives, GivesBy, Answers, steps, items};
 ghost use Rattle.vx_class.specs.Code.{utf8_at, content_at, skipped_at, skip_step, all_skipped_at, catch_at, catches_at, row_checked, catches_checked, parts_at, code_checked, code_at};
 ghost use Rattle.vx_class.specs.Fits.{PartsFit};
+ghost use Rattle.vx_code.specs.Lookups.{text};
 
 use crate::class_file::{Catch, Code};
 use std::alloc::Global;
-use vx_code::{check_jumps, is_class, is_start, is_usable, starts_of, text};
+use vx_code::{JudgedPool, Starts, check_jumps, is_class, is_usable, starts_of, text};
 use vx_cursor::refusal;
 use vx_list::Items;
 use vx_pool::{ClassFault, Cursor, Pool};
@@ -16,6 +17,7 @@ use vx_pool::{ClassFault, Cursor, Pool};
 #[tactic(auto, unfolding(crate::specs::Code::utf8_at))]
 pub fn utf8<'p>(pool: &'p Pool, cursor: &mut Cursor) -> Result<(u16, &'p [u8]), ClassFault>
     ensures value { GivesBy (λ x. (x.0, x.1.now)) result cursor.new (utf8_at pool.now cursor.old) }
+    ensures named { IfOk result (λ x. text pool.now x.0 ≡ Some x.1.now) }
     ensures few { IfOk result (λ x. length x.1.now < 2 ^ 16) }
 {
     let at = cursor.at();
@@ -107,7 +109,7 @@ fn catches(alloc: Global, cursor: &mut Cursor) -> Result<Items<Catch>, ClassFaul
 /// The checks of a catch row that stands at `at`.
 fn catch_holds(
     pool: &Pool,
-    starts: &[u32],
+    starts: &Starts,
     code: &[u8],
     row: Catch,
     at: u64,
@@ -117,9 +119,9 @@ fn catch_holds(
 {
     if !(row.start < row.end
         && row.end as usize <= code.len()
-        && is_start(starts, u32::from(row.start))
-        && is_start(starts, u32::from(row.handler))
-        && (is_start(starts, u32::from(row.end)) || row.end as usize == code.len()))
+        && starts.has(u32::from(row.start))
+        && starts.has(u32::from(row.handler))
+        && (starts.has(u32::from(row.end)) || row.end as usize == code.len()))
     {
         return refusal(at, 12);
     }
@@ -138,7 +140,7 @@ fn catch_holds(
 /// The checks of catch rows, the first of which stands at `start`.
 fn check_catches(
     pool: &Pool,
-    starts: &[u32],
+    starts: &Starts,
     code: &[u8],
     rows: &[Catch],
     start: u64,
@@ -206,16 +208,16 @@ fn read_parts(
 
 /// The checks of instructions, then of jumps, then of catch rows.
 #[tactic(auto, unfolding(crate::specs::Code::code_checked))]
-fn check(alloc: Global, pool: &Pool, major: u16, parts: &Parts) -> Result<(), ClassFault>
+fn check(alloc: Global, pool: &JudgedPool, major: u16, parts: &Parts) -> Result<(), ClassFault>
     requires { PartsFit parts.now }
     ensures { Answers result (code_checked pool.now major parts.now) }
 {
     let code = parts.code.bytes.as_slice();
     let starts = starts_of(alloc, pool, major, parts.code.max_locals, code, parts.base)?;
-    check_jumps(starts.as_slice(), code, parts.base)?;
+    check_jumps(&starts, code, parts.base)?;
     check_catches(
-        pool,
-        starts.as_slice(),
+        pool.pool(),
+        &starts,
         code,
         parts.code.catches.as_slice(),
         parts.rows,
@@ -226,7 +228,7 @@ fn check(alloc: Global, pool: &Pool, major: u16, parts: &Parts) -> Result<(), Cl
 #[tactic(auto, unfolding(crate::specs::Code::code_at))]
 pub fn read_code(
     alloc: Global,
-    pool: &Pool,
+    pool: &JudgedPool,
     major: u16,
     slots: u16,
     at: u64,
@@ -237,7 +239,7 @@ pub fn read_code(
     let len = cursor.u4()?;
     cursor.room(len as usize)?;
     let start = cursor.at();
-    let parts = read_parts(alloc, pool, slots, cursor)?;
+    let parts = read_parts(alloc, pool.pool(), slots, cursor)?;
     if cursor.at() != start + u64::from(len) {
         return refusal(at, 12);
     }

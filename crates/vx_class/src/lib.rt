@@ -6,6 +6,7 @@ mod code;
 mod flags;
 mod members;
 mod methods;
+mod numbers;
 mod reading;
 
 pub use class_file::{Catch, ClassFile, Code, Field, Method};

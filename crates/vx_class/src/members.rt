@@ -1,20 +1,23 @@
 //! Fields (JVMS 4.5), the constants of static ones, and what fields and methods share.
 
-ghost use Rattle.std.specs.Prelude.{◌≡◌, ◌+◌, ◌^◌, ◌<◌, length, None, false, [], IfOk};
-ghost use Rattle.std.specs.List.{list_any};
+ghost use Rattle.std.specs.Prelude.{◌≡◌, ◌+◌, ◌^◌, ◌<◌, length, map, Some, None, false, [], IfOk, OnOk};
 ghost use Rattle.vx_cursor.specs.Reading.{Gives, GivesBy, steps, behind};
 ghost use Rattle.vx_desc.specs.Names.{is_field_name};
 ghost use Rattle.vx_desc.specs.Descriptors.{is_field_descriptor};
-ghost use Rattle.vx_code.specs.Lookups.{entry_of};
-ghost use Rattle.vx_class.specs.Members.{is_number_for, is_constant_for, constant_at, field_attribute_at, constant_among, lawful_at, is_text_of, is_same, field_at, fields_at, is_static, takes_code};
+ghost use Rattle.vx_code.specs.Lookups.{entry_of, text};
+ghost use Rattle.vx_class.specs.Members.{is_number_for, is_constant_for, constant_at, field_attribute_at, constant_among, lawful_at, field_at, fields_at};
+ghost use Rattle.vx_class.specs.Numbers.{numbers_of, field_key};
+ghost use Rattle.vx_class.specs.Rest.{field_behind};
 
 use crate::class_file::Field;
 use crate::code::{content, utf8};
 use crate::flags::{STATIC, has};
+use crate::numbers::{Taken, numbers_of, take};
+use indexmap::IndexSet;
 use std::alloc::Global;
-use vx_code::{entry_of, is_usable, text};
+use vx_code::{JudgedPool, entry_of, is_usable};
 use vx_cursor::refusal;
-use vx_desc::{Base, field_type, is_field_descriptor, is_field_name};
+use vx_desc::{Base, field_type};
 use vx_list::Items;
 use vx_pool::{ClassFault, Cursor, Entry, Pool};
 
@@ -113,49 +116,33 @@ fn field_attributes(
 }
 
 #[tactic(auto, unfolding(crate::specs::Members::lawful_at))]
-fn field_name<'p>(pool: &'p Pool, cursor: &mut Cursor) -> Result<(u16, &'p [u8]), ClassFault>
-    ensures { GivesBy (λ x. (x.0, x.1.now)) result cursor.new (lawful_at is_field_name 7 pool.now cursor.old) }
+fn field_name<'p>(pool: &JudgedPool<'p>, cursor: &mut Cursor) -> Result<(u16, &'p [u8]), ClassFault>
+    ensures value { GivesBy (λ x. (x.0, x.1.now)) result cursor.new (lawful_at is_field_name 7 pool.now cursor.old) }
+    ensures named { IfOk result (λ x. text pool.now x.0 ≡ Some x.1.now) }
 {
     let at = cursor.at();
-    let (index, name) = utf8(pool, cursor)?;
-    if !is_field_name(name) {
+    let (index, name) = utf8(pool.pool(), cursor)?;
+    if !pool.is_field_name(index) {
         return refusal(at, 7);
     }
     Ok((index, name))
 }
 
 #[tactic(auto, unfolding(crate::specs::Members::lawful_at))]
-fn field_descriptor<'p>(pool: &'p Pool, cursor: &mut Cursor) -> Result<(u16, &'p [u8]), ClassFault>
+fn field_descriptor<'p>(
+    pool: &JudgedPool<'p>,
+    cursor: &mut Cursor,
+) -> Result<(u16, &'p [u8]), ClassFault>
     ensures value { GivesBy (λ x. (x.0, x.1.now)) result cursor.new (lawful_at is_field_descriptor 8 pool.now cursor.old) }
+    ensures named { IfOk result (λ x. text pool.now x.0 ≡ Some x.1.now) }
     ensures few { IfOk result (λ x. length x.1.now < 2 ^ 16) }
 {
     let at = cursor.at();
-    let (index, descriptor) = utf8(pool, cursor)?;
-    if !is_field_descriptor(descriptor) {
+    let (index, descriptor) = utf8(pool.pool(), cursor)?;
+    if !pool.is_field_descriptor(index) {
         return refusal(at, 8);
     }
     Ok((index, descriptor))
-}
-
-fn is_text_of(pool: &Pool, index: u16, expected: &[u8]) -> bool
-    ensures { result ≡ is_text_of pool.now index expected.now }
-{
-    match text(pool, index) {
-        Some(text) => text == expected,
-        None => false,
-    }
-}
-
-pub fn is_same(pool: &Pool, name_index: u16, index: u16, name: &[u8], descriptor: &[u8]) -> bool
-    ensures { result ≡ is_same pool.now name_index index name.now descriptor.now }
-{
-    is_text_of(pool, name_index, name) && is_text_of(pool, index, descriptor)
-}
-
-fn is_field_taken(pool: &Pool, fields: &[Field], name: &[u8], descriptor: &[u8]) -> bool
-    ensures { result ≡ list_any (λ f. is_same pool.now f.name f.descriptor name.now descriptor.now) fields.now }
-{
-    fields.iter().any(|field| is_same(pool, field.name, field.descriptor, name, descriptor))
 }
 
 /// The constant among the attributes of a field.
@@ -173,23 +160,20 @@ fn constant_among(
     field_attributes(pool, is_static, descriptor, count, cursor)
 }
 
-/// A field, where those before it are known.
-#[tactic(auto, unfolding(crate::specs::Members::field_at))]
-fn field(
+/// A field whose flags, name and descriptor are read.
+fn field_behind(
     pool: &Pool,
     is_interface: bool,
-    fields: &[Field],
+    flags: u16,
+    name: u16,
+    descriptor: u16,
+    text: &[u8],
     cursor: &mut Cursor,
 ) -> Result<Field, ClassFault>
-    ensures { Gives result cursor.new (field_at pool.now is_interface fields.now cursor.old) }
+    requires { length text.now < 2 ^ 16 }
+    ensures value { Gives result cursor.new (field_behind pool.now is_interface flags name descriptor text.now cursor.old) }
+    ensures key { IfOk result (λ f. (f.name ≡ name) × (f.descriptor ≡ descriptor)) }
 {
-    let at = cursor.at();
-    let flags = cursor.u2()?;
-    let (name, name_text) = field_name(pool, cursor)?;
-    let (descriptor, text) = field_descriptor(pool, cursor)?;
-    if is_field_taken(pool, fields, name_text, text) {
-        return refusal(at, 12);
-    }
     let is_static = is_interface || has(flags, STATIC);
     let constant = constant_among(pool, is_static, text, cursor)?;
     let constant = constant.unwrap_or(0);
@@ -201,19 +185,57 @@ fn field(
     })
 }
 
+/// Puts the next field behind those before it, none of which has its name and its descriptor.
+fn add_field(
+    pool: &JudgedPool,
+    numbers: &[usize],
+    is_interface: bool,
+    fields: &mut Vec<Field>,
+    taken: &mut Taken,
+    cursor: &mut Cursor,
+) -> Result<(), ClassFault>
+    requires numbers { numbers.now ≡ numbers_of pool.now }
+    requires taken { taken.old.keys ≡ map (field_key numbers.now) fields.old.items }
+    ensures value { GivesBy (λ _. fields.new.items) result cursor.new (behind (field_at pool.now is_interface) fields.old.items cursor.old) }
+    ensures taken { OnOk result (taken.new.keys ≡ map (field_key numbers.now) fields.new.items) }
+{
+    let at = cursor.at();
+    let flags = cursor.u2()?;
+    let name = field_name(pool, cursor)?;
+    let descriptor = field_descriptor(pool, cursor)?;
+    let is_new = take(taken, numbers, name.0, descriptor.0)?;
+    if !is_new {
+        return refusal(at, 12);
+    }
+    let field = field_behind(
+        pool.pool(),
+        is_interface,
+        flags,
+        name.0,
+        descriptor.0,
+        descriptor.1,
+        cursor,
+    )?;
+    fields.push(field)?;
+    Ok(())
+}
+
 fn some_fields(
     alloc: Global,
-    pool: &Pool,
+    pool: &JudgedPool,
+    numbers: &[usize],
     is_interface: bool,
     count: u16,
+    taken: &mut Taken,
     cursor: &mut Cursor,
 ) -> Result<Items<Field>, ClassFault>
+    requires numbers { numbers.now ≡ numbers_of pool.now }
+    requires taken { taken.old.keys ≡ [] }
     ensures { Gives result cursor.new (steps (behind (field_at pool.now is_interface)) [] count cursor.old) }
 {
     let mut fields = Vec::new(alloc);
     for _ in 0..count {
-        let next = field(pool, is_interface, &fields, cursor)?;
-        fields.push(next)?;
+        add_field(pool, numbers, is_interface, &mut fields, taken, cursor)?;
     }
     Ok(Items::of(fields))
 }
@@ -228,5 +250,16 @@ pub fn fields(
     ensures { Gives result cursor.new (fields_at pool.now is_interface cursor.old) }
 {
     let count = cursor.u2()?;
-    some_fields(alloc, pool, is_interface, count, cursor)
+    let judged = JudgedPool::of(alloc, pool)?;
+    let numbers = numbers_of(alloc, pool)?;
+    let mut taken = IndexSet::new(alloc);
+    some_fields(
+        alloc,
+        &judged,
+        numbers.as_slice(),
+        is_interface,
+        count,
+        &mut taken,
+        cursor,
+    )
 }

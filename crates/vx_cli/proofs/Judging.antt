@@ -15,13 +15,13 @@ use Rattle.vx_program_bounds.specs.Law.{LinkedAreBounded}
 use Rattle.vx_verify.specs.Verdict.{IsVerdict, has_short_code}
 use Rattle.vx_verify.specs.declared.verdict.Verdict.{Verdict}
 use Rattle.vx_verify.specs.declared.verdict.Verdict.TheVariants.{No, Yes}
-use Rattle.vx_cli.specs.Job.{IsTextOf, Judged, model_of, program_in, slashed}
+use Rattle.vx_cli.specs.Job.{IsNoProgram, IsTextOf, Judged, model_of, program_in, slashed}
 use Rattle.vx_cli.specs.KeepsFiles.{KeepsFiles}
 use Rattle.vx_cli.specs.Plan.{Leads, MayGive, MayStop, Plan, Write, attempt}
 use Rattle.vx_cli.specs.Run.{read_folder}
 use Rattle.vx_cli.specs.Sized.{most_bytes, read_sized}
 use Rattle.vx_cli.specs.Verdicts.{IsVerdictText, refused_text, verdict_text}
-use Rattle.vx_cli.specs.Verify.{IsUnjudged, IsVerdictOf, judge_classes, read_any_model, verify_plan}
+use Rattle.vx_cli.specs.Verify.{IsVerdictOf, judge_classes, read_any_model, verify_plan}
 use Rattle.vx_cli.specs.declared.status.Status.{Status}
 use Rattle.vx_cli.specs.declared.status.Status.TheVariants.{NoMemory}
 use Rattle.vx_cli.proofs.Plans.{attempt_goes, keeps_then, then_leads, value_stops}
@@ -58,25 +58,25 @@ can_be_judged main model classes p law few read e =
     (bounded.classes, sym (short_codes p.methods) ∙ bounded.codes)
 
 pub of_judged : (main : List ℕ) (model : Model) (classes : List ClassFile) (p : Program) (r : Result (Vec ℕ Global) Status) → program_in main model classes ≡ Ok p
-    → MatchResult r (λ text. IsTextOf (Judged p) text.items) (λ status. status ≡ NoMemory) → MatchResult r (λ text. IsVerdictOf main model classes text.items) (IsUnjudged main model classes)
+    → MatchResult r (λ text. IsTextOf (Judged p) text.items) (λ status. status ≡ NoMemory) → MatchResult r (λ text. IsVerdictOf main model classes text.items) (IsNoProgram main model classes)
 of_judged main model classes p (Ok text) linked made = record { program = p; is_program = linked; is_text = made }
 of_judged main model classes p (Err status) linked made = inl made
 
 -- ---- the plan
 
-pub verify_ok : (old mid new : FilesState) (folder path main : List ℕ) (model : Model) (paths : List (List ℕ)) (classes : List ClassFile) (r : Result (Vec ℕ Global) Status) → KeepsFiles old mid
-    → ((next : Model → Plan) → Leads old.held (read_any_model path next) (next model)) → ((next : List (List ℕ) → List ClassFile → Plan) → Leads mid.held (read_folder folder next) (next paths classes))
-    → MatchResult r (λ text. IsVerdictOf main model classes text.items) (IsUnjudged main model classes) → IfOk r (λ text. MayGive old.held old.faults new.faults (verify_plan folder path main) (Ok text.items))
-verify_ok old mid new folder path main model paths classes (Err e) keeps modeled found made = tt
-verify_ok old mid new folder path main model paths classes (Ok text) keeps modeled found made =
+pub verify_ok : (old mid new : FilesState) (folder path main : List ℕ) (model : Model) (classes : List ClassFile) (r : Result (Vec ℕ Global) Status) → KeepsFiles old mid
+    → ((next : Model → Plan) → Leads old.held (read_any_model path next) (next model)) → ((next : List ClassFile → Plan) → Leads mid.held (read_folder folder next) (next classes))
+    → MatchResult r (λ text. IsVerdictOf main model classes text.items) (IsNoProgram main model classes) → IfOk r (λ text. MayGive old.held old.faults new.faults (verify_plan folder path main) (Ok text.items))
+verify_ok old mid new folder path main model classes (Err e) keeps modeled found made = tt
+verify_ok old mid new folder path main model classes (Ok text) keeps modeled found made =
     let there = then_leads (modeled (λ m. read_folder folder (judge_classes main m))) (rw keeps.held at (found (judge_classes main model))) in
     (then_leads there (attempt_goes old.held (program_in main model classes) (λ p. Write (Judged p)) made.program made.is_program)).to old.faults new.faults (Ok text.items) (text.items, made.is_text, refl)
 
-pub verify_err : (old mid new : FilesState) (folder path main : List ℕ) (model : Model) (paths : List (List ℕ)) (classes : List ClassFile) (r : Result (Vec ℕ Global) Status) → KeepsFiles old mid → KeepsFiles mid new
-    → ((next : Model → Plan) → Leads old.held (read_any_model path next) (next model)) → ((next : List (List ℕ) → List ClassFile → Plan) → Leads mid.held (read_folder folder next) (next paths classes))
-    → MatchResult r (λ text. IsVerdictOf main model classes text.items) (IsUnjudged main model classes) → IfErr r (λ status. MayStop old new (verify_plan folder path main) status)
-verify_err old mid new folder path main model paths classes (Ok text) keeps more modeled found made = tt
-verify_err old mid new folder path main model paths classes (Err status) keeps more modeled found made =
+pub verify_err : (old mid new : FilesState) (folder path main : List ℕ) (model : Model) (classes : List ClassFile) (r : Result (Vec ℕ Global) Status) → KeepsFiles old mid → KeepsFiles mid new
+    → ((next : Model → Plan) → Leads old.held (read_any_model path next) (next model)) → ((next : List ClassFile → Plan) → Leads mid.held (read_folder folder next) (next classes))
+    → MatchResult r (λ text. IsVerdictOf main model classes text.items) (IsNoProgram main model classes) → IfErr r (λ status. MayStop old new (verify_plan folder path main) status)
+verify_err old mid new folder path main model classes (Ok text) keeps more modeled found made = tt
+verify_err old mid new folder path main model classes (Err status) keeps more modeled found made =
     let there = then_leads (modeled (λ m. read_folder folder (judge_classes main m))) (rw keeps.held at (found (judge_classes main model))) in
     value_stops old new (verify_plan folder path main) (program_in main model classes) (λ p. Write (Judged p)) status (keeps_then keeps more) there made
 

@@ -1,5 +1,5 @@
 -- What the runs of the workload come to.
-use Rattle.std.proofs.Common.{◌≡◌, ◌≤◌, ◌⊎◌, ℕ, Bool, true, false, List, [], Ok, Err, arith, ap, codes, inl, inr, length, refl, subst, sym, ◌∙◌}
+use Rattle.std.proofs.Common.{◌≡◌, ◌≤◌, ◌⊎◌, ℕ, Bool, true, false, List, [], Ok, arith, ap, codes, inl, inr, length, refl, subst, sym, ◌∙◌}
 use Rattle.std.specs.Prelude.{All}
 use Rattle.vx_class.specs.File.{Holds}
 use Rattle.vx_class.specs.declared.class_file.ClassFile.{ClassFile}
@@ -16,12 +16,10 @@ use Rattle.vx_reporting.specs.Reported.{IsReportable}
 use Rattle.vx_reporting.specs.Reported as reporting
 use Rattle.vx_space.specs.Sets.{Sets}
 use Rattle.vx_spelled_ends.specs.Law.{LinkedAreSound, ReportsAreSpelled}
-use Rattle.vx_standing.specs.Rounds.{MeetsUnbuilt}
 use Rattle.vx_starting.specs.Starting.{MayStart}
 use Rattle.vx_summary.specs.Summary.{summary_text}
 use Rattle.vx_work_laws.specs.Law.{WorkIsLawful}
-use Rattle.vx_work_runs.specs.Law.{WorkIsBuilt}
-use Rattle.vx_cli.specs.Job.{IsModeled, names_of, or_bad_link, program_in}
+use Rattle.vx_cli.specs.Job.{IsModeled, IsNoProgram, names_of, or_bad_link, program_in}
 use Rattle.vx_cli.specs.Load.{IsSummaryOf, load_limit, load_model, load_program}
 use Rattle.vx_cli.specs.Plan.{AllowsNone}
 use Rattle.vx_cli.specs.declared.status.Status.{Status}
@@ -67,7 +65,7 @@ program_is seed options classes model p law w found =
 
 -- so that linking is refused for want of memory alone
 pub link_refused : (seed options : ℕ) (classes : List ClassFile) (model : Model) (status : Status) → WorkIsLawful → IsWork seed options classes model
-    → (status ≡ NoMemory) ⊎ (program_in (codes "Main") model classes ≡ Err status) → status ≡ NoMemory
+    → IsNoProgram (codes "Main") model classes status → status ≡ NoMemory
 link_refused seed options classes model status law w (inl e) = e
 link_refused seed options classes model status law w (inr bad) =
     let links = work_links seed options classes model law w in
@@ -83,11 +81,6 @@ pub model_refused : (seed options : ℕ) (classes : List ClassFile) (model : Mod
     → (status ≡ NoMemory) ⊎ ((status ≡ NoConfiguration) × AllowsNone model) → status ≡ NoMemory
 model_refused seed options classes model status w (inl e) = e
 model_refused seed options classes model status w (inr none) = absurd (allows_one options (subst AllowsNone w.model_is none.1))
-
--- no run of it comes to what isn't built
-pub none_unbuilt : (seed options : ℕ) (p : Program) (allowed : Config → Bool) → WorkIsBuilt → p ≡ load_program seed options → MeetsUnbuilt p allowed load_limit → ⊥
-unfolding load_program
-none_unbuilt seed options p allowed built is meets = built seed options allowed load_limit (subst (λ q. MeetsUnbuilt q allowed load_limit) is meets)
 
 -- the runs may start in the configurations that a model with the same options allows
 pub work_may_start : {I : Type 0} (seed options : ℕ) (classes : List ClassFile) (model found : Model) (p : Program) {sets : Sets I} (allowed : I) → LinkedAreBounded → WorkIsLawful → IsWork seed options classes model → program_in (codes "Main") model classes ≡ Ok p

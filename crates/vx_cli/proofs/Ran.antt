@@ -1,5 +1,5 @@
 -- What a run of a linked program came to, in terms of its class files and its model.
-use Rattle.std.proofs.Common.{◌≡◌, ◌<◌, ◌≤◌, ◌⊎◌, ℕ, Bool, List, MatchResult, Result, Ok, Err, Vec, Global, arith, sym, ap, subst, length, inl, inr}
+use Rattle.std.proofs.Common.{◌≡◌, ◌<◌, ◌≤◌, ◌⊎◌, ℕ, Bool, List, MatchResult, Result, Ok, Err, Vec, Global, arith, sym, ap, subst, length, inl}
 use Rattle.std.specs.Prelude.{All}
 use Rattle.vx_class.specs.File.{Holds}
 use Rattle.vx_class.specs.declared.class_file.ClassFile.{ClassFile}
@@ -14,14 +14,12 @@ use Rattle.vx_model.specs.Models.{is_allowed}
 use Rattle.vx_model.specs.declared.model.Model.{Model}
 use Rattle.vx_reporting.specs.Reported.{IsReportable, IsReported}
 use Rattle.vx_spelled_ends.specs.Law.{LinkedAreSound, ReportsAreSpelled}
-use Rattle.vx_standing.specs.Rounds.{MeetsUnbuilt}
 use Rattle.vx_standing.specs.State.{most_attempts}
 use Rattle.vx_starting.specs.Starting.{MayStart}
 use Rattle.vx_space.specs.Sets.{Sets}
-use Rattle.vx_cli.specs.Job.{IsModeled, IsReportOf, IsTextOf, Report, main_path, names_of, or_bad_link, program_in, slashed}
-use Rattle.vx_cli.specs.Run.{IsRefusedRun, IsUnbuiltRun}
+use Rattle.vx_cli.specs.Job.{IsModeled, IsNoProgram, IsReportOf, IsTextOf, Report, names_of, or_bad_link, program_in, slashed}
 use Rattle.vx_cli.specs.declared.status.Status.{Status}
-use Rattle.vx_cli.specs.declared.status.Status.TheVariants.{NoMemory, NotYet}
+use Rattle.vx_cli.specs.declared.status.Status.TheVariants.{NoMemory}
 
 linked_if : (r : Result Program LinkFault) (p : Program) → or_bad_link r ≡ Ok p → r ≡ Ok p
 linked_if (Ok q) p e = let same : q ≡ p = cc in ap Ok same
@@ -39,12 +37,11 @@ may_start main model classes p allowed limit law few read e m least most =
     record { bounded = bounds.0; options = rw m.options bounds.1; known = m.is_set.known; some = m.some; least = least; most = most }
 
 -- what comes of the program that class files link to comes of the class files
-pub of_linked : (folder main : List ℕ) (limit version : ℕ) (model : Model) (paths : List (List ℕ)) (classes : List ClassFile) (p : Program) (r : Result (Vec ℕ Global) Status) → program_in main model classes ≡ Ok p
-    → MatchResult r (λ text. IsTextOf (Report version model limit p) text.items) (λ status. (status ≡ NoMemory) ⊎ IsUnbuiltRun folder limit model paths p status)
-    → MatchResult r (λ text. IsReportOf main limit version model classes text.items) (IsRefusedRun folder main limit model paths classes)
-of_linked folder main limit version model paths classes p (Ok text) linked made = record { program = p; is_program = linked; is_report = made }
-of_linked folder main limit version model paths classes p (Err status) linked (inl e) = inl e
-of_linked folder main limit version model paths classes p (Err status) linked (inr unbuilt) = inr (inr (p, linked, unbuilt))
+pub of_linked : (main : List ℕ) (limit version : ℕ) (model : Model) (classes : List ClassFile) (p : Program) (r : Result (Vec ℕ Global) Status) → program_in main model classes ≡ Ok p
+    → MatchResult r (λ text. IsTextOf (Report version model limit p) text.items) (λ status. status ≡ NoMemory)
+    → MatchResult r (λ text. IsReportOf main limit version model classes text.items) (IsNoProgram main model classes)
+of_linked main limit version model classes p (Ok text) linked made = record { program = p; is_program = linked; is_report = made }
+of_linked main limit version model classes p (Err status) linked made = inl made
 
 -- the report of a program of these class files under a model can be spelled
 pub reportable_run : {I : Type 0} (main : List ℕ) (limit version : ℕ) (model : Model) (classes : List ClassFile) (p : Program) {sets : Sets I} (allowed : I) → LinkedAreSound → ReportsAreSpelled → All Holds classes → program_in main model classes ≡ Ok p
@@ -61,10 +58,6 @@ reportable_run main limit version model classes p allowed sound spelled read lin
 -- a set of configurations that is that of the model
 pub allowed_is : (model : Model) (allowed : Config → Bool) → ((c : Config) → allowed c ≡ is_allowed model c) → allowed ≡ is_allowed model
 allowed_is model allowed same = λ i c. same c i
-
-pub unbuilt_run : (folder : List ℕ) (limit : ℕ) (model : Model) (paths : List (List ℕ)) (p : Program) (allowed : Config → Bool) (status : Status) → ((c : Config) → allowed c ≡ is_allowed model c)
-    → MeetsUnbuilt p allowed limit → status ≡ NotYet (main_path folder paths p) → IsUnbuiltRun folder limit model paths p status
-unbuilt_run folder limit model paths p allowed status same meets is = record { meets = subst (λ f. MeetsUnbuilt p f limit) (allowed_is model allowed same) meets; named = is }
 
 -- findings say what the report of lockstep does of each list of just the allowed configurations
 abbrev pub SayLockstep : {S I : Type 0} → Program → Sets I → ℕ → (Config → Bool) → ℕ → FindingsView S I → Type 0

@@ -14,14 +14,13 @@ use Rattle.vx_model.specs.Text.{BadLine}
 use Rattle.vx_link.specs.Linked.{linked_program}
 use Rattle.vx_link.specs.declared.fault.LinkFault.{LinkFault}
 use Rattle.vx_link.specs.declared.program.Program.{Program}
-use Rattle.vx_standing.specs.Rounds.{MeetsUnbuilt}
 use Rattle.vx_cli.specs.declared.status.Status.{Status}
-use Rattle.vx_cli.specs.declared.status.Status.TheVariants.{Done, NoMemory, ReadFault, WriteFault, BadModel, NoConfiguration, BadClass, BadLink, TooLarge, NotYet}
-use Rattle.vx_cli.specs.Causes.{HasClasses, IsReached, IsModelOf, IsGoodModel, IsNotTaken, IsNotLinked, AreAll, class_bytes, AreClasses, InputCause, RunCause, Shows, IsShown, IsGood, NothingFails}
+use Rattle.vx_cli.specs.declared.status.Status.TheVariants.{Done, NoMemory, ReadFault, WriteFault, BadModel, NoConfiguration, BadClass, BadLink, TooLarge}
+use Rattle.vx_cli.specs.Causes.{HasClasses, IsReached, IsModelOf, IsGoodModel, IsNotLinked, AreAll, class_bytes, AreClasses, InputCause, RunCause, Shows, IsShown, IsGood, NothingFails}
 use Rattle.vx_cli.specs.Command.{Run}
-use Rattle.vx_cli.specs.Job.{is_class_path, main_path, model_of, or_bad_link, or_bad_model, program_in, slashed, spelled_model, Report}
+use Rattle.vx_cli.specs.Job.{is_class_path, model_of, or_bad_link, or_bad_model, program_in, slashed, spelled_model, Report}
 use Rattle.vx_cli.specs.Plan.{Plan, MayGive, Write, If_allowed, AllowsSome, AllowsNone, attempt}
-use Rattle.vx_cli.specs.Run.{read_classes, read_model, read_folder, run_classes, run_plan, run_program, class_in, or_bad_class, most_classes, place_of, class_paths}
+use Rattle.vx_cli.specs.Run.{read_classes, read_model, read_folder, run_classes, run_plan, class_in, or_bad_class, most_classes, place_of, class_paths}
 use Rattle.vx_cli.specs.Sized.{most_bytes, too_large}
 use Rattle.vx_cli.proofs.Told.{told_map, told_both, unless_cases, large_cases, IsText, SizedShows, sized_shows, attempt_cases, ok_and_err, same_value}
 
@@ -108,13 +107,13 @@ classes_show old new folder model all next (path ∷ paths) done classes outcome
 
 -- ---- the folder
 
-abbrev pub FolderShows : FilesState → FilesState → List ℕ → List ℕ → (List (List ℕ) → List ClassFile → Plan) → Result (List ℕ) Status → Type 0
+abbrev pub FolderShows : FilesState → FilesState → List ℕ → List ℕ → (List ClassFile → Plan) → Result (List ℕ) Status → Type 0
 FolderShows old new folder model next outcome =
     ((status : Status) × (outcome ≡ Err status) × InputCause old new folder model status)
-    ⊎ ((paths : List (List ℕ)) × (classes : List ClassFile) × IfSome old.held (λ held. AreAll held folder paths classes) × MayGive old.held old.faults new.faults (next paths classes) outcome)
+    ⊎ ((paths : List (List ℕ)) × (classes : List ClassFile) × IfSome old.held (λ held. AreAll held folder paths classes) × MayGive old.held old.faults new.faults (next classes) outcome)
 
 -- a listing has one length
-pub folder_shows : (old new : FilesState) (folder model : List ℕ) (next : List (List ℕ) → List ClassFile → Plan) (outcome : Result (List ℕ) Status)
+pub folder_shows : (old new : FilesState) (folder model : List ℕ) (next : List ClassFile → Plan) (outcome : Result (List ℕ) Status)
     → MayGive old.held old.faults new.faults (read_folder folder next) outcome → FolderShows old new folder model next outcome
 folder_shows old new folder model next outcome (inl fault) = inl (ReadFault folder, fault.1, inr (inl (refl, fault.0)))
 folder_shows old new folder model next outcome (inr g) = by_size (unless_cases old.held old.faults new.faults (too_large folder most_classes (length (class_paths g.0))) _ outcome g.2) (large_cases folder most_classes (length (class_paths g.0)))
@@ -122,16 +121,16 @@ folder_shows old new folder model next outcome (inr g) = by_size (unless_cases o
     start : IfSome old.held (λ held. SoFar held folder [] (class_paths g.0) [])
     start = told_map old.held _ _ (λ held h. record { all = record { listing = g.0; listed = h; classes = refl }; good = tt }) g.1
 
-    by_size : ((status : Status) × (too_large folder most_classes (length (class_paths g.0)) ≡ Some status) × (outcome ≡ Err status)) ⊎ ((too_large folder most_classes (length (class_paths g.0)) ≡ None) × MayGive old.held old.faults new.faults (read_classes folder (next (class_paths g.0)) [] (class_paths g.0)) outcome)
+    by_size : ((status : Status) × (too_large folder most_classes (length (class_paths g.0)) ≡ Some status) × (outcome ≡ Err status)) ⊎ ((too_large folder most_classes (length (class_paths g.0)) ≡ None) × MayGive old.held old.faults new.faults (read_classes folder next [] (class_paths g.0)) outcome)
         → ((too_large folder most_classes (length (class_paths g.0)) ≡ None) × (length (class_paths g.0) ≤ most_classes)) ⊎ ((too_large folder most_classes (length (class_paths g.0)) ≡ Some (TooLarge folder most_classes)) × (most_classes < length (class_paths g.0)))
         → FolderShows old new folder model next outcome
     by_size (inl refused) (inl fits) = cc
     by_size (inl refused) (inr large) =
         inl (TooLarge folder most_classes, (let e : refused.0 ≡ TooLarge folder most_classes = cc in refused.2 ∙ ap Err e), inr (inl (refl, refl, told_map old.held _ _ (λ held h. (class_paths g.0, record { listing = g.0; listed = h; classes = refl }, large.1)) g.1)))
     by_size (inr goes) (inr large) = cc
-    by_size (inr goes) (inl fits) = by_classes (classes_show old new folder model (class_paths g.0) (next (class_paths g.0)) (class_paths g.0) [] [] outcome refl start (all_filter is_class_path g.0) goes.1)
+    by_size (inr goes) (inl fits) = by_classes (classes_show old new folder model (class_paths g.0) next (class_paths g.0) [] [] outcome refl start (all_filter is_class_path g.0) goes.1)
       where
-        by_classes : ClassesShow old new folder model (class_paths g.0) (next (class_paths g.0)) outcome → FolderShows old new folder model next outcome
+        by_classes : ClassesShow old new folder model (class_paths g.0) next outcome → FolderShows old new folder model next outcome
         by_classes (inl refused) = inl refused
         by_classes (inr read) = inr (class_paths g.0, read.0, told_map old.held _ _ (λ held h. record { listed = (rw append-nil at h.all); few = fits.1; good = h.good }) read.1, read.2)
 
@@ -145,36 +144,36 @@ bad_model_refused (Ok model) status e = cc
 pub model_refused : (path bytes : List ℕ) (status : Status) → model_of path bytes ≡ Err status → (line : ℕ) × (reason : ℕ) × (status ≡ BadModel line reason)
 model_refused path bytes status e = bad_model_refused (spelled_model path bytes) status e
 
-abbrev ModelShows : FilesState → FilesState → List ℕ → List ℕ → List ℕ → ℕ → (Model → Plan) → Result (List ℕ) Status → Type 0
-ModelShows old new folder path main limit next outcome =
-    ((status : Status) × (outcome ≡ Err status) × RunCause old new folder path main limit status)
+abbrev ModelShows : FilesState → FilesState → List ℕ → List ℕ → List ℕ → (Model → Plan) → Result (List ℕ) Status → Type 0
+ModelShows old new folder path main next outcome =
+    ((status : Status) × (outcome ≡ Err status) × RunCause old new folder path main status)
     ⊎ ((model : Model) × IfSome old.held (λ held. IsGoodModel held path model) × MayGive old.held old.faults new.faults (next model) outcome)
 
-model_shows : (old new : FilesState) (folder path main : List ℕ) (limit : ℕ) (next : Model → Plan) (outcome : Result (List ℕ) Status)
-    → MayGive old.held old.faults new.faults (read_model path next) outcome → ModelShows old new folder path main limit next outcome
-model_shows old new folder path main limit next outcome g = by_file (sized_shows old new most_bytes path path _ outcome g)
+model_shows : (old new : FilesState) (folder path main : List ℕ) (next : Model → Plan) (outcome : Result (List ℕ) Status)
+    → MayGive old.held old.faults new.faults (read_model path next) outcome → ModelShows old new folder path main next outcome
+model_shows old new folder path main next outcome g = by_file (sized_shows old new most_bytes path path _ outcome g)
   where
     is_refused : (bytes : List ℕ) (refusal status : Status) → IsText old most_bytes path bytes → model_of path bytes ≡ Err refusal → refusal ≡ status → IfSome old.held (λ held. (length (contents held path) ≤ most_bytes) × (model_of path (contents held path) ≡ Err status))
     is_refused bytes refusal status told bad is = told_map old.held _ _ (λ held h. (h.0, ap (model_of path) (sym h.1) ∙ bad ∙ ap Err is)) told
 
     by_refusal : (bytes : List ℕ) (status : Status) → IsText old most_bytes path bytes → model_of path bytes ≡ Err status → outcome ≡ Err status
-        → (line : ℕ) × (reason : ℕ) × (status ≡ BadModel line reason) → ModelShows old new folder path main limit next outcome
+        → (line : ℕ) × (reason : ℕ) × (status ≡ BadModel line reason) → ModelShows old new folder path main next outcome
     by_refusal bytes status told bad is e = inl (BadModel e.0 e.1, is ∙ ap Err e.2, is_refused bytes status (BadModel e.0 e.1) told bad e.2)
 
     is_model : (bytes : List ℕ) (model : Model) (held : Held) → model_of path bytes ≡ Ok model → (length (contents held path) ≤ most_bytes) × (bytes ≡ contents held path) → IsModelOf held path model
     is_model bytes model held taken h = record { fits = h.0; reads = ap (model_of path) (sym h.1) ∙ taken }
 
     by_allowed : (bytes : List ℕ) (model : Model) → IsText old most_bytes path bytes → model_of path bytes ≡ Ok model
-        → (AllowsNone model × (outcome ≡ Err NoConfiguration)) ⊎ (AllowsSome model × MayGive old.held old.faults new.faults (next model) outcome) → ModelShows old new folder path main limit next outcome
+        → (AllowsNone model × (outcome ≡ Err NoConfiguration)) ⊎ (AllowsSome model × MayGive old.held old.faults new.faults (next model) outcome) → ModelShows old new folder path main next outcome
     by_allowed bytes model told taken (inl none) = inl (NoConfiguration, none.1, told_map old.held _ _ (λ held h. (model, is_model bytes model held taken h, none.0)) told)
     by_allowed bytes model told taken (inr some) = inr (model, told_map old.held _ _ (λ held h. record { spelled = is_model bytes model held taken h; allows = some.0 }) told, some.1)
 
     by_test : (bytes : List ℕ) → IsText old most_bytes path bytes
-        → ((status : Status) × (model_of path bytes ≡ Err status) × (outcome ≡ Err status)) ⊎ ((model : Model) × (model_of path bytes ≡ Ok model) × MayGive old.held old.faults new.faults (If_allowed model (next model)) outcome) → ModelShows old new folder path main limit next outcome
+        → ((status : Status) × (model_of path bytes ≡ Err status) × (outcome ≡ Err status)) ⊎ ((model : Model) × (model_of path bytes ≡ Ok model) × MayGive old.held old.faults new.faults (If_allowed model (next model)) outcome) → ModelShows old new folder path main next outcome
     by_test bytes told (inl bad) = by_refusal bytes bad.0 told bad.1 bad.2 (model_refused path bytes bad.0 bad.1)
     by_test bytes told (inr good) = by_allowed bytes good.0 told good.1 good.2
 
-    by_file : SizedShows old new most_bytes path path (λ t. attempt (model_of path t) (λ m. If_allowed m (next m))) outcome → ModelShows old new folder path main limit next outcome
+    by_file : SizedShows old new most_bytes path path (λ t. attempt (model_of path t) (λ m. If_allowed m (next m))) outcome → ModelShows old new folder path main next outcome
     by_file (inl (inl fault)) = inl (ReadFault path, fault.1, inl (refl, fault.0))
     by_file (inl (inr large)) = inl (TooLarge path most_bytes, large.1, inl (refl, refl, large.0))
     by_file (inr read) = by_test read.0 read.1 (attempt_cases old.held old.faults new.faults (model_of path read.0) _ outcome read.2)
@@ -182,11 +181,10 @@ model_shows old new folder path main limit next outcome g = by_file (sized_shows
 -- ---- the whole run
 
 -- what refuses the files of any command that links them refuses them here
-run_cause : (old new : FilesState) (folder model main : List ℕ) (limit : ℕ) (status : Status) → InputCause old new folder model status → RunCause old new folder model main limit status
-run_cause old new folder model main limit NoConfiguration cause = absurd cause
-run_cause old new folder model main limit (BadLink fault) cause = absurd cause
-run_cause old new folder model main limit (NotYet path) cause = absurd cause
-run_cause old new folder model main limit status cause = cause
+run_cause : (old new : FilesState) (folder model main : List ℕ) (status : Status) → InputCause old new folder model status → RunCause old new folder model main status
+run_cause old new folder model main NoConfiguration cause = absurd cause
+run_cause old new folder model main (BadLink fault) cause = absurd cause
+run_cause old new folder model main status cause = cause
 
 -- class files are refused by their first fault
 refused_link : (r : Result Program LinkFault) (status : Status) → or_bad_link r ≡ Err status → (fault : LinkFault) × (status ≡ BadLink fault) × (r ≡ Err fault)
@@ -206,9 +204,9 @@ faulty_program main model classes fault e = ap or_bad_link e
 
 -- whatever the plan of `run` gave is shown by the files
 pub run_shows : (old new : FilesState) (folder path main : List ℕ) (limit version : ℕ) (outcome : Result (List ℕ) Status) → MayGive old.held old.faults new.faults (run_plan folder path main limit version) outcome → Shows old new (Run folder path main limit version) outcome
-run_shows old new folder path main limit version outcome g = by_model (model_shows old new folder path main limit _ outcome g)
+run_shows old new folder path main limit version outcome g = by_model (model_shows old new folder path main _ outcome g)
   where
-    refused : (status : Status) → outcome ≡ Err status → RunCause old new folder path main limit status → Shows old new (Run folder path main limit version) outcome
+    refused : (status : Status) → outcome ≡ Err status → RunCause old new folder path main status → Shows old new (Run folder path main limit version) outcome
     refused status e cause = rw e cause
 
     by_refusal : (model : Model) (paths : List (List ℕ)) (classes : List ClassFile) → IfSome old.held (λ held. IsGoodModel held path model) → IfSome old.held (λ held. AreAll held folder paths classes)
@@ -217,35 +215,28 @@ run_shows old new folder path main limit version outcome g = by_model (model_sho
     by_refusal model paths classes modeled all status is n =
         refused (BadLink n.0) (is ∙ ap Err n.1) (told_both old.held _ _ _ (λ held m h. record { model = model; modeled = m; paths = paths; classes = classes; all = h; faulty = n.2 }) modeled all)
 
-    by_built : (model : Model) (paths : List (List ℕ)) (classes : List ClassFile) → IfSome old.held (λ held. IsGoodModel held path model) → IfSome old.held (λ held. AreAll held folder paths classes)
-        → (program : Program) → program_in main model classes ≡ Ok program
-        → (MeetsUnbuilt program (is_allowed model) limit × (outcome ≡ Err (NotYet (main_path folder paths program)))) ⊎ MayGive old.held old.faults new.faults (Write (Report version model limit program)) outcome
+    by_program : (model : Model) (paths : List (List ℕ)) (classes : List ClassFile) → IfSome old.held (λ held. IsGoodModel held path model) → IfSome old.held (λ held. AreAll held folder paths classes)
+        → ((status : Status) × (program_in main model classes ≡ Err status) × (outcome ≡ Err status)) ⊎ ((program : Program) × (program_in main model classes ≡ Ok program) × MayGive old.held old.faults new.faults (Write (Report version model limit program)) outcome)
         → Shows old new (Run folder path main limit version) outcome
-    by_built model paths classes modeled all program linked (inl unbuilt) =
-        refused (NotYet (main_path folder paths program)) unbuilt.1 (told_both old.held _ _ _ (λ held m h. record { model = model; modeled = m; paths = paths; classes = classes; all = h; program = program; linked = linked; unbuilt = unbuilt.0; named = refl }) modeled all)
-    by_built model paths classes modeled all program linked (inr good) =
-        rw good.2 (told_both old.held _ _ _ (λ held m h. record {
+    by_program model paths classes modeled all (inl bad) = by_refusal model paths classes modeled all bad.0 bad.2 (refused_program main model classes bad.0 bad.1)
+    by_program model paths classes modeled all (inr good) =
+        let written = good.2 in
+        rw written.2 (told_both old.held _ _ _ (λ held m h. record {
           model = model;
           modeled = m;
           paths = paths;
           classes = classes;
           all = h;
-          reported = record { program = program; is_program = linked; is_report = good.1 };
+          reported = record { program = good.0; is_program = good.1; is_report = written.1 };
         }) modeled all)
 
-    by_program : (model : Model) (paths : List (List ℕ)) (classes : List ClassFile) → IfSome old.held (λ held. IsGoodModel held path model) → IfSome old.held (λ held. AreAll held folder paths classes)
-        → ((status : Status) × (program_in main model classes ≡ Err status) × (outcome ≡ Err status)) ⊎ ((program : Program) × (program_in main model classes ≡ Ok program) × MayGive old.held old.faults new.faults (run_program folder limit version model paths program) outcome)
-        → Shows old new (Run folder path main limit version) outcome
-    by_program model paths classes modeled all (inl bad) = by_refusal model paths classes modeled all bad.0 bad.2 (refused_program main model classes bad.0 bad.1)
-    by_program model paths classes modeled all (inr good) = by_built model paths classes modeled all good.0 good.1 good.2
-
-    by_folder : (model : Model) → IfSome old.held (λ held. IsGoodModel held path model) → FolderShows old new folder path (run_classes folder main limit version model) outcome → Shows old new (Run folder path main limit version) outcome
-    by_folder model modeled (inl stop) = refused stop.0 stop.1 (run_cause old new folder path main limit stop.0 stop.2)
+    by_folder : (model : Model) → IfSome old.held (λ held. IsGoodModel held path model) → FolderShows old new folder path (run_classes main limit version model) outcome → Shows old new (Run folder path main limit version) outcome
+    by_folder model modeled (inl stop) = refused stop.0 stop.1 (run_cause old new folder path main stop.0 stop.2)
     by_folder model modeled (inr read) = by_program model read.0 read.1 modeled read.2 (attempt_cases old.held old.faults new.faults (program_in main model read.1) _ outcome read.3)
 
-    by_model : ModelShows old new folder path main limit (λ model. read_folder folder (run_classes folder main limit version model)) outcome → Shows old new (Run folder path main limit version) outcome
+    by_model : ModelShows old new folder path main (λ model. read_folder folder (run_classes main limit version model)) outcome → Shows old new (Run folder path main limit version) outcome
     by_model (inl stop) = refused stop.0 stop.1 stop.2
-    by_model (inr modeled) = by_folder modeled.0 modeled.1 (folder_shows old new folder path (run_classes folder main limit version modeled.0) outcome modeled.2)
+    by_model (inr modeled) = by_folder modeled.0 modeled.1 (folder_shows old new folder path (run_classes main limit version modeled.0) outcome modeled.2)
 
 -- the class of a file among those that spell classes
 pub class_at : (held : Held) (folder path : List ℕ) (before after : List (List ℕ)) (classes : List ClassFile) → AreClasses held folder (before ++ path ∷ after) classes
@@ -277,14 +268,6 @@ run_completes old new out out' folder model main limit version held status told 
 
     is_reached : (path : List ℕ) → IsReached held folder path → (length (class_bytes held folder path) ≤ most_bytes) × ((class : ClassFile) × (class_of (class_bytes held folder path) ≡ Ok class))
     is_reached path r = let k = good.2 (r.before ++ path ∷ r.after) r.listed in class_at held folder path r.before r.after k.0 k.1.good
-
-    not_taken : (path : List ℕ) → IsNotTaken held folder model main limit path → ⊥
-    not_taken path h =
-        let n = good.2 h.paths h.all.listed in
-        let m : h.model ≡ good.0 = same_value h.model good.0 _ h.modeled.spelled.reads good.1.spelled.reads in
-        let classes : h.classes ≡ n.0 = same_classes held folder h.paths h.classes n.0 h.all.good n.1.good in
-        let program : h.program ≡ n.2.0 = same_value h.program n.2.0 _ h.linked (rw (m, classes) n.2.1) in
-        n.2.2 (rw (m, program) at h.unbuilt)
 
     not_linked : (fault : LinkFault) → IsNotLinked held folder model main fault → ⊥
     not_linked fault h =
@@ -325,5 +308,4 @@ run_completes old new out out' folder model main limit version held status told 
     ])
     by_status (BadModel line reason) h = absurd (bad_model (BadModel line reason) h.0)
     by_status NoConfiguration h = absurd (no_configuration (here (λ held. (m : Model) × IsModelOf held model m × AllowsNone m) h.0))
-    by_status (NotYet path) h = absurd (not_taken path (here (λ held. IsNotTaken held folder model main limit path) h.0))
     by_status s h = absurd h.0

@@ -32,7 +32,7 @@ help_text =
     ++ codes "  0 done          4 write fault        8 bad link      12 bad source\n"
     ++ codes "  1 no memory     5 bad model         10 bad report    13 too large\n"
     ++ codes "  2 usage         6 no configuration  11 not allowed   14 unlike\n"
-    ++ codes "  3 read fault    7 bad class                          20 not yet\n"
+    ++ codes "  3 read fault    7 bad class\n"
     ++ codes "\n"
     ++ codes "Example: varexj run classes shop.cnf shop.Main 100000 > shop.report\n"
     ++ codes "         varexj explain shop.report\n"

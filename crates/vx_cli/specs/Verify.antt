@@ -1,5 +1,5 @@
 -- The plan of `verify`: the order of its questions and of its refusals.
-use Rattle.std.specs.Prelude.{Err, List, Ok, ℕ, ◌≡◌, ◌⊎◌}
+use Rattle.std.specs.Prelude.{List, Ok, ℕ, ◌≡◌}
 use Rattle.vx_class.specs.declared.class_file.ClassFile.{ClassFile}
 use Rattle.vx_link.specs.declared.program.Program.{Program}
 use Rattle.vx_model.specs.declared.model.Model.{Model}
@@ -7,16 +7,14 @@ use Rattle.vx_cli.specs.Job.{IsTextOf, Judged, model_of, program_in}
 use Rattle.vx_cli.specs.Plan.{Plan, Write, attempt}
 use Rattle.vx_cli.specs.Run.{read_folder}
 use Rattle.vx_cli.specs.Sized.{most_bytes, read_sized}
-use Rattle.vx_cli.specs.declared.status.Status.{Status}
-use Rattle.vx_cli.specs.declared.status.Status.TheVariants.{NoMemory}
 
 -- reads a model, whether or not it allows a configuration, and goes on with it
 abbrev pub read_any_model : List ℕ → (Model → Plan) → Plan
 read_any_model path next = read_sized most_bytes path path (λ text. attempt (model_of path text) next)
 
 -- the verdict over the program of the class files that were read, where they link
-abbrev pub judge_classes : List ℕ → Model → List (List ℕ) → List ClassFile → Plan
-judge_classes main model paths classes = attempt (program_in main model classes) (λ program. Write (Judged program))
+abbrev pub judge_classes : List ℕ → Model → List ClassFile → Plan
+judge_classes main model classes = attempt (program_in main model classes) (λ program. Write (Judged program))
 
 -- the plan of `verify`: the model first, then the folder, then its class files in ascending order, then linking
 abbrev pub verify_plan : List ℕ → List ℕ → List ℕ → Plan
@@ -27,7 +25,3 @@ pub record IsVerdictOf (main : List ℕ) (model : Model) (classes : List ClassFi
   pub program : Program
   pub is_program : program_in main model classes ≡ Ok program
   pub is_text : IsTextOf (Judged program) text
-
--- why class files give no verdict, where they were read: memory, or the first fault of linking
-abbrev pub IsUnjudged : (main : List ℕ) → Model → List ClassFile → Status → Type 0
-IsUnjudged main model classes status = (status ≡ NoMemory) ⊎ (program_in main model classes ≡ Err status)

@@ -3,7 +3,6 @@
 ghost use Rattle.std.specs.Prelude.{◌≡◌, ◌≤◌, MatchResult};
 ghost use Rattle.vx_model.specs.Models.{is_allowed};
 ghost use Rattle.vx_reporting.specs.Reported.{IsReportOf, IsReportable};
-ghost use Rattle.vx_standing.specs.Rounds.{MeetsUnbuilt};
 ghost use Rattle.vx_starting.specs.Starting.{MayStart};
 ghost use Rattle.vx_cli.specs.Job.{IsModeled, names_of};
 ghost use Rattle.vx_cli.specs.Load.{IsSummary, load_model, load_program};
@@ -14,7 +13,6 @@ use crate::status::Status;
 use std::alloc::Global;
 use vx_bdd::BddSpace;
 use vx_engine::run_with;
-use vx_families::AttemptFault;
 use vx_gen::{WorkFiles, workload};
 use vx_link::Program;
 use vx_program_bounds::linked_are_bounded;
@@ -25,14 +23,12 @@ use vx_space::Space;
 use vx_spelled_ends::{linked_are_sound, reports_are_spelled};
 use vx_summary::summary_text;
 use vx_work_laws::work_is_lawful;
-use vx_work_runs::work_is_built;
 
-/// The report of a program's runs in the configurations that its model allows, none of which comes to what isn't built.
+/// The report of a program's runs in the configurations that its model allows. Where there is none, memory was wanting.
 fn report_of_work(alloc: Global, modeled: Modeled, program: &Program) -> Result<Report, Status>
     requires start { MayStart program.now (⟦<BddSpace as Space>⟧.sets modeled.space) modeled.allowed 1000000 }
     requires modeled { IsModeled modeled.model (⟦<BddSpace as Space>⟧.sets modeled.space) modeled.allowed }
     requires reportable { IsReportable 1 (names_of modeled.model) 1000000 (is_allowed modeled.model) program.now }
-    requires built { MeetsUnbuilt program.now ((⟦<BddSpace as Space>⟧.sets modeled.space).test modeled.allowed) 1000000 → ⊥ }
     ensures { MatchResult result (λ report. IsReportOf 1 (names_of modeled.model) 1000000 (is_allowed modeled.model) program.now report)
         (λ status. status ≡ Status.NoMemory) }
 {
@@ -42,18 +38,15 @@ fn report_of_work(alloc: Global, modeled: Modeled, program: &Program) -> Result<
         allowed,
     } = modeled;
     let names = names_of(alloc, &model)?;
-    match run_with(
+    let findings = run_with(
         alloc,
         program,
         &mut space,
         allowed,
         1_000_000,
         &mut LeastKey,
-    ) {
-        Ok(findings) => Ok(found_report(alloc, &space, 1, names, 1_000_000, findings)?),
-        Err(AttemptFault::NoMemory) => Err(Status::NoMemory),
-        Err(AttemptFault::NotYet) => unreachable!(),
-    }
+    )?;
+    Ok(found_report(alloc, &space, 1, names, 1_000_000, findings)?)
 }
 
 /// The report of the workload's runs.
@@ -64,7 +57,6 @@ fn work_report(alloc: Global, seed: u64, options: u32) -> Result<Report, Status>
         (λ status. status ≡ Status.NoMemory) }
 {
     work_is_lawful();
-    work_is_built();
     linked_are_bounded();
     linked_are_sound();
     reports_are_spelled();

@@ -42,7 +42,7 @@ Exit codes, with one line on the standard error for each but 0:\n\
 \x20 0 done          4 write fault        8 bad link      12 bad source\n\
 \x20 1 no memory     5 bad model         10 bad report    13 too large\n\
 \x20 2 usage         6 no configuration  11 not allowed   14 unlike\n\
-\x20 3 read fault    7 bad class                          20 not yet\n\
+\x20 3 read fault    7 bad class\n\
 \n\
 Example: varexj run classes shop.cnf shop.Main 100000 > shop.report\n\
 \x20        varexj explain shop.report\n";

@@ -161,24 +161,20 @@ pub fn read_class_files<F: Files>(
     Ok(classes)
 }
 
-/// The class files of a folder: their paths below it, ascending, and the classes that they spell.
-#[derive(Drop)]
-pub struct Folder {
-    pub paths: Vec<String>,
-    pub classes: Vec<ClassFile>,
-}
-
-/// Lists a folder and reads its class files.
-pub fn read_folder<F: Files>(alloc: Global, files: &mut F, folder: &str) -> Result<Folder, Status>
-    ensures ok { IfOk result (λ found. (next : List (List ℕ) → List ClassFile → Plan) →
-        Leads (F.seen files.old).held (read_folder folder.now next) (next (map string_bytes found.paths.items) found.classes.items)) }
-    ensures few { IfOk result (λ found. length found.classes.items ≤ 1024) }
-    ensures holds { IfOk result (λ found. All Holds found.classes.items) }
-    ensures err { IfErr result (λ status. (next : List (List ℕ) → List ClassFile → Plan) →
+/// Lists a folder and reads its class files, ascending by their paths.
+pub fn read_folder<F: Files>(
+    alloc: Global,
+    files: &mut F,
+    folder: &str,
+) -> Result<Vec<ClassFile>, Status>
+    ensures ok { IfOk result (λ classes. (next : List ClassFile → Plan) →
+        Leads (F.seen files.old).held (read_folder folder.now next) (next classes.items)) }
+    ensures few { IfOk result (λ classes. length classes.items ≤ 1024) }
+    ensures holds { IfOk result (λ classes. All Holds classes.items) }
+    ensures err { IfErr result (λ status. (next : List ClassFile → Plan) →
         MayStop (F.seen files.old) (F.seen files.new) (read_folder folder.now next) status) }
     ensures keeps { KeepsFiles (F.seen files.old) (F.seen files.new) }
 {
     let paths = list_class_files(alloc, files, folder)?;
-    let classes = read_class_files(alloc, files, folder, paths.as_slice())?;
-    Ok(Folder { paths, classes })
+    read_class_files(alloc, files, folder, paths.as_slice())
 }

@@ -5,19 +5,20 @@ ghost use Rattle.std.specs.List.{list_all};
 ghost use Rattle.vx_class.specs.File.{Holds};
 ghost use Rattle.vx_java.specs.Ids.{HasClassNumbers};
 ghost use Rattle.vx_model.specs.Models.{IsModel};
-ghost use Rattle.vx_cli.specs.Job.{IsTextOf, Judged};
+ghost use Rattle.vx_cli.specs.Job.{IsNoProgram, IsTextOf, Judged};
 ghost use Rattle.vx_cli.specs.KeepsFiles.{KeepsFiles};
 ghost use Rattle.vx_cli.specs.Plan.{MayGive, MayStop};
 ghost use Rattle.vx_cli.specs.Verdicts.{refused_text, verdict_text};
-ghost use Rattle.vx_cli.specs.Verify.{IsUnjudged, IsVerdictOf, verify_plan};
+ghost use Rattle.vx_cli.specs.Verify.{IsVerdictOf, verify_plan};
 ghost use Rattle.vx_verify.specs.Verdict.{has_short_code};
 
 use crate::job::program_in;
 use crate::modeling::read_any_model;
-use crate::reading::{Folder, read_folder};
+use crate::reading::read_folder;
 use crate::status::Status;
 use crate::words::VerifyWords;
 use std::alloc::{AllocError, Global};
+use vx_class::ClassFile;
 use vx_io::Files;
 use vx_link::Program;
 use vx_model::Model;
@@ -60,14 +61,19 @@ fn judged(alloc: Global, program: &Program) -> Result<Vec<u8>, Status>
 }
 
 /// The text of the verdict over the program of a folder's class files, or the refusal of their first fault.
-fn verdict_of(alloc: Global, main: &str, model: &Model, found: Folder) -> Result<Vec<u8>, Status>
-    requires few { length found.classes.items ≤ 1024 }
-    requires read { All Holds found.classes.items }
+fn verdict_of(
+    alloc: Global,
+    main: &str,
+    model: &Model,
+    classes: Vec<ClassFile>,
+) -> Result<Vec<u8>, Status>
+    requires few { length classes.items ≤ 1024 }
+    requires read { All Holds classes.items }
     requires model { IsModel model.now }
-    ensures { MatchResult result (λ text. IsVerdictOf main.now model.now found.classes.items text.items) (IsUnjudged main.now model.now found.classes.items) }
+    ensures { MatchResult result (λ text. IsVerdictOf main.now model.now classes.items text.items) (IsNoProgram main.now model.now classes.items) }
 {
     linked_are_bounded();
-    let program = program_in(alloc, main, model, found.classes)?;
+    let program = program_in(alloc, main, model, classes)?;
     judged(alloc, &program)
 }
 
@@ -84,6 +90,6 @@ pub fn verification<F: Files>(
     ensures keeps { KeepsFiles (F.seen files.old) (F.seen files.new) }
 {
     let model = read_any_model(alloc, files, words.model)?;
-    let found = read_folder(alloc, files, words.folder)?;
-    verdict_of(alloc, words.main, &model, found)
+    let classes = read_folder(alloc, files, words.folder)?;
+    verdict_of(alloc, words.main, &model, classes)
 }

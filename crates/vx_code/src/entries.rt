@@ -1,32 +1,27 @@
 //! The checks of the pool's entries (JVMS 4.4): what each names, in the order in which a class file is checked.
 
-ghost use Rattle.std.specs.Prelude.{◌≡◌, ◌+◌, ◌^◌, ◌<◌, ◌&&◌, sum_by, true, None};
+ghost use Rattle.std.specs.Prelude.{◌≡◌, ◌+◌, ◌^◌, ◌<◌, sum_by};
 ghost use Rattle.vx_cursor.specs.Reading.{Answers};
 ghost use Rattle.vx_pool.specs.Pool.{size};
 ghost use Rattle.vx_pool.specs.declared.pool.Entry.TheVariants.{Class, Text, Field, Method, MethodHandle, MethodType, NameAndType};
-ghost use Rattle.vx_desc.specs.Names.{is_field_name, is_method_name};
-ghost use Rattle.vx_desc.specs.Descriptors.{is_field_descriptor, is_method_descriptor};
-ghost use Rattle.vx_code.specs.Lookups.{text, member_name, member_descriptor, is_class_text};
 ghost use Rattle.vx_code.specs.Entries.{kind_checks, checks_of, entries_checked};
 ghost use Rattle.vx_code.specs.Checks.{first_failing};
 
-use crate::lookups::{
-    is_class, is_class_text, is_name_and_type, is_usable, member_descriptor, member_name, text,
-};
+use crate::judged::JudgedPool;
+use crate::lookups::{is_class, is_name_and_type, is_usable, name_and_type, text};
 use std::alloc::Global;
 use vx_cursor::refusal;
-use vx_desc::{is_field_descriptor, is_field_name, is_method_descriptor, is_method_name};
 use vx_pool::{ClassFault, Entry, Pool};
 
-fn class_entry(pool: &Pool, index: u16, at: u64) -> Result<(), ClassFault>
+fn class_entry(pool: &JudgedPool, index: u16, at: u64) -> Result<(), ClassFault>
     ensures { Answers result (first_failing at (checks_of pool.now (Class index))) }
 {
-    if !is_usable(pool, index) {
+    if !is_usable(pool.pool(), index) {
         return refusal(at, 5);
     }
-    match text(pool, index) {
+    match text(pool.pool(), index) {
         None => refusal(at, 6),
-        Some(name) if !is_class_text(name) => refusal(at, 7),
+        Some(_) if !pool.is_class_text(index) => refusal(at, 7),
         Some(_) => Ok(()),
     }
 }
@@ -43,16 +38,16 @@ fn text_entry(pool: &Pool, index: u16, at: u64) -> Result<(), ClassFault>
     }
 }
 
-fn method_type_entry(alloc: Global, pool: &Pool, index: u16, at: u64) -> Result<(), ClassFault>
+fn method_type_entry(pool: &JudgedPool, index: u16, at: u64) -> Result<(), ClassFault>
     ensures { Answers result (first_failing at (checks_of pool.now (MethodType index))) }
 {
-    if !is_usable(pool, index) {
+    if !is_usable(pool.pool(), index) {
         return refusal(at, 5);
     }
-    match text(pool, index) {
+    match text(pool.pool(), index) {
         None => refusal(at, 6),
-        Some(descriptor) if is_method_descriptor(alloc, descriptor)? => Ok(()),
-        Some(_) => refusal(at, 8),
+        Some(_) if !pool.is_method_descriptor(index) => refusal(at, 8),
+        Some(_) => Ok(()),
     }
 }
 
@@ -69,56 +64,46 @@ fn member_entry(pool: &Pool, class: u16, member: u16, at: u64) -> Result<(), Cla
     Ok(())
 }
 
-fn field_entry(pool: &Pool, class: u16, member: u16, at: u64) -> Result<(), ClassFault>
+fn field_entry(pool: &JudgedPool, class: u16, member: u16, at: u64) -> Result<(), ClassFault>
     ensures { Answers result (first_failing at (checks_of pool.now (Field class member))) }
 {
-    member_entry(pool, class, member, at)?;
-    if member_name(pool, member).is_some_and(|name| !is_field_name(name)) {
-        return refusal(at, 7);
-    }
-    match member_descriptor(pool, member) {
-        Some(descriptor) if !is_field_descriptor(descriptor) => refusal(at, 8),
+    member_entry(pool.pool(), class, member, at)?;
+    match name_and_type(pool.pool(), member) {
+        Some((name, _)) if !pool.is_field_name(name) => refusal(at, 7),
+        Some((_, descriptor)) if !pool.is_field_descriptor(descriptor) => refusal(at, 8),
         _ => Ok(()),
     }
 }
 
-fn method_entry(
-    alloc: Global,
-    pool: &Pool,
-    class: u16,
-    member: u16,
-    at: u64,
-) -> Result<(), ClassFault>
+fn method_entry(pool: &JudgedPool, class: u16, member: u16, at: u64) -> Result<(), ClassFault>
     ensures { Answers result (first_failing at (checks_of pool.now (Method class member))) }
 {
-    member_entry(pool, class, member, at)?;
-    match member_name(pool, member) {
-        Some(name) if !is_method_name(name) => return refusal(at, 7),
-        _ => {}
-    }
-    match member_descriptor(pool, member) {
-        Some(descriptor) if !is_method_descriptor(alloc, descriptor)? => refusal(at, 8),
+    member_entry(pool.pool(), class, member, at)?;
+    match name_and_type(pool.pool(), member) {
+        Some((name, _)) if !pool.is_method_name(name) => refusal(at, 7),
+        Some((_, descriptor)) if !pool.is_method_descriptor(descriptor) => refusal(at, 8),
         _ => Ok(()),
     }
 }
 
 fn name_and_type_entry(
-    alloc: Global,
-    pool: &Pool,
+    pool: &JudgedPool,
     name: u16,
     descriptor: u16,
     at: u64,
 ) -> Result<(), ClassFault>
     ensures { Answers result (first_failing at (checks_of pool.now (NameAndType name descriptor))) }
 {
-    if !(is_usable(pool, name) && is_usable(pool, descriptor)) {
+    if !(is_usable(pool.pool(), name) && is_usable(pool.pool(), descriptor)) {
         return refusal(at, 5);
     }
-    match (text(pool, name), text(pool, descriptor)) {
-        (Some(name), Some(descriptor)) => {
-            if !is_field_name(name) {
+    match (text(pool.pool(), name), text(pool.pool(), descriptor)) {
+        (Some(_), Some(_)) => {
+            if !pool.is_field_name(name) {
                 refusal(at, 7)
-            } else if is_field_descriptor(descriptor) || is_method_descriptor(alloc, descriptor)? {
+            } else if pool.is_field_descriptor(descriptor)
+                || pool.is_method_descriptor(descriptor)
+            {
                 Ok(())
             } else {
                 refusal(at, 8)
@@ -139,23 +124,21 @@ fn usable_entry(pool: &Pool, index: u16, at: u64) -> Result<(), ClassFault>
 }
 
 /// The checks of an entry whose tag stands at `at`.
-fn entry(alloc: Global, pool: &Pool, entry: &Entry, at: u64) -> Result<(), ClassFault>
+fn entry(pool: &JudgedPool, entry: &Entry, at: u64) -> Result<(), ClassFault>
     ensures { Answers result (first_failing at (checks_of pool.now entry.now)) }
 {
     match entry {
         Entry::Class(name) => class_entry(pool, *name, at),
-        Entry::Text(text) => text_entry(pool, *text, at),
+        Entry::Text(text) => text_entry(pool.pool(), *text, at),
         Entry::Field(class, member) => field_entry(pool, *class, *member, at),
         Entry::Method(class, member) | Entry::InterfaceMethod(class, member) => {
-            method_entry(alloc, pool, *class, *member, at)
+            method_entry(pool, *class, *member, at)
         }
-        Entry::NameAndType(name, descriptor) => {
-            name_and_type_entry(alloc, pool, *name, *descriptor, at)
-        }
+        Entry::NameAndType(name, descriptor) => name_and_type_entry(pool, *name, *descriptor, at),
         Entry::MethodHandle(_, index) | Entry::InvokeDynamic(_, index) => {
-            usable_entry(pool, *index, at)
+            usable_entry(pool.pool(), *index, at)
         }
-        Entry::MethodType(descriptor) => method_type_entry(alloc, pool, *descriptor, at),
+        Entry::MethodType(descriptor) => method_type_entry(pool, *descriptor, at),
         _ => Ok(()),
     }
 }
@@ -175,15 +158,24 @@ fn size(entry: &Entry) -> u64
     }
 }
 
+/// The checks of the entries, where the texts are judged.
+fn check_each(pool: &JudgedPool, start: u64) -> Result<(), ClassFault>
+    requires { start + sum_by size pool.now.entries < 2 ^ 64 }
+    ensures { Answers result (entries_checked pool.now pool.now.entries start) }
+{
+    let mut at = start;
+    for item in pool.pool().entries.as_slice() {
+        entry(pool, item, at)?;
+        at += size(item);
+    }
+    Ok(())
+}
+
 /// The checks of the entries, the first of which stands at `start`.
 pub fn check_entries(alloc: Global, pool: &Pool, start: u64) -> Result<(), ClassFault>
     requires { start + sum_by size pool.now.entries < 2 ^ 64 }
     ensures { Answers result (entries_checked pool.now pool.now.entries start) }
 {
-    let mut at = start;
-    for item in pool.entries.as_slice() {
-        entry(alloc, pool, item, at)?;
-        at += size(item);
-    }
-    Ok(())
+    let judged = JudgedPool::of(alloc, pool)?;
+    check_each(&judged, start)
 }

@@ -6,12 +6,15 @@ ghost use Rattle.vx_opcode.specs.Decode.{TableFits};
 ghost use Rattle.vx_opcode.specs.declared.instruction.Operand.TheVariants.{Pool as PoolOperand, Interface, Dimensions};
 ghost use Rattle.vx_code.specs.Lookups.{entry_of, class_text, member_name, member_descriptor};
 ghost use Rattle.vx_code.specs.Checks.{first_failing};
-ghost use Rattle.vx_code.specs.Instructions.{local_of, is_long_local, local_fits, is_kind_for, called, is_callable, dimensions, pool_checks, operand_checks, whole_at, checked_at, starts_of};
+ghost use Rattle.vx_code.specs.Entries.{where_read};
+ghost use Rattle.vx_code.specs.Instructions.{has_slots, local_of, is_long_local, local_fits, is_kind_for, called, is_callable, dimensions, pool_checks, operand_checks, whole_at, checked_at, starts_of};
 
-use crate::lookups::{class_text, entry_of, is_array, is_usable, member_descriptor, member_name};
+use crate::judged::JudgedPool;
+use crate::lookups::{class_text, entry_of, is_array, is_usable, member_name, name_and_type, text};
+use crate::starts::Starts;
 use std::alloc::Global;
 use vx_cursor::refusal;
-use vx_desc::{is_init, method_slots};
+use vx_desc::is_init;
 use vx_list::Items;
 use vx_opcode::{Instruction, Operand, decode};
 use vx_pool::{ClassFault, Entry, Pool};
@@ -131,9 +134,24 @@ fn plain_operand(pool: &Pool, major: u16, opcode: u8, index: u16, at: u64) -> Re
     }
 }
 
+/// Whether the descriptor of a name and type has a receiver and arguments of so many slots.
+fn has_slots(pool: &JudgedPool, member: u16, slots: u8) -> bool
+    ensures { result ≡ where_read (has_slots slots) (member_descriptor pool.now member) }
+{
+    let Some((_, descriptor)) = name_and_type(pool.pool(), member) else {
+        return true;
+    };
+    match text(pool.pool(), descriptor) {
+        Some(_) => match pool.slots(descriptor) {
+            Some(count) => u16::from(count) + 1 == u16::from(slots),
+            None => false,
+        },
+        None => true,
+    }
+}
+
 fn interface_operand(
-    alloc: Global,
-    pool: &Pool,
+    pool: &JudgedPool,
     major: u16,
     opcode: u8,
     index: u16,
@@ -142,16 +160,10 @@ fn interface_operand(
 ) -> Result<(), ClassFault>
     ensures { Answers result (first_failing at (operand_checks pool.now major 0 opcode (Interface index slots))) }
 {
-    pool_operand(pool, major, opcode, index, at)?;
-    let Some(member) = called(pool, index) else {
-        return Ok(());
-    };
-    match member_descriptor(pool, member) {
-        Some(descriptor) => match method_slots(alloc, descriptor)? {
-            Some(count) if count + 1 == u16::from(slots) => Ok(()),
-            _ => refusal(at, 12),
-        },
-        None => Ok(()),
+    pool_operand(pool.pool(), major, opcode, index, at)?;
+    match called(pool.pool(), index) {
+        Some(member) if !has_slots(pool, member, slots) => refusal(at, 12),
+        _ => Ok(()),
     }
 }
 
@@ -177,8 +189,7 @@ fn dimensions_operand(
 
 /// The checks of an instruction that stands at `at`, but for its jumps.
 fn operand(
-    alloc: Global,
-    pool: &Pool,
+    pool: &JudgedPool,
     major: u16,
     max_locals: u16,
     instruction: Instruction,
@@ -188,12 +199,12 @@ fn operand(
 {
     let opcode = instruction.opcode;
     match instruction.operand {
-        Operand::Pool(index) => plain_operand(pool, major, opcode, index, at),
+        Operand::Pool(index) => plain_operand(pool.pool(), major, opcode, index, at),
         Operand::Interface(index, slots) => {
-            interface_operand(alloc, pool, major, opcode, index, slots, at)
+            interface_operand(pool, major, opcode, index, slots, at)
         }
         Operand::Dimensions(index, count) => {
-            dimensions_operand(pool, major, opcode, index, count, at)
+            dimensions_operand(pool.pool(), major, opcode, index, count, at)
         }
         other => {
             if local_fits(max_locals, opcode, other) {
@@ -226,8 +237,7 @@ pub fn whole_at(code: &[u8], at: u32, base: u64) -> Result<Instruction, ClassFau
 /// The instruction at a place, which meets its checks but for its jumps.
 #[tactic(auto, unfolding(crate::specs::Instructions::checked_at))]
 fn checked_at(
-    alloc: Global,
-    pool: &Pool,
+    pool: &JudgedPool,
     major: u16,
     max_locals: u16,
     code: &[u8],
@@ -241,21 +251,13 @@ fn checked_at(
     ensures bounds { IfOk result (λ i. (0 < i.length) × (at + i.length ≤ length code.now)) }
 {
     let instruction = whole_at(code, at, base)?;
-    operand(
-        alloc,
-        pool,
-        major,
-        max_locals,
-        instruction,
-        base + u64::from(at),
-    )?;
+    operand(pool, major, max_locals, instruction, base + u64::from(at))?;
     Ok(instruction)
 }
 
-/// The places where instructions stand.
-pub fn starts_of(
+fn places_of(
     alloc: Global,
-    pool: &Pool,
+    pool: &JudgedPool,
     major: u16,
     max_locals: u16,
     code: &[u8],
@@ -269,9 +271,27 @@ pub fn starts_of(
     let mut starts = Vec::new(alloc);
     let mut at = 0;
     while (at as usize) < code.len() {
-        let instruction = checked_at(alloc, pool, major, max_locals, code, base, at)?;
+        let instruction = checked_at(pool, major, max_locals, code, base, at)?;
         starts.push(at)?;
         at += instruction.length;
     }
     Ok(Items::of(starts))
+}
+
+/// The places where instructions stand.
+pub fn starts_of(
+    alloc: Global,
+    pool: &JudgedPool,
+    major: u16,
+    max_locals: u16,
+    code: &[u8],
+    base: u64,
+) -> Result<Starts, ClassFault>
+    requires size { length code.now ≤ 65535 }
+    requires fits { base + length code.now < 2 ^ 64 }
+    ensures value { Answers result (starts_of pool.now major max_locals code.now base) }
+    ensures below { IfOk result (λ starts. All (λ s. s < length code.now) starts) }
+{
+    let places = places_of(alloc, pool, major, max_locals, code, base)?;
+    Ok(Starts::of(alloc, places, code.len())?)
 }

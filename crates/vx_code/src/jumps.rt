@@ -5,29 +5,23 @@ ghost use Rattle.vx_cursor.specs.Reading.{Answers};
 ghost use Rattle.vx_opcode.specs.Numbers.{s4};
 ghost use Rattle.vx_opcode.specs.Decode.{TableFits};
 ghost use Rattle.vx_code.specs.Checks.{first_failing};
-ghost use Rattle.vx_code.specs.Instructions.{is_start, is_target, all_below, jump_checks, jumps_at, jumps_checked};
+ghost use Rattle.vx_code.specs.Instructions.{is_target, all_below, jump_checks, jumps_at, jumps_checked};
 
 use crate::instructions::whole_at;
+use crate::starts::Starts;
 use vx_cursor::{ClassFault, refusal};
 use vx_opcode::{Operand, keys, s4};
 
-/// Whether an instruction stands at a place, where `starts` are their places.
-pub fn is_start(starts: &[u32], at: u32) -> bool
-    ensures { result ≡ is_start starts.now at }
-{
-    starts.iter().any(|start| *start == at)
-}
-
-fn is_target(starts: &[u32], at: u32, jump: i32) -> bool
+fn is_target(starts: &Starts, at: u32, jump: i32) -> bool
     requires { at < 2 ^ 16 }
     ensures { result ≡ is_target starts.now at jump }
 {
     let target = at as i64 + i64::from(jump);
-    target >= 0 && is_start(starts, target as u32)
+    target >= 0 && starts.has(target as u32)
 }
 
 /// Whether the jump at a place of the code leads to an instruction.
-fn leads(starts: &[u32], code: &[u8], at: u32, place: u32) -> bool
+fn leads(starts: &Starts, code: &[u8], at: u32, place: u32) -> bool
     requires spot { at < 2 ^ 16 }
     requires size { length code.now < 2 ^ 16 }
     requires fits { place + 4 ≤ length code.now }
@@ -37,7 +31,7 @@ fn leads(starts: &[u32], code: &[u8], at: u32, place: u32) -> bool
 }
 
 /// Whether each of so many jumps, one every `stride` bytes, leads to an instruction.
-fn all_targets(starts: &[u32], code: &[u8], at: u32, count: u32, first: u32, stride: u32) -> bool
+fn all_targets(starts: &Starts, code: &[u8], at: u32, count: u32, first: u32, stride: u32) -> bool
     requires place { at < 2 ^ 16 }
     requires size { length code.now < 2 ^ 16 }
     requires step { (4 ≤ stride) × (stride ≤ 8) }
@@ -78,7 +72,7 @@ fn are_ascending(code: &[u8], pairs: u32, first: u32) -> bool
 
 /// The checks of the jumps of an instruction that stands at `place`.
 fn jumps(
-    starts: &[u32],
+    starts: &Starts,
     code: &[u8],
     at: u32,
     operand: Operand,
@@ -134,7 +128,7 @@ fn jumps(
 }
 
 /// The checks of the jumps of the instruction that stands at a place of the code.
-fn jumps_at(starts: &[u32], code: &[u8], at: u32, base: u64) -> Result<(), ClassFault>
+fn jumps_at(starts: &Starts, code: &[u8], at: u32, base: u64) -> Result<(), ClassFault>
     requires place { at < length code.now }
     requires size { length code.now < 2 ^ 16 }
     requires fits { base + length code.now < 2 ^ 64 }
@@ -145,13 +139,13 @@ fn jumps_at(starts: &[u32], code: &[u8], at: u32, base: u64) -> Result<(), Class
 }
 
 /// The checks of the jumps of all instructions.
-pub fn check_jumps(starts: &[u32], code: &[u8], base: u64) -> Result<(), ClassFault>
+pub fn check_jumps(starts: &Starts, code: &[u8], base: u64) -> Result<(), ClassFault>
     requires below { All (λ s. s < length code.now) starts.now }
     requires size { length code.now < 2 ^ 16 }
     requires fits { base + length code.now < 2 ^ 64 }
     ensures { Answers result (jumps_checked starts.now code.now base) }
 {
-    for start in starts {
+    for start in starts.as_slice() {
         jumps_at(starts, code, *start, base)?;
     }
     Ok(())

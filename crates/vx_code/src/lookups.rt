@@ -35,6 +35,16 @@ pub fn is_name_and_type(pool: &Pool, index: u16) -> bool
     matches!(entry_of(pool, index), Some(Entry::NameAndType(_, _)))
 }
 
+/// The name and the descriptor that an index names.
+pub fn name_and_type(pool: &Pool, index: u16) -> Option<(u16, u16)>
+    ensures { result ≡ name_and_type (entry_of pool.now index) }
+{
+    match entry_of(pool, index) {
+        Some(Entry::NameAndType(name, descriptor)) => Some((*name, *descriptor)),
+        _ => None,
+    }
+}
+
 /// The text of an index.
 pub fn text(pool: &Pool, index: u16) -> Option<&[u8]>
     ensures value { option_copied result ≡ text pool.now index }

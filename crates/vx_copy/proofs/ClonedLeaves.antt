@@ -4,7 +4,8 @@ use Rattle.std.proofs.lemmas.List.{take_all}
 use Rattle.std.specs.Prelude.{Option, Some, None, ◌||◌, if◌then◌else◌, is_some}
 use Rattle.vx_cells.specs.Making.{AreAllMade, AreMade, Breaks, IsMadeInside, IsMakingAnswered, Making, Makes, Raises, with_made}
 use Rattle.vx_cells.proofs.Making.{AreMade-all, AreMade-none, AreMade-one, AreMade-then, IsMadeInside-unmade}
-use Rattle.vx_cells.proofs.WrittenThrough.{reference_held, somewhere}
+use Rattle.vx_cells.proofs.Somewhere.{leaf_somewhere as some_configuration}
+use Rattle.vx_cells.proofs.WrittenThrough.{reference_held}
 use Rattle.vx_cond.specs.Cond.{AreDisjoint, Conditional, IsCond, IsCondOf, IsInside, cond_at}
 use Rattle.vx_cond.specs.Leaves.{AreLeaves, value_at, value_under}
 use Rattle.vx_cond.specs.Slots.{or_top, slot_at}
@@ -121,8 +122,8 @@ module _ {S I : Type 0} (p : Program) {s0 s1 : Sets I} (before now : HeapView S 
 
   pub leaf_somewhere : IsLawful s0 → IsSomewhere s1 x.condition
   leaf_somewhere lawful =
-      let some = somewhere slot_cmp lawful receivers.leaves i x are_leaves l q in
-      record { config = some.0; inside = here some.0 ∙ some.1 }
+      let some = some_configuration slot_cmp lawful receivers.leaves i x are_leaves l q in
+      record { config = some.config; inside = here some.config ∙ some.inside }
 
   -- its value is the receiver
   value_is : (c : List Bool) → s0.test x.condition c ≡ true → cond_at s0 receivers c ≡ Some x.value

@@ -1,26 +1,24 @@
 //! Rounds until no run goes on.
 
-ghost use Rattle.std.specs.Prelude.{◌≡◌, Err, IfOk, List, ℕ};
+ghost use Rattle.std.specs.Prelude.{◌≡◌, IfOk, List, ℕ};
 ghost use Rattle.vx_lockstep.specs.Findings.{AreAllowed, AreFindings, report_by};
 ghost use Rattle.vx_java.specs.Report.{lock_report};
 ghost use Rattle.vx_java.specs.Step.{Config};
-ghost use Rattle.vx_standing.specs.Rounds.{MeetsUnbuilt};
 ghost use Rattle.vx_starting.specs.Starting.{MayStart};
 ghost use Rattle.vx_sched.specs.Picks.{IsFirstKey};
 ghost use Rattle.vx_value.specs.declared.key.KeyPart.{KeyPart};
 
 use std::alloc::Global;
-use vx_families::AttemptFault;
 use vx_link::Program;
 use vx_lockstep::Findings;
 use vx_rounds::{Upkeep, next_round};
 use vx_sched::Picker;
-use vx_space::Space;
+use vx_space::{Space, SpaceFault};
 use vx_starting::start;
 
 /// Runs a program in all of some configurations at once, each with at most `limit` attempts, where the picker says which
-/// group makes the next attempt. Afterwards only the ids of the findings are sure to be known. `NotYet` comes only where
-/// one of the runs comes to what isn't built.
+/// group makes the next attempt. Afterwards only the ids of the findings are sure to be known. The only refusal is want of
+/// memory.
 pub fn run_with<S: Space, K: Picker>(
     alloc: Global,
     program: &Program,
@@ -28,7 +26,7 @@ pub fn run_with<S: Space, K: Picker>(
     allowed: S::Id,
     limit: u64,
     picker: &mut K,
-) -> Result<Findings<S>, AttemptFault>
+) -> Result<Findings<S>, SpaceFault>
     requires { MayStart program.now (S.sets space.old) allowed limit }
 
     // Whatever the picker, each allowed configuration has its own run.
@@ -40,7 +38,6 @@ pub fn run_with<S: Space, K: Picker>(
         lock_report program.now list limit version ≡ report_by (S.sets space.new) list limit version f) }
 
     ensures options { IfOk result (λ _. (S.sets space.new).options ≡ (S.sets space.old).options) }
-    ensures not_yet { result ≡ Err AttemptFault.NotYet → MeetsUnbuilt program.now ((S.sets space.old).test allowed) limit }
 {
     let mut state = start(alloc, program, space, allowed, limit)?;
     let mut upkeep = Upkeep::new();

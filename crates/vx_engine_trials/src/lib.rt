@@ -20,6 +20,8 @@ mod last_key;
 mod least_key;
 pub mod long_run;
 #[cfg(test)]
+mod native_cases;
+#[cfg(test)]
 mod object_cases;
 mod programs;
 #[cfg(test)]

@@ -3,6 +3,10 @@ use crate::cases::{CASES, Case, DIFFERENT_VALUES};
 use crate::exception_cases::{EXCEPTION_CASES, RAISES, caught, source};
 use crate::init_cases::INIT_CASES;
 use crate::last_key::LastKey;
+use crate::native_cases::{
+    NATIVE_BUILDER_CASES, NATIVE_NUMBER_CASES, NATIVE_OBJECT_CASES, NATIVE_PRINT_CASES,
+    NATIVE_SYSTEM_CASES, NATIVE_TEXT_CASES,
+};
 use crate::object_cases::OBJECT_CASES;
 use crate::runs::{agree, report_of, report_with};
 use std::alloc::Global;
@@ -56,20 +60,52 @@ fn is_said(rt: &impl Abort, alloc: Global, case: &Case) -> Result<bool, Fail> {
     Ok(agree(alloc, first.as_slice(), case.report)? && is_same_with_last_keys(rt, alloc, case)?)
 }
 
-#[test]
-fn objects_and_arrays_are_those_of_each_configuration(rt: HostRuntime) -> Result<(), Fail> {
-    for case in OBJECT_CASES {
-        assert!(rt; is_said(&rt, rt.alloc(), &case)?, "{:?}", case.report);
+/// Asserts that each of the cases is said.
+fn are_said(rt: &impl Abort, alloc: Global, cases: &[Case]) -> Result<(), Fail> {
+    for case in cases {
+        assert!(rt; is_said(rt, alloc, case)?, "{:?}", case.report);
     }
     Ok(())
 }
 
 #[test]
+fn objects_and_arrays_are_those_of_each_configuration(rt: HostRuntime) -> Result<(), Fail> {
+    are_said(&rt, rt.alloc(), &OBJECT_CASES)
+}
+
+#[test]
+fn strings_are_those_of_each_configuration(rt: HostRuntime) -> Result<(), Fail> {
+    are_said(&rt, rt.alloc(), &NATIVE_TEXT_CASES)
+}
+
+#[test]
+fn builders_have_the_text_of_each_configuration(rt: HostRuntime) -> Result<(), Fail> {
+    are_said(&rt, rt.alloc(), &NATIVE_BUILDER_CASES)
+}
+
+#[test]
+fn streams_get_the_values_of_each_configuration(rt: HostRuntime) -> Result<(), Fail> {
+    are_said(&rt, rt.alloc(), &NATIVE_PRINT_CASES)
+}
+
+#[test]
+fn the_machine_ends_and_copies_in_each_configuration(rt: HostRuntime) -> Result<(), Fail> {
+    are_said(&rt, rt.alloc(), &NATIVE_SYSTEM_CASES)
+}
+
+#[test]
+fn numbers_are_those_of_each_configuration(rt: HostRuntime) -> Result<(), Fail> {
+    are_said(&rt, rt.alloc(), &NATIVE_NUMBER_CASES)
+}
+
+#[test]
+fn enums_and_throwables_are_those_of_each_configuration(rt: HostRuntime) -> Result<(), Fail> {
+    are_said(&rt, rt.alloc(), &NATIVE_OBJECT_CASES)
+}
+
+#[test]
 fn calls_come_to_what_the_machine_says(rt: HostRuntime) -> Result<(), Fail> {
-    for case in CALL_CASES {
-        assert!(rt; is_said(&rt, rt.alloc(), &case)?, "{:?}", case.report);
-    }
-    Ok(())
+    are_said(&rt, rt.alloc(), &CALL_CASES)
 }
 
 #[test]
@@ -87,10 +123,7 @@ fn each_exception_that_is_raised_has_its_handler(rt: HostRuntime) -> Result<(), 
 
 #[test]
 fn exceptions_go_to_the_first_frame_that_takes_them(rt: HostRuntime) -> Result<(), Fail> {
-    for case in EXCEPTION_CASES {
-        assert!(rt; is_said(&rt, rt.alloc(), &case)?, "{:?}", case.report);
-    }
-    Ok(())
+    are_said(&rt, rt.alloc(), &EXCEPTION_CASES)
 }
 
 #[test]

@@ -4,7 +4,7 @@ pub mod AttemptLaws
 pub mod EndingLaws
 pub mod Pushes
 pub mod SlotSorts
-pub mod BuiltRows
+pub mod SiteRows
 pub mod Answered
 pub mod Tops
 pub mod Operands

@@ -1,5 +1,5 @@
 -- The operands at the end of a stack, and what is made of them.
-use Rattle.std.proofs.Common.{◌≡◌, ℕ, zero, suc, Bool, true, List, [], ◌∷◌, ◌++◌, sym, ◌∙◌, ap, take, length, arith}
+use Rattle.std.proofs.Common.{◌≡◌, ℕ, zero, suc, Bool, true, List, [], ◌∷◌, ◌++◌, refl, sym, ◌∙◌, ap, take, length, arith}
 use Rattle.std.specs.Prelude.{Option, Some, None, is_some, slice_get, unwrap_or}
 use Rattle.std.specs.declared.cmp.Ordering.{Ordering}
 use Rattle.vx_value.specs.declared.slot.Slot.{Slot}
@@ -8,6 +8,7 @@ use Rattle.vx_cond.specs.Cond.{Conditional, IsCond, IsCondLifting2, cond_at}
 use Rattle.vx_cond.specs.Leaves.{IsLifted, IsLifted2}
 use Rattle.vx_cond.specs.Row.{Conditionals}
 use Rattle.vx_cond.specs.Slots.{or_top, slot_at}
+use Rattle.vx_cond.proofs.SideLaws.{cond_at-covers}
 use Rattle.vx_group_states.specs.Answering.{operands_at}
 use Rattle.vx_group_states.proofs.AnswerLaws.{operands_at-push}
 
@@ -69,3 +70,25 @@ lifting2_cond cmp sets R first second cond l = l.is_cond
 pub lifting2_at : {T U V S I : Type 0} (cmp : V → V → Ordering) (sets : Sets I) (R : T → U → V → Type 0) (first : List Bool → Option T) (second : List Bool → Option U) (cond : Conditional V S I) → IsCondLifting2 cmp sets R first second cond → (c : List Bool) → IsLifted2 R (first c) (second c) (cond_at sets cond c)
 unfolding IsCondLifting2
 lifting2_at cmp sets R first second cond l c = l.at c
+
+-- ---- what is made of two conditional values
+
+made_pair : {T U A : Type 0} (none : A) (R : T → U → A → Type 0) (f : T → U → A) (s : Option T) (r : Option U) (a : Option A) (x : T) (y : U) → ((s : T) (r : U) (a : A) → R s r a → a ≡ f s r) → s ≡ Some x → r ≡ Some y → IsLifted2 R s r a → unwrap_or a none ≡ f x y
+made_pair none R f None r a x y law e g l = cc e
+made_pair none R f (Some s) None a x y law e g l = cc g
+made_pair none R f (Some s) (Some r) None x y law e g l = absurd l
+made_pair none R f (Some s) (Some r) (Some a) x y law e g l =
+    let first : s ≡ x = cc in
+    let second : r ≡ y = cc in
+    law s r a l ∙ (λ i. f (first i) (second i))
+
+pub made_of_two : {T U A S I : Type 0} (none : A) (cmp : A → A → Ordering) (s1 s2 : Sets I) (R : T → U → A → Type 0) (f : T → U → A) (first : Conditional T S I) (second : Conditional U S I) (made : Conditional A S I) (c : List Bool) (x : T) (y : U) → ((s : T) (r : U) (a : A) → R s r a → a ≡ f s r) → cond_at s1 first c ≡ Some x → cond_at s1 second c ≡ Some y → IsCondLifting2 cmp s2 R (cond_at s1 first) (cond_at s1 second) made → unwrap_or (cond_at s2 made c) none ≡ f x y
+made_of_two none cmp s1 s2 R f first second made c x y law e g l = made_pair none R f (cond_at s1 first c) (cond_at s1 second c) (cond_at s2 made c) x y law e g (lifting2_at cmp s2 R (cond_at s1 first) (cond_at s1 second) made l c)
+
+there : {T : Type 0} (o : Option T) (none : T) → is_some o ≡ true → o ≡ Some (unwrap_or o none)
+there None none h = cc h
+there (Some x) none h = refl
+
+-- the value of a configuration of the scope
+pub value_there : {T S I : Type 0} (none : T) (cmp : T → T → Ordering) (sets : Sets I) (cond : Conditional T S I) (c : List Bool) → IsCond cmp sets cond → sets.test cond.scope c ≡ true → cond_at sets cond c ≡ Some (unwrap_or (cond_at sets cond c) none)
+value_there none cmp sets cond c v t = there (cond_at sets cond c) none (cond_at-covers cmp sets cond v c ∙ t)

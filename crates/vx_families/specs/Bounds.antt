@@ -6,6 +6,7 @@ use Rattle.vx_class.specs.declared.class_file.Code.{Code}
 use Rattle.vx_desc.specs.Descriptors.{slots_of}
 use Rattle.vx_java.specs.Ids.{HasClassNumbers}
 use Rattle.vx_java.specs.Initialisation.{max_locals}
+use Rattle.vx_java.specs.NativeForms.{has_form}
 use Rattle.vx_link.specs.CoreFiles.{core_count}
 use Rattle.vx_link.specs.Parts.{has, method_at}
 use Rattle.vx_link.specs.Signature.{signature}
@@ -40,13 +41,14 @@ argument_words m = sum_by slots_of (signature m.descriptor).arguments + (if has 
 abbrev pub has_argument_room : LinkedMethod → Bool
 has_argument_room m = is_none m.code || nat_le (argument_words m) (max_locals m.code)
 
--- the core classes are among its classes, and main has a local variable for its argument
+-- the core classes are among its classes, main has a local variable for its argument, and each native method the form of its number
 pub record IsBounded (p : Program) : Type 0 where
   pub classes : HasClassNumbers p
   pub core : core_count ≤ length p.classes
   pub texts : list_all has_short_texts p.classes ≡ true
   pub codes : list_all (λ m. has_short_code m.code) p.methods ≡ true
   pub arguments : list_all has_argument_room p.methods ≡ true
+  pub natives : list_all has_form p.methods ≡ true
   pub signatures : list_all (λ m. is_short (length m.descriptor)) p.methods ≡ true
   pub main : 0 < max_locals (method_at p p.main.0).code
   pub types : list_all (λ f. is_short (length f.descriptor)) p.fields ≡ true

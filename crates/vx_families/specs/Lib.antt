@@ -1,7 +1,6 @@
 pub mod Bounds
 pub mod Attempts
 pub mod Pushing
-pub mod Built
 pub mod Texts
 pub mod Sorts
 pub mod Pools

@@ -3,14 +3,12 @@
 #![tactic(auto)]
 
 pub mod endings;
-pub mod fault;
 pub mod missing;
 pub mod pushing;
 pub mod sorts;
 pub mod words;
 
 pub use endings::{core_class, raise, unsupported};
-pub use fault::AttemptFault;
 pub use missing::no_class;
 pub use pushing::push_answers;
 pub use sorts::slot_is_of;

@@ -4,10 +4,11 @@ use Rattle.std.proofs.lemmas.Bool.Decides.{nat_tests}
 use Rattle.std.specs.Prelude.{Option, Some, None, nat_lt, option_and_then, slice_get, unwrap_or}
 use Rattle.std.specs.List.{list_all}
 use Rattle.vx_code.specs.Lookups.{entry_of, member_descriptor, name_and_type, text, utf8}
-use Rattle.vx_families.specs.Bounds.{IsBounded, has_short_texts, is_short_entry}
+use Rattle.vx_families.specs.Bounds.{IsBounded, has_short_texts, is_short, is_short_entry}
 use Rattle.vx_link.specs.Names.{member, member_named}
-use Rattle.vx_link.specs.Parts.{class_at, no_class}
+use Rattle.vx_link.specs.Parts.{class_at, method_at, no_class, no_method}
 use Rattle.vx_link.specs.declared.program.LinkedClass.{LinkedClass}
+use Rattle.vx_link.specs.declared.program.LinkedMethod.{LinkedMethod}
 use Rattle.vx_link.specs.declared.program.Program.{Program}
 use Rattle.vx_list.specs.Places.{item_or}
 use Rattle.vx_pool.specs.declared.pool.Entry.{Entry}
@@ -62,4 +63,17 @@ pub descriptor_of_member : (p : Program) (c i : ℕ) → IsBounded p → length 
 descriptor_of_member p c i b =
     let pool = (class_at p c).pool in
     let short : length (member pool i).descriptor < 65536 = named_short pool (class_pool p.classes c b.texts) (entry_of pool i) in
+    omega (arith, short)
+
+-- ---- methods
+
+-- what all items pass each one does, as does what is read behind the last one if that passes
+pub item_passes : {A : Type 0} (test : A → Bool) (xs : List A) (i : ℕ) (d : A) → list_all test xs ≡ true → test d ≡ true → test (item_or xs i d) ≡ true
+item_passes test [] i d h e = e
+item_passes test (x ∷ xs) zero d h e = both_first (test x) (list_all test xs) h
+item_passes test (x ∷ xs) (suc i) d h e = item_passes test xs i d (both_second (test x) (list_all test xs) h) e
+
+pub short_descriptor : (p : Program) (n : ℕ) → IsBounded p → length (method_at p n).descriptor < 2 ^ 32
+short_descriptor p n b =
+    let short = below (length (method_at p n).descriptor) (item_passes (λ (m : LinkedMethod). is_short (length m.descriptor)) p.methods n no_method b.signatures refl) in
     omega (arith, short)

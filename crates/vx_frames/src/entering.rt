@@ -15,6 +15,9 @@ use vx_link::Program;
 use vx_space::Space;
 use vx_value::{Kind, MethodId, Slot};
 
+/// The most frames that a run may have (own).
+pub const MOST_FRAMES: u32 = 1024;
+
 /// Pushes the frame of a method that begins on a group: of one that is called, whose locals begin with the arguments, and of an
 /// initialisation (JVMS 2.6, 5.5). The frame that was on top becomes a caller and stays where it stands. The arguments have the group's
 /// path as scope, and the same of them are longs at each configuration of it. The bound on frames is asked before. After a refusal the

@@ -11,7 +11,7 @@ pub mod unwinding;
 pub mod waking;
 
 pub use beginning::{begun, max_locals};
-pub use entering::entered;
+pub use entering::{MOST_FRAMES, entered};
 pub use fitting::matching_are_arguments;
 pub use uncovering::uncovered;
 pub use unwinding::frames_are_passed;

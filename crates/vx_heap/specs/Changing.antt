@@ -76,3 +76,7 @@ filled class size element = record { class = class; size = size; cells = replica
 
 abbrev pub of_text : (class : ℕ) → (units : List ℕ) → Object
 of_text class units = record { class = class; size = 0; cells = TextValue units ∷ [] }
+
+-- an object by its cells
+abbrev pub of_cells : (class size : ℕ) → List Value → Object
+of_cells class size cells = record { class = class; size = size; cells = cells }

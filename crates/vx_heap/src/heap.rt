@@ -1,10 +1,11 @@
 //! The heap, its statics and its initialisation states.
 
-ghost use Rattle.std.specs.Prelude.{◌≡◌, ◌++◌, ◌∷◌, ◌<◌, ◌≤◌, ◌≤ℤ◌, negsuc, pos, [], length, IfOk, OnOk, OnErr, List, Bool, true, option_map, slice_set, if◌then◌else◌};
+ghost use Rattle.std.specs.Prelude.{◌≡◌, ◌++◌, ◌∷◌, ◌<◌, ◌≤◌, ◌≤ℤ◌, negsuc, pos, [], length, map, IfOk, OnOk, OnErr, List, Bool, true, option_map, slice_set, if◌then◌else◌};
 ghost use Rattle.vx_space.specs.Sets.{IsKnown, Extends};
-ghost use Rattle.std.specs.List.{flat_map};
+ghost use Rattle.std.specs.List.{flat_map, list_all};
 ghost use Rattle.vx_cond.specs.Cond.{IsCond, IsInside, cond_ids};
 ghost use Rattle.vx_value.specs.Slot.{slot_cmp, init_state_cmp};
+ghost use Rattle.vx_value.specs.Texts.{text_at};
 ghost use Rattle.vx_initial_heap.specs.First.{is_among, value_in};
 ghost use Rattle.vx_java.specs.FirstObjects.{first_boolean, first_integer, new_object};
 ghost use Rattle.vx_java.specs.Ids.{HasClassNumbers, as_class};
@@ -14,7 +15,7 @@ ghost use Rattle.vx_link.specs.CoreFiles.{core_count};
 ghost use Rattle.vx_link.specs.Names.{class_name, member};
 ghost use Rattle.vx_link.specs.Parts.{class_at};
 ghost use Rattle.vx_list.specs.Places.{item_or};
-ghost use Rattle.vx_heap.specs.Changing.{IsCellWritten, IsMadeAt, IsValueHeld, MakesObject, filled, named_object, of_text};
+ghost use Rattle.vx_heap.specs.Changing.{IsCellWritten, IsMadeAt, IsValueHeld, MakesObject, filled, named_object, of_cells, of_text};
 ghost use Rattle.vx_heap.specs.First.{IsFirstHeap};
 ghost use Rattle.vx_heap.specs.Heap.{IsHeap, IsHeapFor, IsCellRead, IsStaticRead, IsStaticWritten, IsInitWritten, IsTextPut, KeepsPlain, class_at_slot, has_options, heap_ids, init_of, is_held, literal_at, object_ids, object_in, resolved_in, static_of};
 ghost use Rattle.vx_cond.specs.Slots.{slot_at};
@@ -128,6 +129,16 @@ impl<S: Space> Heap<S> {
     {
         match self.objects.get(reference as usize) {
             Some(object) => object.length,
+            None => 0,
+        }
+    }
+
+    /// How many cells an object has: an array one for each element, another object one for each field. 0 where there is none of this number.
+    pub fn cell_count(&self, reference: u64) -> usize
+        ensures { result ≡ length (object_in self.now reference).cells }
+    {
+        match self.objects.get(reference as usize) {
+            Some(object) => object.cells.len(),
             None => 0,
         }
     }
@@ -321,6 +332,26 @@ impl<S: Space> Heap<S> {
         Ok(reference)
     }
 
+    /// Makes an object in the configurations of a path, with a cell for each of these values, which name no object, and no text that
+    /// isn't there. After want of memory the heap is as it was.
+    pub fn alloc_cells(
+        &mut self,
+        alloc: Global,
+        class: ClassId,
+        size: u32,
+        slots: &[Slot],
+        path: S::Id,
+    ) -> Result<u64, AllocError>
+        requires size { size ≤ length_bound }
+        requires slots { list_all (is_among 0 (length self.old.texts)) slots.now ≡ true }
+        ensures ok { IfOk result (MakesObject self.old path (of_cells class.0 size (map (value_in self.old.texts) slots.now)) self.new) }
+        ensures err { OnErr result (self.new ≡ self.old) }
+    {
+        let cells = CellList::of(alloc, slots)?;
+        let reference = self.append(class, size, path, cells)?;
+        Ok(reference)
+    }
+
     /// Makes a copy of an object in the configurations of a path, which is inside its presence: of its class and length, with the
     /// values that its cells have there (JVMS 6.4.4, JLS 10.7). It takes 24 bytes for a cell, and more for one that differs there.
     /// After want of memory the heap is as it was.
@@ -451,6 +482,16 @@ impl<S: Space> Heap<S> {
         ensures err { OnErr result (self.new ≡ self.old) }
     {
         self.texts.put(units)
+    }
+
+    /// The number of a text with units behind it, which is put into the table as by `put_text`. After want of memory the heap is as it was.
+    pub fn append_text(&mut self, number: u64, units: &[u16]) -> Result<u64, AllocError>
+        requires { number < length self.old.texts }
+        ensures ok { IfOk result (λ appended. IsTextPut self.old (text_at self.old.texts number ++ units.now) appended self.new) }
+        ensures keeps { KeepsPlain self.old self.new }
+        ensures err { OnErr result (self.new ≡ self.old) }
+    {
+        self.texts.append(number, units)
     }
 
     /// Appends just the ids held: the set of all configurations that run, then those of objects, statics and

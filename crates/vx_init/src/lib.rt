@@ -12,4 +12,3 @@ mod upward;
 pub use beginning::begin;
 pub use pushing::push_chain;
 pub use rise::Rise;
-pub use upward::MOST_FRAMES;

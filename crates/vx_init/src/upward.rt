@@ -5,12 +5,10 @@ ghost use Rattle.vx_ready.specs.Initialising.{numbers_of};
 ghost use Rattle.vx_init.specs.Rising.{first_above, too_many};
 
 use std::alloc::{AllocError, Global};
+use vx_frames::MOST_FRAMES;
 use vx_java::parts::superclass_of;
 use vx_link::Program;
 use vx_value::ClassId;
-
-/// The most frames that a run may have (own).
-pub const MOST_FRAMES: usize = 1024;
 
 /// A class and its superclasses upward, so many at most.
 pub(crate) fn first_above(
@@ -39,5 +37,5 @@ pub(crate) fn first_above(
 pub(crate) fn too_many(frames: u32, chain: &[ClassId]) -> bool
     ensures { result ≡ too_many frames (numbers_of chain.now) }
 {
-    frames as usize + chain.len() > MOST_FRAMES
+    frames as usize + chain.len() > MOST_FRAMES as usize
 }

@@ -1,5 +1,5 @@
 -- A group that is split by where the arguments of its call fit.
-use Rattle.std.proofs.Common.{◌≡◌, ◌≤◌, ℕ, Bool, true, false, List, ◌++◌, ◌&&◌, Option, Some, None, refl, sym, ◌∙◌, ap, subst, arith, length}
+use Rattle.std.proofs.Common.{◌≡◌, ℕ, Bool, true, false, List, ◌++◌, ◌&&◌, Option, Some, None, refl, sym, ◌∙◌, ap, subst, arith, length}
 use Rattle.std.specs.Prelude.{is_some, not}
 use Rattle.vx_cond.specs.declared.cond.Leaf.{Leaf}
 use Rattle.vx_cond.specs.Cond.{Conditional, IsCond, cond_at}
@@ -15,7 +15,7 @@ use Rattle.vx_group.proofs.CallerLaws.{Keeps-refl}
 use Rattle.vx_group_states.specs.Sites.{Cover, Gives, here}
 use Rattle.vx_group_states.specs.declared.site.Site.{Site}
 use Rattle.vx_group_states.proofs.Gathering.{AreLeaves-of, part_path}
-use Rattle.vx_group_states.proofs.StateLaws.{both_first, both_second}
+use Rattle.vx_group_states.proofs.StateLaws.{both_first}
 use Rattle.vx_heap.specs.Heap.{HeapView}
 use Rattle.vx_java.specs.Machine.{State, illegal}
 use Rattle.vx_outcome.specs.declared.outcome.Outcome.{Outcome}

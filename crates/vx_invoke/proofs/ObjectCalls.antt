@@ -1,5 +1,5 @@
 -- A call on an object: from what it comes to at each configuration where the arguments fit to its row.
-use Rattle.std.proofs.Common.{◌≡◌, ◌<◌, ◌≤◌, ℕ, suc, Bool, true, false, List, [], ◌∷◌, ◌&&◌, Option, Some, None, refl, sym, ◌∙◌, ap, arith, drop, length, map, reverse, take}
+use Rattle.std.proofs.Common.{◌≡◌, ◌<◌, ◌≤◌, ℕ, suc, Bool, true, false, List, [], ◌&&◌, Option, Some, None, refl, sym, ◌∙◌, ap, arith, drop, length, map, reverse, take}
 use Rattle.std.proofs.lemmas.List.{length-map}
 use Rattle.std.specs.Prelude.{is_some}
 use Rattle.vx_cond.specs.Cond.{Conditional, IsCond, IsInside, cond_at}

@@ -1,5 +1,5 @@
 -- A static call of a class that was made ready: the runs that proceed may enter the method.
-use Rattle.std.proofs.Common.{◌≡◌, ◌≤◌, ℕ, Bool, true, false, List, ◌++◌, ◌&&◌, sym, ◌∙◌, ap, subst, arith, length}
+use Rattle.std.proofs.Common.{◌≡◌, ◌≤◌, ℕ, List, ◌++◌, ◌&&◌, sym, ◌∙◌, ap, subst, arith, length}
 use Rattle.std.specs.Prelude.{Option, is_some, not, sum_by}
 use Rattle.vx_desc.specs.Descriptors.{slots_of}
 use Rattle.vx_frames.specs.Giving.{GivesIn}

@@ -5,7 +5,7 @@ use Rattle.std.specs.Prelude.{◌&&◌, if◌then◌else◌, is_some, not, optio
 use Rattle.vx_class.specs.Members.{STATIC}
 use Rattle.vx_cond.specs.Cond.{Conditional, IsCond, IsCondLifting, IsCondOf, IsInside, cond_at}
 use Rattle.vx_cond.specs.Leaves.{IsLifted, value_within}
-use Rattle.vx_cond.specs.Slots.{or_top, slot_at}
+use Rattle.vx_cond.specs.Slots.{or_top}
 use Rattle.vx_cond.proofs.CondLaws.{cond_at-of}
 use Rattle.vx_cond.proofs.RowSteps.{IsRow-get}
 use Rattle.vx_cond.proofs.SideLaws.{cond_at-covers}

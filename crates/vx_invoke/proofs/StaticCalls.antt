@@ -1,5 +1,5 @@
 -- A static call: from the sets in which its class is ready to the attempt.
-use Rattle.std.proofs.Common.{◌≡◌, ◌<◌, ◌≤◌, ℕ, Bool, true, false, List, [], ◌&&◌, refl, sym, ◌∙◌, ap, subst, arith, length, reverse, take}
+use Rattle.std.proofs.Common.{◌≡◌, ◌<◌, ◌≤◌, Bool, true, List, ◌&&◌, refl, sym, ◌∙◌, ap, subst, arith, length, reverse, take}
 use Rattle.std.proofs.lemmas.List.{length-map}
 use Rattle.std.specs.Prelude.{Option, if◌then◌else◌}
 use Rattle.vx_cond.specs.Cond.{IsInside}
@@ -12,7 +12,7 @@ use Rattle.vx_group.specs.declared.callers.Caller.{Caller}
 use Rattle.vx_group.specs.Callers.{Keeps}
 use Rattle.vx_group.specs.Group.{GroupView, IsGroup, path_of}
 use Rattle.vx_group.proofs.CallerLaws.{Keeps-refl}
-use Rattle.vx_group.proofs.GroupLaws.{IsGroup-path_known, IsGroupIn-group}
+use Rattle.vx_group.proofs.GroupLaws.{IsGroupIn-group}
 use Rattle.vx_group_states.specs.Answering.{operands_at}
 use Rattle.vx_group_states.specs.Sites.{Gives, here}
 use Rattle.vx_group_states.specs.Stands.{CameTo, StandsIn, state_at}

@@ -1,6 +1,6 @@
 //! What comes of the part of a group in which a call comes to one thing.
 
-ghost use Rattle.std.specs.Prelude.{IfOk, []};
+ghost use Rattle.std.specs.Prelude.{IfOk};
 ghost use Rattle.vx_frames.specs.Giving.{GivesIn};
 ghost use Rattle.vx_group.specs.Callers.{Keeps};
 ghost use Rattle.vx_group.specs.Group.{IsGroupIn};
@@ -17,16 +17,13 @@ use crate::arguments::taken;
 use crate::call::Call;
 use std::alloc::{AllocError, Global};
 use vx_families::{NATIVE_WORD, raise, unsupported};
-use vx_frames::entered;
+use vx_frames::{MOST_FRAMES, entered};
 use vx_group::{Callers, Group};
 use vx_group_states::{Site, illegal};
 use vx_outcome::{Outcome, Outcomes};
 use vx_references::method_name;
 use vx_space::{Space, SpaceFault};
 use vx_value::{Kind, MethodId};
-
-/// The most frames that a run has (own).
-const MOST_FRAMES: u32 = 1024;
 
 /// All runs enter a method with the operands on top, unless they have as many frames as a run may have (JVMS 2.6).
 fn enter<S: Space>(

@@ -5,5 +5,6 @@ pub mod Rounds
 pub mod Projecting
 pub mod OpcodeRanges
 pub mod Walks
+pub mod Silence
 pub mod Chains
 pub mod Specifics

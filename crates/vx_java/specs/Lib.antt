@@ -19,9 +19,11 @@ pub mod Throwing
 pub mod Texts
 pub mod Library
 pub mod Natives
+pub mod NativeForms
 pub mod Step
 pub mod Lockstep
 pub mod Report
 pub mod Ids
 pub mod Named
 pub mod Specific
+pub mod Silent

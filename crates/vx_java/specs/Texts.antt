@@ -11,7 +11,7 @@ use Rattle.vx_java.specs.Machine.{Here, Int, Long, Null, Object, Outcome, Ref, T
 use Rattle.vx_java.specs.Objects.{int_of_bool}
 use Rattle.vx_link.specs.ClassNames.{array_class, char_element, core_class}
 use Rattle.vx_list.specs.Places.{item_or}
-use Rattle.vx_value.specs.Arithmetic.{natural}
+use Rattle.vx_value.specs.Arithmetic.{low_bits, natural}
 use Rattle.vx_value.specs.declared.end.Stream.{Stream}
 use Rattle.vx_value.specs.declared.end.Stream.TheVariants.{Err, Out}
 
@@ -55,9 +55,9 @@ text_of_object h r = units_in (cell_at h.state r 0)
 abbrev pub with_text : Here → ℕ → List ℕ → Here
 with_text h r units = in_state h (with_cell h.state r 0 (Text units))
 
--- the units in a char array
+-- the units in a char array: the lowest sixteen bits of each number, which are all of it in a run, since a store to such an array narrows to a char
 abbrev pub unit_of : Value → ℕ
-unit_of (Int n) = natural n
+unit_of (Int n) = low_bits w32 16 n
 unit_of _ = 0
 
 abbrev pub chars_of : Here → ℕ → List ℕ

@@ -1,14 +1,14 @@
 //! Resolution of fields (JVMS 5.4.3.2).
 
-ghost use Rattle.std.specs.Prelude.{◌≡◌, ◌&&◌, bytes_eq, option_map};
+ghost use Rattle.std.specs.Prelude.{◌≡◌, ◌∷◌, ◌&&◌, bytes_eq, option_map};
 ghost use Rattle.vx_java.specs.Ids.{as_field};
-ghost use Rattle.vx_link.specs.Hierarchy.{interfaces_within};
+ghost use Rattle.vx_java.specs.Silent.{AreSilent};
+ghost use Rattle.vx_link.specs.Hierarchy.{interfaces_below};
 ghost use Rattle.vx_link.specs.Parts.{field_at};
 ghost use Rattle.vx_link.specs.Resolution.{first_given, own_field, resolve_field};
 
-use crate::parts::{
-    descriptor_of_field, fields_of, interfaces_of, is_array, name_of_field, superclass_of,
-};
+use crate::parts::{descriptor_of_field, fields_of, is_array, name_of_field, superclass_of};
+use crate::questions::{Marks, Question, ask_below, no_marks};
 use vx_link::Program;
 use vx_value::{ClassId, FieldId};
 
@@ -29,28 +29,39 @@ fn own_field(program: &Program, name: &[u8], descriptor: &[u8], class: ClassId) 
     None
 }
 
-/// The field in the superinterfaces of a class, down to a depth.
-fn field_below(
+/// Whether a class declares a field.
+#[derive(Clone, Copy)]
+struct Declares<'a> {
+    name: &'a [u8],
+    descriptor: &'a [u8],
+}
+
+impl<'a> Question for Declares<'a> {
+    ghost answer = { λ s p i. own_field p s.name.now s.descriptor.now i };
+
+    fn ask(&self, program: &Program, class: ClassId) -> Option<u32> {
+        match own_field(program, self.name, self.descriptor, class) {
+            Some(field) => Some(field.0),
+            None => None,
+        }
+    }
+}
+
+/// The field of a class, or the first of its superinterfaces'.
+fn own_or_below(
     program: &Program,
-    name: &[u8],
-    descriptor: &[u8],
+    question: &Declares,
     class: ClassId,
-    depth: usize,
-) -> Option<FieldId>
-    ensures { result ≡ option_map as_field (first_given (own_field program.now name.now descriptor.now) (interfaces_within program.now depth class.0)) }
+    silent: &mut Marks,
+) -> Option<u32>
+    requires { AreSilent (own_field program.now question.now.name.now question.now.descriptor.now) program.now silent.old }
+    ensures answer { result ≡ first_given (own_field program.now question.now.name.now question.now.descriptor.now) (class.0 ∷ interfaces_below program.now class.0) }
+    ensures silent { AreSilent (own_field program.now question.now.name.now question.now.descriptor.now) program.now silent.new }
 {
-    if depth == 0 {
-        return None;
+    match question.ask(program, class) {
+        Some(field) => Some(field),
+        None => ask_below(program, question, class, silent),
     }
-    for interface in interfaces_of(program, class) {
-        if let Some(field) = own_field(program, name, descriptor, *interface) {
-            return Some(field);
-        }
-        if let Some(field) = field_below(program, name, descriptor, *interface, depth - 1) {
-            return Some(field);
-        }
-    }
-    None
 }
 
 /// The field of a name and a descriptor that a class has: its own, then that of its superinterfaces, then that of its superclass
@@ -66,17 +77,16 @@ pub fn resolve_field(
     if is_array(program, class) {
         return None;
     }
+    let question = Declares { name, descriptor };
+    let mut silent = no_marks();
     let mut left = program.classes.len();
     let mut next = Some(class);
     while left > 0 {
         let Some(class) = next else {
             return None;
         };
-        if let Some(field) = own_field(program, name, descriptor, class) {
-            return Some(field);
-        }
-        if let Some(field) = field_below(program, name, descriptor, class, program.classes.len()) {
-            return Some(field);
+        if let Some(field) = own_or_below(program, &question, class, &mut silent) {
+            return Some(FieldId(field));
         }
         next = superclass_of(program, class);
         left -= 1;

@@ -1,44 +1,38 @@
 //! Superclasses and superinterfaces (JVMS 4.1, 5.3.5).
 
-ghost use Rattle.std.specs.Prelude.{◌≡◌};
-ghost use Rattle.vx_link.specs.Hierarchy.{interfaces_below, interfaces_within, is_among, superclasses, superinterfaces};
+ghost use Rattle.std.specs.Prelude.{◌≡◌, nat_eq};
+ghost use Rattle.vx_java.specs.Specific.{number_if};
+ghost use Rattle.vx_link.specs.Hierarchy.{interfaces_below, is_among, superclasses, superinterfaces};
 
-use crate::parts::{interfaces_of, superclass_of};
+use crate::parts::superclass_of;
+use crate::questions::{Question, ask_below, ask_superinterfaces, no_marks};
 use vx_link::Program;
 use vx_value::ClassId;
 
-/// Whether a class stands among the superinterfaces of another, down to a depth.
-fn is_below(program: &Program, wanted: usize, class: ClassId, depth: usize) -> bool
-    ensures { result ≡ is_among wanted (interfaces_within program.now depth class.0) }
-{
-    if depth == 0 {
-        return false;
-    }
-    for interface in interfaces_of(program, class) {
-        if wanted == interface.0 as usize || is_below(program, wanted, *interface, depth - 1) {
-            return true;
+/// Whether a class is this one.
+#[derive(Clone, Copy)]
+struct Is {
+    wanted: usize,
+}
+
+impl Question for Is {
+    ghost answer = { λ s p i. number_if (nat_eq s.wanted i) i };
+
+    fn ask(&self, _program: &Program, class: ClassId) -> Option<u32> {
+        if self.wanted == class.0 as usize {
+            Some(class.0)
+        } else {
+            None
         }
     }
-    false
 }
 
 /// Whether a class is a superinterface of another, or of one of its superclasses.
 pub fn is_superinterface(program: &Program, wanted: usize, class: ClassId) -> bool
     ensures { result ≡ is_among wanted (superinterfaces program.now class.0) }
 {
-    let mut left = program.classes.len();
-    let mut next = Some(class);
-    while left > 0 {
-        let Some(class) = next else {
-            return false;
-        };
-        if is_below(program, wanted, class, program.classes.len()) {
-            return true;
-        }
-        next = superclass_of(program, class);
-        left -= 1;
-    }
-    false
+    let question = Is { wanted };
+    ask_superinterfaces(program, &question, class).is_some()
 }
 
 /// Whether a class is another or one of its superclasses.
@@ -64,5 +58,7 @@ pub fn is_superclass(program: &Program, wanted: usize, class: ClassId) -> bool
 pub fn is_declared_above(program: &Program, wanted: usize, class: ClassId) -> bool
     ensures { result ≡ is_among wanted (interfaces_below program.now class.0) }
 {
-    is_below(program, wanted, class, program.classes.len())
+    let question = Is { wanted };
+    let mut silent = no_marks();
+    ask_below(program, &question, class, &mut silent).is_some()
 }

@@ -11,8 +11,9 @@ use Rattle.std.specs.List.{list_all, take_while}
 use Rattle.vx_code.specs.Holding.{and_true}
 use Rattle.vx_java.specs.Initialisation.{begin, begin_chain, begin_free, chain_blocked, init_chain, init_frame, is_not, pushed_chain, with_frames}
 use Rattle.vx_java.specs.Machine.{Go, Raise, State, init_at, with_inits}
-use Rattle.vx_kept_facts.proofs.CallRows.{begins}
-use Rattle.vx_kept_facts.proofs.Sites.{MayCome, StandsAtInstruction, StandsAtPlace, chosen, is_raised, length_inits, throwable}
+use Rattle.vx_kept_facts.proofs.KeptRows.{begins}
+use Rattle.vx_kept_facts.proofs.Claims.{chosen, is_raised}
+use Rattle.vx_kept_facts.proofs.Sites.{MayCome, StandsAtInstruction, StandsAtPlace, kept, length_inits, throwable}
 use Rattle.vx_kept_facts.specs.Kept.{is_at_instruction, is_code_end, is_instruction}
 use Rattle.vx_kept_facts.specs.Law.{IsRunnable}
 use Rattle.vx_link.specs.Hierarchy.{superclasses}
@@ -109,8 +110,8 @@ pushes p whole s stands c = record { leaves = pushed_stands p whole s stands c }
 
 free_comes : (p : Program) → IsRunnable p → (s : State) → StandsAtInstruction p s → (c : ℕ) → MayCome p (begin_free p s c (init_chain p s.inits c))
 free_comes p whole s stands c =
-    chosen p _ _ _ (raises_in p whole (with_inits s Failed (init_chain p s.inits c)) (marked p s stands Failed (init_chain p s.inits c)) "java/lang/NoClassDefFoundError" refl)
-    (chosen p _ _ _ (raises_in p whole s stands "java/lang/StackOverflowError" refl) (pushes p whole s stands c))
+    chosen kept p _ _ _ (raises_in p whole (with_inits s Failed (init_chain p s.inits c)) (marked p s stands Failed (init_chain p s.inits c)) "java/lang/NoClassDefFoundError" refl)
+    (chosen kept p _ _ _ (raises_in p whole s stands "java/lang/StackOverflowError" refl) (pushes p whole s stands c))
 
 pub begin_comes : (p : Program) → IsRunnable p → (s : State) → StandsAtInstruction p s → (c : ℕ) → MayCome p (begin p s c)
 begin_comes p whole s stands c = by (chain_blocked p (init_chain p s.inits c))

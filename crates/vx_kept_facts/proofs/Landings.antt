@@ -1,5 +1,5 @@
 -- Where jumps lead: the offset that an operation has is that of its operand, and leads to an instruction.
-use Rattle.std.proofs.Common.{Bool, List, None, Option, Some, ap, arith, cond, false, inl, inr, length, negsuc, pos, refl, subst, suc, sym, true, true≢false, unwrap_or, zero, ℕ, ℤ, ◌*◌, ◌+ℤ◌, ◌+◌, ◌<◌, ◌∙◌, ◌≡◌, ◌≢◌, ◌⊎◌}
+use Rattle.std.proofs.Common.{Bool, List, None, Option, Some, ap, arith, cond, false, inl, inr, length, negsuc, pos, refl, subst, suc, sym, true, true≢false, unwrap_or, zero, ℕ, ℤ, ◌+ℤ◌, ◌+◌, ◌<◌, ◌∙◌, ◌≡◌, ◌≢◌, ◌⊎◌}
 use Rattle.std.proofs.Math.Dec.{eqb}
 use Rattle.std.proofs.lemmas.Bool.{ltb-false, ltb-true}
 use Rattle.std.proofs.lemmas.Bool.Decides.{eqb_tells}
@@ -10,13 +10,13 @@ use Rattle.vx_code.specs.Checks.{all_hold}
 use Rattle.vx_code.specs.Holding.{and_true}
 use Rattle.vx_code.specs.Instructions.{all_below, is_start, is_target, jump_checks}
 use Rattle.vx_java.proofs.OpcodeRanges.{Each, at_each}
-use Rattle.vx_java.specs.Jumps.{offset_at}
 use Rattle.vx_java.specs.Machine.{Here}
 use Rattle.vx_java.specs.Operation.{Rule, does, number_of, operation_of, rules, switch_of}
 use Rattle.vx_java.specs.declared.operation.Operation.{Operation}
 use Rattle.vx_java.specs.declared.operation.Operation.TheVariants.{Goto, IfInt, IfInts, IfNull, IfSame, Nop, SwitchLookup, SwitchTable}
 use Rattle.vx_jump_targets.specs.Placed.{starts_in}
-use Rattle.vx_kept_facts.proofs.PlainRows.{Lands}
+use Rattle.vx_kept_facts.proofs.RowClaims.{JumpsLead}
+use Rattle.vx_kept_facts.proofs.Sites.{Lands}
 use Rattle.vx_opcode.specs.Bounds.{lawful_is}
 use Rattle.vx_opcode.specs.Decode.{aligned, count, instruction_at, lookup_at, shaped_at, table_at, whole, wide_at}
 use Rattle.vx_opcode.specs.Numbers.{s2, u1, u2}
@@ -213,17 +213,6 @@ of_opcode opcode = by_past (nat_lt opcode 202) refl
 
 -- ---- where it leads
 
--- where an operation jumps to
-abbrev pub JumpsLead : Here → Operation → Type 0
-JumpsLead h (IfInt test offset) = Lands h offset
-JumpsLead h (IfInts test offset) = Lands h offset
-JumpsLead h (IfSame wanted offset) = Lands h offset
-JumpsLead h (IfNull wanted offset) = Lands h offset
-JumpsLead h (Goto offset) = Lands h offset
-JumpsLead h (SwitchTable fallback low high first) = Lands h fallback × ((k : ℕ) → k < count low high → Lands h (offset_at h (first + 4 * k)))
-JumpsLead h (SwitchLookup fallback pairs first) = Lands h fallback × ((k : ℕ) → k < pairs → Lands h (offset_at h (first + 4 + 8 * k)))
-JumpsLead h _ = Unit {0}
-
 lands : (starts : List ℕ) (at : ℕ) (offset : ℤ) → is_target starts at offset ≡ true → is_start starts (natural (pos at +ℤ offset)) ≡ true
 lands starts at offset is = by (pos at +ℤ offset) refl
   where
@@ -240,7 +229,7 @@ below_passes (suc n) test k all less = by (eqb_tells k n) (λ lower. below_passe
     by (inr other) later = later (omega (arith, less, other.1))
 
 leads_by : (h : Here) (operation : Operation) (o : Operand) → HasOperand true operation o
-    → all_hold (jump_checks (starts_in h.code) h.code.bytes h.state.top.position o) ≡ true → JumpsLead h operation
+    → all_hold (jump_checks (starts_in h.code) h.code.bytes h.state.top.position o) ≡ true → JumpsLead Lands h operation
 leads_by h operation o has holds = by operation has
   where
     starts : List ℕ
@@ -255,7 +244,7 @@ leads_by h operation o has holds = by operation has
     jump : (offset : ℤ) → o ≡ operand.Jump offset → Lands h offset
     jump offset is = lands starts at offset (and_true _ _ (subst Holds is holds)).0
 
-    by : (operation : Operation) → HasOperand true operation o → JumpsLead h operation
+    by : (operation : Operation) → HasOperand true operation o → JumpsLead Lands h operation
     by (IfInt test offset) has = jump offset (has refl)
     by (IfInts test offset) has = jump offset (has refl)
     by (IfSame wanted offset) has = jump offset (has refl)
@@ -271,7 +260,7 @@ leads_by h operation o has holds = by operation has
 
 -- the jumps of an instruction whose jumps are checked lead to instructions
 pub leads : (h : Here) (i : Instruction) → instruction_at h.code.bytes h.state.top.position ≡ Some i
-    → all_hold (jump_checks (starts_in h.code) h.code.bytes h.state.top.position i.operand) ≡ true → JumpsLead h (operation_of i)
+    → all_hold (jump_checks (starts_in h.code) h.code.bytes h.state.top.position i.operand) ≡ true → JumpsLead Lands h (operation_of i)
 leads h i is holds =
     let form = instruction_form h.code.bytes h.state.top.position i is in
     leads_by h (operation_of i) i.operand

@@ -1,12 +1,17 @@
 pub mod Places
+pub mod Claims
+pub mod RowClaims
 pub mod Sites
+pub mod KeptRows
 pub mod PlainRows
 pub mod ObjectRows
 pub mod CallRows
 pub mod TextRows
 pub mod LibraryRows
 pub mod NativeRows
+pub mod NativeSites
 pub mod Landings
+pub mod Operations
 pub mod Rows
 pub mod Unwinding
 pub mod Beginning

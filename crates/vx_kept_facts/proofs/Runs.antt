@@ -11,8 +11,8 @@ use Rattle.vx_java.specs.Machine.{Begin, Ended, Ends, Frame, Go, Goes, Native, N
 use Rattle.vx_java.specs.Row.{row}
 use Rattle.vx_java.specs.Step.{Config, Live, Over, Progress, Run, before_main, begun, first_inits, if_quiet, next, outcome_carried_out, run_after, start, step, steps, text_of, with_room}
 use Rattle.vx_kept_facts.proofs.Beginning.{begin_comes, pushed_stands}
-use Rattle.vx_kept_facts.proofs.CallRows.{begins}
-use Rattle.vx_kept_facts.proofs.NativeRows.{native_comes}
+use Rattle.vx_kept_facts.proofs.KeptRows.{begins}
+use Rattle.vx_kept_facts.proofs.NativeSites.{native_comes}
 use Rattle.vx_kept_facts.proofs.Rows.{row_comes}
 use Rattle.vx_kept_facts.proofs.Sites.{MayCome, StandsAtInstruction, StandsAtPlace, is_code_place, length_inits}
 use Rattle.vx_kept_facts.proofs.Unwinding.{NextStands, raised_stands, thrown_stands}

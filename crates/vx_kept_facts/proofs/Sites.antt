@@ -1,5 +1,5 @@
 -- Where frames stand, and what a row may come to where its instruction stands.
-use Rattle.std.proofs.Common.{Bool, List, None, Option, Some, [], ap, bytes_eq, codes, false, length, refl, subst, true, unwrap_or, ℕ, ◌+◌, ◌∙◌, ◌∷◌, ◌≡◌}
+use Rattle.std.proofs.Common.{Bool, List, Option, Some, [], ap, bytes_eq, codes, false, length, refl, subst, true, unwrap_or, ℕ, ℤ, ◌+◌, ◌∙◌, ◌∷◌, ◌≡◌}
 use Prim.Native.String.{String}
 use Rattle.std.proofs.lemmas.Bool.{or_left}
 use Rattle.std.proofs.lemmas.List.{length-set}
@@ -9,19 +9,19 @@ use Rattle.std.specs.Prelude.{slice_set, ◌||◌}
 use Rattle.vx_class.specs.declared.class_file.Code.{Code}
 use Rattle.vx_code.specs.Holding.{and_true}
 use Rattle.vx_code.specs.Instructions.{is_start}
-use Rattle.vx_java.specs.Checks.{if_there, non_null, with_class}
-use Rattle.vx_java.specs.Initialisation.{by_state, init_chain, when_initialised, when_not}
-use Rattle.vx_java.specs.Machine.{Begin, Ended, Frame, Go, Here, Native, Object, Outcome, Raise, Ref, State, Throw, Value, Write, fit, go, illegal, in_state, init_at, inits_with, object_at, raise, settle, when, with_inits}
+use Rattle.vx_java.specs.Jumps.{target}
+use Rattle.vx_java.specs.Machine.{Begin, Ended, Frame, Go, Here, Native, Object, Outcome, Raise, State, Throw, Value, Write, in_state, inits_with, object_at, with_inits}
 use Rattle.vx_jump_targets.specs.Placed.{starts_in}
+use Rattle.vx_kept_facts.proofs.Claims.{Claim, is_raised, moved, moved_heap}
 use Rattle.vx_kept_facts.specs.Kept.{is_at_instruction, is_code_end, is_instruction, is_throwable}
 use Rattle.vx_kept_facts.specs.Law.{IsRunnable, raised}
-use Rattle.vx_link.specs.ClassNames.{class_named, class_of_name, core_class}
+use Rattle.vx_link.specs.ClassNames.{class_of_name, core_class}
 use Rattle.vx_link.specs.Parts.{class_count, method_at}
 use Rattle.vx_link.specs.declared.program.Program.{Program}
 use Rattle.vx_value.specs.declared.end.End.{End}
 use Rattle.vx_value.specs.declared.end.Stream.{Stream}
 use Rattle.vx_value.specs.declared.slot.InitState.{InitState}
-use Rattle.vx_value.specs.declared.slot.InitState.TheVariants.{Done, Failed, Not, Running}
+use Rattle.vx_value.specs.declared.slot.InitState.TheVariants.{Done}
 
 -- ---- where frames stand
 
@@ -73,17 +73,6 @@ stays h at = record {
   classes = at.classes;
 }
 
--- the state of the site with another heap, other statics, and in the frame on top another position, other locals and operands
-abbrev pub moved : Here → List Object → (statics locals operands : List Value) → (position : ℕ) → State
-moved h heap statics locals operands position =
-    record {
-      heap = heap;
-      statics = statics;
-      inits = h.state.inits;
-      top = record { kind = h.state.top.kind; method = h.state.top.method; position = position; locals = locals; operands = operands };
-      callers = h.state.callers;
-    }
-
 -- the run goes on behind the instruction, or with a text written
 pub passes : (h : Here) {heap : List Object} {statics locals operands : List Value} → AtSite h → MayCome h.program (Go (moved h heap statics locals operands (h.state.top.position + h.size)))
 passes h at = record {
@@ -104,6 +93,10 @@ writes h at = record {
   };
 }
 
+-- a jump leads to an instruction
+abbrev pub Lands : Here → ℤ → Type 0
+Lands h offset = is_start (starts_in h.code) (target h offset) ≡ true
+
 -- or at another instruction of the code
 pub reaches : (h : Here) {heap : List Object} {statics locals operands : List Value} → AtSite h → (to : ℕ) → is_start (starts_in h.code) to ≡ true
     → MayCome h.program (Go (moved h heap statics locals operands to))
@@ -117,19 +110,6 @@ reaches h at to start = record {
 
 pub ends : (h : Here) {end : End} → MayCome h.program (Ended end)
 ends h = record { leaves = tt }
-
-pub chosen : (p : Program) (b : Bool) (x y : Outcome) → MayCome p x → MayCome p y → MayCome p (when b x y)
-chosen p true x y first second = first
-chosen p false x y first second = second
-
--- the first one only where the test holds
-pub checked : (p : Program) (b : Bool) (x y : Outcome) → (b ≡ true → MayCome p x) → MayCome p y → MayCome p (when b x y)
-checked p true x y first second = first refl
-checked p false x y first second = second
-
--- past the instruction, where the operands fit
-pub settles : (h : Here) → AtSite h → (operands : List Value) → MayCome h.program (settle h operands)
-settles h at operands = chosen h.program (fit h operands) (go h operands) (illegal h) (passes h at) (ends h)
 
 -- ---- exceptions
 
@@ -148,41 +128,23 @@ throwable_among p (n ∷ names) name all among =
     by true same later among = subst P ((bytes_eq-Decides (codes n) (codes name)).0 same) (and_true _ _ all).0
     by false other later among = later among
 
--- a core class of those that are raised
-abbrev pub is_raised : String → Bool
-is_raised name = list_any (λ n. bytes_eq (codes n) (codes name)) raised
-
 pub throwable : (p : Program) → IsRunnable p → (name : String) → is_raised name ≡ true → is_throwable p (core_class p name) ≡ true
 throwable p whole name among = throwable_among p raised name whole.throwable among
 
 pub raises : (h : Here) {message : Option (List ℕ)} {heap : List Object} → AtSite h → (name : String) → is_raised name ≡ true
-    → MayCome h.program (Raise (core_class h.program name) message (record { heap = heap; statics = h.state.statics; inits = h.state.inits; top = h.state.top; callers = h.state.callers }))
+    → MayCome h.program (Raise (core_class h.program name) message (moved_heap h heap))
 raises h at name among = record { leaves = (throwable h.program at.whole name among, stays h at) }
 
-pub null_pointer : (h : Here) → AtSite h → MayCome h.program (raise h "java/lang/NullPointerException")
-null_pointer h at = raises h at "java/lang/NullPointerException" refl
-
-pub no_memory : (h : Here) → AtSite h → MayCome h.program (raise h "java/lang/OutOfMemoryError")
-no_memory h at = raises h at "java/lang/OutOfMemoryError" refl
-
-pub incompatible : (h : Here) → AtSite h → MayCome h.program (raise h "java/lang/IncompatibleClassChangeError")
-incompatible h at = raises h at "java/lang/IncompatibleClassChangeError" refl
-
-pub negative_size : (h : Here) → AtSite h → MayCome h.program (raise h "java/lang/NegativeArraySizeException")
-negative_size h at = raises h at "java/lang/NegativeArraySizeException" refl
-
--- ---- checks that take what follows
-
-pub class_there : (h : Here) (name : List ℕ) (rest : ℕ → Outcome) → ((c : ℕ) → MayCome h.program (rest c)) → MayCome h.program (with_class h name rest)
-class_there h name rest each = by (class_named h.program name)
-  where
-    by : (class : Option ℕ) → MayCome h.program (if_there h name class rest)
-    by None = ends h
-    by (Some c) = each c
-
-pub object_there : (h : Here) → AtSite h → (v : Value) (rest : ℕ → Outcome) → ((r : ℕ) → MayCome h.program (rest r)) → MayCome h.program (non_null h v rest)
-object_there h at (Ref r) rest each = each r
-object_there h at _ rest each = null_pointer h at
+-- so where frames stand may be said of each outcome
+abbrev pub kept : Claim
+kept = record {
+  At = AtSite;
+  May = MayCome;
+  passes = λ h {heap = heap} {statics = statics} {locals = locals} {operands = operands} at. passes h {heap = heap} {statics = statics} {locals = locals} {operands = operands} at;
+  writes = λ h {heap = heap} {statics = statics} {locals = locals} {operands = operands} {stream = stream} {units = units} at. writes h {heap = heap} {statics = statics} {locals = locals} {operands = operands} {stream = stream} {units = units} at;
+  raises = λ h {message = message} {heap = heap} at name among. raises h {message = message} {heap = heap} at name among;
+  ends = λ h {end = end}. ends h {end = end};
+}
 
 -- ---- initialisation
 
@@ -190,7 +152,7 @@ pub length_inits : (inits : List InitState) (i : InitState) (classes : List ℕ)
 length_inits inits i [] = refl
 length_inits inits i (c ∷ classes) = length_inits (slice_set inits c i) i classes ∙ length-set inits c i
 
-initialised : (h : Here) → AtSite h → (chain : List ℕ) → AtSite (in_state h (with_inits h.state Done chain))
+pub initialised : (h : Here) → AtSite h → (chain : List ℕ) → AtSite (in_state h (with_inits h.state Done chain))
 initialised h at chain = record {
   whole = at.whole;
   code = at.code;
@@ -199,17 +161,3 @@ initialised h at chain = record {
   below = at.below;
   classes = length_inits h.state.inits Done chain ∙ at.classes;
 }
-
--- what follows in a state in which some classes may have been initialised
-pub when_ready : (h : Here) → AtSite h → (c : ℕ) (rest : Here → Outcome) → ((g : Here) → AtSite g → MayCome g.program (rest g)) → MayCome h.program (when_initialised h c rest)
-when_ready h at c rest each = by (init_at h.state.inits c)
-  where
-    quiet : (b : Bool) → MayCome h.program (when_not h c b rest)
-    quiet true = each (in_state h (with_inits h.state Done (init_chain h.program h.state.inits c))) (initialised h at (init_chain h.program h.state.inits c))
-    quiet false = record { leaves = stays h at }
-
-    by : (i : InitState) → MayCome h.program (by_state h c i rest)
-    by Done = each h at
-    by Running = each h at
-    by Failed = raises h at "java/lang/NoClassDefFoundError" refl
-    by Not = quiet _

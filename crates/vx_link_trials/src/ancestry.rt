@@ -1,6 +1,6 @@
 use std::alloc::{AllocError, Global};
 use std::test::Fail;
-use vx_ancestry::{is_ordered, is_own_ancestor};
+use vx_ancestry::Ancestry;
 use vx_list::Items;
 
 /// Puts a place below the given ones.
@@ -22,28 +22,30 @@ fn chain(alloc: Global, above: &[usize]) -> Result<Vec<Items<usize>>, AllocError
     Ok(parents)
 }
 
-fn has_an_order(alloc: Global, parents: &[Items<usize>]) -> Result<bool, AllocError> {
-    Ok(is_ordered(alloc, parents)? && !is_own_ancestor(alloc, parents, 2)?)
+fn has_own_ancestors(
+    alloc: Global,
+    parents: Vec<Items<usize>>,
+    wanted: [bool; 3],
+) -> Result<bool, AllocError> {
+    let ancestry = Ancestry::new(alloc, parents)?;
+    for (place, own) in wanted.iter().enumerate() {
+        if ancestry.is_own_ancestor(alloc, place)? != *own {
+            return Ok(false);
+        }
+    }
+    Ok(true)
 }
 
 #[test]
-fn a_chain_is_ordered(rt: HostRuntime) -> Result<(), Fail> {
+fn no_place_of_a_chain_is_its_own_ancestor(rt: HostRuntime) -> Result<(), Fail> {
     let parents = chain(rt.alloc(), &[])?;
-    assert!(rt; has_an_order(rt.alloc(), &parents)?);
+    assert!(rt; has_own_ancestors(rt.alloc(), parents, [false, false, false])?);
     Ok(())
 }
 
-fn has_a_circle_of_two(alloc: Global, parents: &[Items<usize>]) -> Result<bool, AllocError> {
-    Ok(
-        !is_ordered(alloc, parents)?
-            && is_own_ancestor(alloc, parents, 1)?
-            && !is_own_ancestor(alloc, parents, 2)?,
-    )
-}
-
 #[test]
-fn a_circle_has_no_order(rt: HostRuntime) -> Result<(), Fail> {
+fn places_of_a_circle_are_their_own_ancestors(rt: HostRuntime) -> Result<(), Fail> {
     let parents = chain(rt.alloc(), &[1])?;
-    assert!(rt; has_a_circle_of_two(rt.alloc(), &parents)?);
+    assert!(rt; has_own_ancestors(rt.alloc(), parents, [true, true, false])?);
     Ok(())
 }

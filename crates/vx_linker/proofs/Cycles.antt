@@ -1,6 +1,5 @@
 -- Cycles among classes, as the places of their parents show them.
-use Rattle.std.proofs.Common.{◌≡◌, ℕ, List, [], ◌∷◌, ◌++◌, map, refl, ap, sym, ◌∙◌, Bool, true, false, zero, suc, Option, Some, None, ◌||◌, bytes_eq, nat_eq, find, length, slice_get, option_map, unwrap_or, option_to_list, subst, get_or}
-use Rattle.std.specs.Bool.{OnTrue}
+use Rattle.std.proofs.Common.{◌≡◌, ℕ, List, [], ◌∷◌, ◌++◌, map, refl, ap, sym, ◌∙◌, Bool, false, zero, suc, Option, Some, None, ◌||◌, bytes_eq, nat_eq, length, slice_get, option_map, unwrap_or, option_to_list, get_or}
 use Rattle.std.specs.List.{list_any, filter_map, cons_option}
 use Rattle.std.proofs.lemmas.List.{length-map}
 use Rattle.std.proofs.lemmas.List.Quantifiers.{position-Some}
@@ -10,10 +9,9 @@ use Rattle.vx_class.specs.declared.class_file.ClassFile.{ClassFile}
 use Rattle.vx_names.specs.Names.{place_of}
 use Rattle.vx_ancestry.specs.Ancestors as places
 use Rattle.vx_ancestry.proofs.Rounds.{list_any-flat_map}
-use Rattle.vx_link.specs.Faults.{name_of, super_name, interface_names, file_named, parents_of, ancestors, is_own_ancestor, cycle}
+use Rattle.vx_link.specs.Faults.{name_of, super_name, interface_names, file_named, parents_of, ancestors, is_own_ancestor}
 use Rattle.vx_link.specs.Names.{class_name}
 use Rattle.vx_link.specs.Tables.{names_of, parent_places, place_of_class, all_parents}
-use Rattle.vx_link.specs.declared.fault.LinkFault.TheVariants.{Cycle}
 use Rattle.vx_linker.proofs.Lookups.{file_there, file_absent}
 use Rattle.vx_ancestry.proofs.Ranked.{false-unless}
 
@@ -130,18 +128,3 @@ own_at all c place h =
 
 pub own_nowhere : (all : List ClassFile) (c : ClassFile) → None ≡ place_of (names_of all) (name_of c) → false ≡ is_own_ancestor all c
 own_nowhere all c h = sym (ap (list_any (bytes_eq (name_of c))) (absent all (name_of c) h (length all)))
-
-none-own-at : (all : List ClassFile) → places.NoneIsOwn (all_parents all) → (c : ClassFile) (o : Option ℕ) → o ≡ place_of (names_of all) (name_of c) → is_own_ancestor all c ≡ false
-none-own-at all h c None e = sym (own_nowhere all c e)
-none-own-at all h c (Some place) e = sym (own_at all c place e) ∙ h place
-
-find-none : {A : Type 0} (p : A → Bool) → ((x : A) → p x ≡ false) → (xs : List A) → find p xs ≡ None
-find-none p h [] = refl
-find-none p h (x ∷ xs) = rw (h x) (find-none p h xs)
-
--- where the places are ordered, there is no cycle
-pub no_cycle : (all classes : List ClassFile) (parents : List (List ℕ)) (ordered : Bool) → parents ≡ all_parents all → OnTrue ordered (places.NoneIsOwn parents) → ordered ≡ true → cycle all classes ≡ None
-no_cycle all classes parents false e h t = cc
-no_cycle all classes parents true e h t =
-    let P : List (List ℕ) → Type 0 = places.NoneIsOwn in
-    ap (option_map (λ c. Cycle (name_of c))) (find-none (is_own_ancestor all) (λ c. none-own-at all (subst P e h) c (place_of (names_of all) (name_of c)) refl) classes)

@@ -11,7 +11,7 @@ ghost use Rattle.vx_linker.specs.Answers.{Judges};
 use crate::files::Files;
 use bitflags::Flags;
 use std::alloc::{AllocError, Global};
-use vx_ancestry::{is_ordered, is_own_ancestor};
+use vx_ancestry::Ancestry;
 use vx_class::{ClassFile, Field, Method};
 use vx_link::class_names::{class_name, is_interface, name_of, super_name, utf8};
 use vx_link::{AccessFlags, LinkFault};
@@ -227,28 +227,28 @@ fn all_parents(alloc: Global, files: &Files) -> Result<Vec<Items<usize>>, AllocE
     Ok(rows)
 }
 
-/// Whether a class is its own ancestor, where the parents are those of all classes.
+/// Whether a class is its own ancestor, where the ancestry is that of all classes.
 fn is_own(
     alloc: Global,
     files: &Files,
-    parents: &[Items<usize>],
+    ancestry: &Ancestry,
     class: &ClassFile,
 ) -> Result<bool, AllocError>
-    requires { parents.now ≡ all_parents (files.now.classes.items ++ files.now.core.items) }
+    requires { ancestry.now.parents.items ≡ all_parents (files.now.classes.items ++ files.now.core.items) }
     ensures { IfOk result (λ own. own ≡ is_own_ancestor (files.now.classes.items ++ files.now.core.items) class.now) }
 {
     match files.place_of(name_of(class)) {
-        Some(place) => is_own_ancestor(alloc, parents, place),
+        Some(place) => ancestry.is_own_ancestor(alloc, place),
         None => Ok(false),
     }
 }
 
-fn first_cycle(alloc: Global, files: &Files, parents: &[Items<usize>]) -> Result<(), LinkFault>
-    requires { parents.now ≡ all_parents (files.now.classes.items ++ files.now.core.items) }
+fn first_cycle(alloc: Global, files: &Files, ancestry: &Ancestry) -> Result<(), LinkFault>
+    requires { ancestry.now.parents.items ≡ all_parents (files.now.classes.items ++ files.now.core.items) }
     ensures { Judges result (cycle (files.now.classes.items ++ files.now.core.items) files.now.classes.items) }
 {
     for class in &files.classes {
-        if is_own(alloc, files, parents, class)? {
+        if is_own(alloc, files, ancestry, class)? {
             return Err(LinkFault::Cycle {
                 class: Name::of(alloc, name_of(class))?,
             });
@@ -257,22 +257,12 @@ fn first_cycle(alloc: Global, files: &Files, parents: &[Items<usize>]) -> Result
     Ok(())
 }
 
-fn judge_rows(alloc: Global, files: &Files, parents: &[Items<usize>]) -> Result<(), LinkFault>
-    requires { parents.now ≡ all_parents (files.now.classes.items ++ files.now.core.items) }
-    ensures { Judges result (cycle (files.now.classes.items ++ files.now.core.items) files.now.classes.items) }
-{
-    let ordered = is_ordered(alloc, parents)?;
-    if ordered {
-        return Ok(());
-    }
-    first_cycle(alloc, files, parents)
-}
-
 fn judge_cycles(alloc: Global, files: &Files) -> Result<(), LinkFault>
     ensures { Judges result (cycle (files.now.classes.items ++ files.now.core.items) files.now.classes.items) }
 {
     let parents = all_parents(alloc, files)?;
-    judge_rows(alloc, files, &parents)
+    let ancestry = Ancestry::new(alloc, parents)?;
+    first_cycle(alloc, files, &ancestry)
 }
 
 fn judge_options(alloc: Global, files: &Files, options: &[OptionField]) -> Result<(), LinkFault>

@@ -36,7 +36,7 @@ fn judged(
 
 /// The class files of a folder and of the core with tables of their names, where they link with the options of a model and
 /// the class whose `main` is run; otherwise their first fault (JVMS 5.3, 5.4; the order of faults is own). The name has `/`
-/// between its parts. It takes time linear in the classes, but where a class is its own ancestor.
+/// between its parts. It takes time linear in the classes.
 pub fn linkable(
     alloc: Global,
     classes: Vec<ClassFile>,

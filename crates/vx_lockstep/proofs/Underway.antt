@@ -6,21 +6,19 @@ use Rattle.std.proofs.lemmas.List.{length-map, nil_from_length}
 use Rattle.vx_lockstep.proofs.Apart.{HoldNot, round_apart}
 use Rattle.vx_lockstep.proofs.Abreast.{IsAbreast, start_abreast}
 use Rattle.vx_lockstep.proofs.LockEnds.{is_over, report_is}
-use Rattle.vx_lockstep.proofs.LockRounds.{AreStanding, live_of, lock_round}
+use Rattle.vx_lockstep.proofs.LockRounds.{AreStanding, lock_round}
 use Rattle.vx_lockstep.proofs.Runs.{IsReached, moved, moved_if, moved_reached, moved_runs, start_reached, whole_run}
-use Rattle.vx_lockstep.proofs.Standings.{standing_nowhere}
 use Rattle.vx_lockstep.specs.Findings.{AreAllowed, AreFindings, FindingsView, piece_by, report_by}
 use Rattle.vx_group.specs.Group.{GroupView, key_of, path_of}
 use Rattle.vx_java.specs.Lockstep.{live_progress}
 use Rattle.vx_java.specs.Report.{lock_report}
 use Rattle.vx_java.specs.Step.{Config, Progress, Run, start}
 use Rattle.vx_link.specs.declared.program.Program.{Program}
-use Rattle.vx_standing.specs.Rounds.{IsRound, IsStart, IsStuck, MeetsUnbuilt, after_round}
-use Rattle.vx_standing.specs.State.{IsState, Runs, StateView, standing_at, standing_if, standing_of}
+use Rattle.vx_standing.specs.Rounds.{IsRound, IsStart, after_round}
+use Rattle.vx_standing.specs.State.{IsState, StateView, standing_at, standing_if, standing_of}
 use Rattle.vx_sched.specs.Picks.{IsFirstKey}
 use Rattle.vx_space.specs.Sets.{Extends, IsLawful, Sets}
 use Rattle.vx_value.specs.declared.key.KeyPart.{KeyPart}
-use Rattle.vx_java.proofs.Rounds.{live_is}
 
 -- before a round; what is said of lockstep holds where `FirstPicked` does
 pub record IsUnderway {S I : Type 0} (p : Program) (sets : Sets I) (options : ℕ) (is_allowed : Config → Bool) (limit : ℕ) (FirstPicked : Type 0) (st : StateView S I) : Type 0 where
@@ -96,31 +94,6 @@ picked_below groups seen keys items place a b d below =
 
 pub picked_first : {S I : Type 0} (groups seen : List (GroupView S I)) (keys items : List (List KeyPart)) (place : ℕ) → keys ≡ items → items ≡ map key_of seen → seen ≡ groups → IsFirstKey keys place → IsFirstKey (map key_of groups) place
 picked_first groups seen keys items place a b d first = subst (λ list. IsFirstKey list place) (a ∙ b ∙ ap (map key_of) d) first
-
--- a run that stands at what isn't built
-pub stuck : {S I : Type 0} (p : Program) (sets : Sets I) (options : ℕ) (is_allowed : Config → Bool) (limit : ℕ) (FirstPicked : Type 0) (st : StateView S I) (group : GroupView S I) → IsUnderway p sets options is_allowed limit FirstPicked st → IsStuck p sets st group → MeetsUnbuilt p is_allowed limit
-stuck p sets options is_allowed limit FirstPicked st group u h =
-    let is_in = is_allowed_here (is_allowed h.config) refl in
-    let both : Some (standing_of limit (u.runs h.config)) ≡ Some (Runs h.progress) = sym (u.standing.stands h.config is_in) ∙ h.stands in
-    let runs_on : standing_of limit (u.runs h.config) ≡ Runs h.progress = cc in
-    let live = live_of limit (u.runs h.config) h.progress runs_on in
-    let is = (live_is limit (u.runs h.config) h.progress live).run in
-    record {
-      config = h.config;
-      allowed = is_in;
-      made = (u.reached h.config).made;
-      progress = h.progress;
-      comes = (u.reached h.config).comes ∙ is;
-      left = ap (live_progress limit) (sym is) ∙ live;
-      unbuilt = h.unbuilt;
-    }
-  where
-    is_allowed_here : (b : Bool) → is_allowed h.config ≡ b → is_allowed h.config ≡ true
-    is_allowed_here true e = e
-    is_allowed_here false e =
-        let none = standing_nowhere sets st h.config (u.is_state.nowhere h.config (u.same h.config ∙ e)) in
-        let some = h.stands in
-        cc
 
 -- ---- the end
 

@@ -1,5 +1,5 @@
 -- The places of fields, at each configuration of a group.
-use Rattle.std.proofs.Common.{◌≡◌, ℕ, ◌+◌, ◌<◌, Bool, true, false, List, [], ◌∷◌, refl, sym, ◌∙◌, ap, arith, drop, if◌then◌else◌}
+use Rattle.std.proofs.Common.{◌≡◌, ℕ, ◌+◌, Bool, true, false, List, [], ◌∷◌, refl, sym, ◌∙◌, ap, drop, if◌then◌else◌}
 use Rattle.std.specs.Prelude.{Option, Some, None, is_some, nat_le, unwrap_or}
 use Rattle.vx_cells.specs.Places.{place_cmp, place_if}
 use Rattle.vx_cells.specs.Through.{ArePlacesHeld, is_place_held, place_at}
@@ -10,7 +10,6 @@ use Rattle.vx_cond.specs.Leaves.{IsLifted2}
 use Rattle.vx_cond.specs.Slots.{slot_at}
 use Rattle.vx_cond.proofs.CondLaws.{IsCond-extends, cond_at-extends}
 use Rattle.vx_cond.proofs.SideLaws.{cond_at-covers}
-use Rattle.vx_desc.specs.declared.java_type.JavaType.{JavaType}
 use Rattle.vx_families.specs.Attempts.{IsGiven}
 use Rattle.vx_families.proofs.Given.{IsGiven-extends, given_operands_held}
 use Rattle.vx_families.proofs.Tops.{lifting2_at}
@@ -25,10 +24,7 @@ use Rattle.vx_group_states.proofs.Operands.{item_held}
 use Rattle.vx_heap.specs.Changing.{IsValueHeld}
 use Rattle.vx_heap.specs.Heap.{HeapView, IsHeap, is_held}
 use Rattle.vx_heap.proofs.HeapLaws.{is_held-extends}
-use Rattle.vx_java.specs.Checks.{width_of_optional, width_of_type, sort_of}
 use Rattle.vx_java.specs.declared.operation.Operation.{Operation}
-use Rattle.vx_java.specs.declared.operation.Sort.{Sort}
-use Rattle.vx_java.specs.declared.operation.Sort.TheVariants as sort
 use Rattle.vx_link.specs.declared.program.Program.{Program}
 use Rattle.vx_list.specs.Places.{item_or}
 use Rattle.vx_objects.specs.Answers.{field_place, is_instance}
@@ -39,16 +35,6 @@ use Rattle.vx_space.proofs.Spaces.{Extends-trans}
 use Rattle.vx_value.specs.declared.operation.Narrow.{Narrow}
 use Rattle.vx_value.specs.declared.slot.Slot.{Slot}
 use Rattle.vx_value.specs.declared.slot.Slot.TheVariants.{Top, Int, Long, Null, Ref, Text}
-
--- a value of a type takes two words at most
-pub width_small : (type : JavaType) → width_of_type type < 3
-width_small type = small (sort_of type)
-  where
-    small : (s : Option Sort) → width_of_optional s < 3
-    small None = omega arith
-    small (Some sort.Int) = omega arith
-    small (Some sort.Long) = omega arith
-    small (Some sort.Reference) = omega arith
 
 pub first_is : (slots : List Slot) → item_or slots 0 Top ≡ top_of slots
 first_is [] = refl

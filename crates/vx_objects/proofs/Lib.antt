@@ -4,4 +4,3 @@ pub mod FieldPlaces
 pub mod Reaching
 pub mod Missing
 pub mod MakingRows
-pub mod InitRows

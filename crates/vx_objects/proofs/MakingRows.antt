@@ -51,6 +51,7 @@ use Rattle.vx_link.specs.Names.{class_name}
 use Rattle.vx_link.specs.Parts.{class_at, has, is_interface, method_at}
 use Rattle.vx_outcome.specs.declared.outcome.Outcome.{Outcome}
 use Rattle.vx_outcome.specs.declared.outcome.Outcome.TheVariants as shared
+use Rattle.vx_objects.specs.Made.{given_where_ready}
 use Rattle.vx_ready.proofs.Changes.{IsChanged-before}
 use Rattle.vx_ready.proofs.Climbing.{inits_later}
 use Rattle.vx_ready.proofs.Going.{going-gives}
@@ -110,7 +111,7 @@ either_true : (a b : Bool) → (a || b) ≡ true → (b ≡ true → a ≡ true)
 either_true true b h k = refl
 either_true false b h k = k h
 
-module _ {S I : Type 0} (site : Site) (s0 s1 s2 s3 : Sets I) (before middle after : HeapView S I) (group going : GroupView S I) (class : ClassId) (needs : I) (readiness : Readiness S I) (reference : ℕ) (others made : List (Outcome S I)) (r : IsRunning site s0 before group) (makes : (has ABSTRACT (class_at site.program.now class.0).flags || is_interface site.program.now class.0) ≡ false) (e01 : Extends s0 s1) (n : IsSet s1 needs (λ c. s0.test (path_of group) c && nat_le (1 + slots_size (operands_at s0 group.top.stack c)) site.code.now.max_stack)) (e12 : Extends s1 s2) (ready : IsReadied site.program.now s1 s2 before middle class.0 needs readiness) (new : IsChangedIn s2 s2 middle after (s2.test readiness.proceeds) (λ _. with_object (new_object site.program.now class.0))) (number : (c : List Bool) → s2.test readiness.proceeds c ≡ true → reference ≡ length middle.objects) (e23 : Extends s2 s3) (q : IsPartOf s2 s3 (λ c. s2.test (path_of group) c && s2.test readiness.proceeds c) group going) (stopped_there : GivesWithin site.program.now (stopped_by site class.0 s2 needs readiness.fails) (λ c. s2.test (path_of group) c && not (s2.test readiness.proceeds c)) s2 s3 group others after) (gone : GivesAt site.program.now (λ heap c s. go (here site s) (value_of s3 heap c (Ref reference) ∷ s.top.operands)) s3 s3 going made after) where
+module _ {S I : Type 0} (site : Site) (s0 s1 s2 s3 : Sets I) (before middle after : HeapView S I) (group : GroupView S I) (class : ClassId) (needs : I) (readiness : Readiness S I) (reference : ℕ) (outcomes : List (Outcome S I)) (r : IsRunning site s0 before group) (makes : (has ABSTRACT (class_at site.program.now class.0).flags || is_interface site.program.now class.0) ≡ false) (e01 : Extends s0 s1) (n : IsSet s1 needs (λ c. s0.test (path_of group) c && nat_le (1 + slots_size (operands_at s0 group.top.stack c)) site.code.now.max_stack)) (e12 : Extends s1 s2) (ready : IsReadied site.program.now s1 s2 before middle class.0 needs readiness) (new : IsChangedIn s2 s2 middle after (s2.test readiness.proceeds) (λ _. with_object (new_object site.program.now class.0))) (number : (c : List Bool) → s2.test readiness.proceeds c ≡ true → reference ≡ length middle.objects) (e23 : Extends s2 s3) (gives : GivesAt site.program.now (given_where_ready site class.0 s2 s3 needs readiness reference) s2 s3 group outcomes after) where
   abbrev marks : List Bool → Globals → Globals
   marks c = readied site.program.now class.0 (s1.test needs c)
 
@@ -119,7 +120,7 @@ module _ {S I : Type 0} (site : Site) (s0 s1 s2 s3 : Sets I) (before middle afte
 
   -- what comes of a state over the later heap
   abbrev there : List Bool → State → PlainOutcome
-  there c s = if s2.test readiness.proceeds c then go (here site s) (value_of s3 after c (Ref reference) ∷ s.top.operands) else stopped_by site class.0 s2 needs readiness.fails after c s
+  there c s = given_where_ready site class.0 s2 s3 needs readiness reference after c s
 
   marked : IsChanged s0 s2 before middle marks
   marked = IsChanged-before e01 before middle marks marks r.is_heap (λ c. refl) ready.changed
@@ -150,19 +151,23 @@ module _ {S I : Type 0} (site : Site) (s0 s1 s2 s3 : Sets I) (before middle afte
       ∙ ap (λ w. made_after site class.0 g w (s2.test readiness.fails c) name (with_globals state (if g then makes_one c (marks c x) else marks c x))) (e12.test needs c n.known)
       ∙ new_row site class.0 state g (s1.test needs c) (s2.test readiness.fails c) name makes room fails proceeds named
 
-  pub new-attempts : AttemptsBy site (λ s. new_of_class (here site s) class.0) s0 s3 before after group (others ++ made)
+  pub new-attempts : AttemptsBy site (λ s. new_of_class (here site s) class.0) s0 s3 before after group outcomes
   new-attempts =
       let p = site.program.now in
       let e02 = Extends-trans e01 e12 in
-      let gives = going-gives p (s2.test readiness.proceeds) group going (stopped_by site class.0 s2 needs readiness.fails) (λ heap c s. go (here site s) (value_of s3 heap c (Ref reference) ∷ s.top.operands)) others made after e23 q stopped_there (Extends-refl s3) gone in
       record {
         is_for = changed.keeps p r.is_for;
-        attempts = λ tree s. attempts_follow p (λ state. new_of_class (here site state) class.0) there s0 s2 s3 before after (λ c. s0.test (path_of group) c || s2.test readiness.proceeds c) (λ c x. changed_in (s2.test readiness.proceeds) makes_one c (changed_in (s0.test (path_of group)) marks c x)) tree tree group (others ++ made) r.is_heap s e02 changed inside e23 (Keeps-refl tree) (law tree) (gives tree changed.is_heap (StandsIn-grown p e02 (Keeps-refl tree) before after r.is_heap changed.grows group s));
+        attempts = λ tree s. attempts_follow p (λ state. new_of_class (here site state) class.0) there s0 s2 s3 before after (λ c. s0.test (path_of group) c || s2.test readiness.proceeds c) (λ c x. changed_in (s2.test readiness.proceeds) makes_one c (changed_in (s0.test (path_of group)) marks c x)) tree tree group outcomes r.is_heap s e02 changed inside e23 (Keeps-refl tree) (law tree) (gives tree changed.is_heap (StandsIn-grown p e02 (Keeps-refl tree) before after r.is_heap changed.grows group s));
       }
 
 -- the object is there in the part that goes on
-pub made_held : {S I : Type 0} (s2 s3 : Sets I) (after : HeapView S I) (group going : GroupView S I) (proceeds : List Bool → Bool) (reference : ℕ) → IsHeap s2 after → Extends s2 s3 → IsPartOf s2 s3 (λ c. s2.test (path_of group) c && proceeds c) group going → ((c : List Bool) → proceeds c ≡ true → is_held s2 after c (Ref reference) ≡ true) → (c : List Bool) → s3.test (path_of going) c ≡ true → is_held s3 after c (Ref reference) ≡ true
+made_held : {S I : Type 0} (s2 s3 : Sets I) (after : HeapView S I) (group going : GroupView S I) (proceeds : List Bool → Bool) (reference : ℕ) → IsHeap s2 after → Extends s2 s3 → IsPartOf s2 s3 (λ c. s2.test (path_of group) c && proceeds c) group going → ((c : List Bool) → proceeds c ≡ true → is_held s2 after c (Ref reference) ≡ true) → (c : List Bool) → s3.test (path_of going) c ≡ true → is_held s3 after c (Ref reference) ≡ true
 made_held s2 s3 after group going proceeds reference v e q held c t = is_held-extends e after v c (Ref reference) ∙ held c (both_second (s2.test (path_of group) c) (proceeds c) (sym (part_path s2 s3 _ group going q c) ∙ t))
+
+-- what comes of the part that goes on and of those that stop
+pub given-gives : {S I : Type 0} (site : Site) (s2 s3 : Sets I) (group going : GroupView S I) (class : ℕ) (needs : I) (readiness : Readiness S I) (reference : ℕ) (others made : List (Outcome S I)) (heap : HeapView S I) → Extends s2 s3 → IsPartOf s2 s3 (λ c. s2.test (path_of group) c && s2.test readiness.proceeds c) group going → GivesWithin site.program.now (stopped_by site class s2 needs readiness.fails) (λ c. s2.test (path_of group) c && not (s2.test readiness.proceeds c)) s2 s3 group others heap → IsHeap s2 heap → ((c : List Bool) → s2.test readiness.proceeds c ≡ true → is_held s2 heap c (Ref reference) ≡ true) → (((c : List Bool) → s3.test (path_of going) c ≡ true → is_held s3 heap c (Ref reference) ≡ true) → GivesAt site.program.now (λ heap c s. go (here site s) (value_of s3 heap c (Ref reference) ∷ s.top.operands)) s3 s3 going made heap) → GivesAt site.program.now (given_where_ready site class s2 s3 needs readiness reference) s2 s3 group (others ++ made) heap
+given-gives site s2 s3 group going class needs readiness reference others made heap e q stopped_there v held gone =
+    going-gives site.program.now (s2.test readiness.proceeds) group going (stopped_by site class s2 needs readiness.fails) (λ heap c s. go (here site s) (value_of s3 heap c (Ref reference) ∷ s.top.operands)) others made heap e q stopped_there (Extends-refl s3) (gone (made_held s2 s3 heap group going (s2.test readiness.proceeds) reference v e q held))
 
 -- ---- the parts
 

@@ -63,7 +63,7 @@ same_numbers : (a b m n : ℕ) → (a ≡ b) ↔ (m ≡ n) → (a == b) ≡ (m =
 same_numbers a b m n e = both_true (a == b) (m == n) (λ t. eq-eqb m n (e.0 (eqb-true a b t))) (λ t. eq-eqb a b (e.1 (eqb-true m n t)))
 
 -- two slots that are held are one reference where their values are
-same_there : {S I : Type 0} (sets : Sets I) (heap : HeapView S I) (c : List Bool) (a b : Slot) → is_held sets heap c a ≡ true → is_held sets heap c b ≡ true → same_slots a b ≡ same_reference (value_of sets heap c a) (value_of sets heap c b)
+pub same_there : {S I : Type 0} (sets : Sets I) (heap : HeapView S I) (c : List Bool) (a b : Slot) → is_held sets heap c a ≡ true → is_held sets heap c b ≡ true → same_slots a b ≡ same_reference (value_of sets heap c a) (value_of sets heap c b)
 same_there sets heap c (Ref a) (Ref b) h k = same_numbers a b (name_at sets heap.objects c a) (name_at sets heap.objects c b) (names_tell sets heap c a b h k)
 same_there sets heap c (Ref a) Top h k = refl
 same_there sets heap c (Ref a) (Int n) h k = refl

@@ -104,10 +104,3 @@ field_place p heap named cell _ = place.Illegal
 -- if the value fits in the field
 abbrev pub stored_place : {S I : Type 0} → Program → HeapView S I → (named cell : ℕ) → Option Sort → (value object : Slot) → Place
 stored_place p heap named cell sort value object = place_if (field_place p heap named cell object) (slot_fits sort value)
-
--- ---- Object's <init>
-
-abbrev pub initialised : {S I : Type 0} → Program → HeapView S I → (class : ℕ) → Slot → Answer
-initialised p heap class Null = answer.Pass
-initialised p heap class (Ref r) = if is_instance p heap class (Ref r) then answer.Pass else answer.Illegal
-initialised p heap class _ = answer.Illegal

@@ -1,2 +1,3 @@
 pub mod Family
 pub mod Answers
+pub mod Made

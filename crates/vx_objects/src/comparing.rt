@@ -24,7 +24,7 @@ fn is_reference(slot: Slot) -> bool
 }
 
 /// Whether two references are one. References to objects that are there are one exactly where their numbers are equal.
-fn same_slots(a: Slot, b: Slot) -> bool
+pub fn same_slots(a: Slot, b: Slot) -> bool
     ensures { result ≡ same_slots a b }
 {
     match (a, b) {

@@ -4,12 +4,11 @@
 pub mod attempting;
 mod casting;
 mod comparing;
-pub mod constructing;
 mod family;
 mod fields;
 mod instances;
 mod making;
 
 pub use attempting::attempt;
-pub use constructing::object_init;
+pub use comparing::same_slots;
 pub use family::is_of_objects;

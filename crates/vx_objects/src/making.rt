@@ -10,9 +10,11 @@ ghost use Rattle.vx_group_states.specs.Widths.{slots_size};
 ghost use Rattle.vx_heap.specs.Changing.{IsChangedIn, with_object};
 ghost use Rattle.vx_heap.specs.Heap.{HeapView, IsHeap, is_held, value_of};
 ghost use Rattle.vx_java.specs.FirstObjects.{new_object};
+ghost use Rattle.vx_java.specs.Ids.{HasClassNumbers};
 ghost use Rattle.vx_java.specs.Machine.{go};
 ghost use Rattle.vx_java.specs.Objects.{new_of_class};
 ghost use Rattle.vx_link.specs.Parts.{class_at, has, is_interface};
+ghost use Rattle.vx_objects.specs.Made.{given_where_ready};
 ghost use Rattle.vx_ready.specs.Running.{IsRunning};
 ghost use Rattle.vx_space.specs.Sets.{Extends, IsKnown, IsSet};
 ghost use Rattle.vx_value.specs.declared.slot.Slot.TheVariants.{Ref};
@@ -29,7 +31,7 @@ use vx_java::Operation;
 use vx_java::parts::{class_of_method, is_interface};
 use vx_link::{AccessFlags, Program};
 use vx_outcome::Outcomes;
-use vx_ready::{make_ready, stop_others, where_yes};
+use vx_ready::{Readiness, make_ready, stop_others, where_yes};
 use vx_space::{Space, SpaceFault};
 use vx_value::{ClassId, Slot};
 
@@ -111,6 +113,34 @@ fn pushed_part<S: Space>(
     Ok(outcomes)
 }
 
+/// The runs that proceed get an object on their operands, and what comes of the others goes by whether they need its class and whether
+/// that has failed.
+fn given_where_ready<S: Space>(
+    alloc: Global,
+    site: &Site,
+    space: &mut S,
+    class: ClassId,
+    needs: S::Id,
+    readiness: &Readiness<S>,
+    reference: u64,
+    group: Group<S>,
+) -> Result<Outcomes<S>, SpaceFault>
+    requires classes { HasClassNumbers site.now.program.now }
+    requires group { IsGroup (S.sets space.old) group }
+    requires past { HasPast site.now group }
+    requires few { length group.top.stack.conds + 1 < 2 ^ 32 }
+    requires needs { IsKnown (S.sets space.old) needs }
+    requires proceeds { IsKnown (S.sets space.old) readiness.now.proceeds }
+    requires fails { IsKnown (S.sets space.old) readiness.now.fails }
+    ensures extends { Extends (S.sets space.old) (S.sets space.new) }
+    ensures gives { IfOk result (λ r. (heap : HeapView S S.Id) → IsHeap (S.sets space.old) heap → ((c : List Bool) → (S.sets space.old).test readiness.now.proceeds c ≡ true → is_held (S.sets space.old) heap c (Ref reference) ≡ true) → GivesAt site.now.program.now (given_where_ready site.now class.0 (S.sets space.old) (S.sets space.new) needs readiness.now reference) (S.sets space.old) (S.sets space.new) group r.items.items heap) }
+{
+    let (going, mut outcomes) = stop_others(alloc, site, space, group, class, needs, readiness)?;
+    let pushed = pushed_part(alloc, site, space, going, reference)?;
+    outcomes.append(pushed)?;
+    Ok(outcomes)
+}
+
 /// new of a class of which there are objects, in runs whose operands may have room.
 fn new_fitting<S: Space>(
     alloc: Global,
@@ -129,9 +159,9 @@ fn new_fitting<S: Space>(
     let needs = where_fitting(alloc, space, &group, site.code.max_stack)?;
     let readiness = make_ready(alloc, site.program, space, heap, class, needs)?;
     let reference = made_inside(alloc, site.program, space, heap, class, readiness.proceeds)?;
-    let (going, mut outcomes) = stop_others(alloc, site, space, group, class, needs, &readiness)?;
-    let pushed = pushed_part(alloc, site, space, going, reference)?;
-    outcomes.append(pushed)?;
+    let outcomes = given_where_ready(
+        alloc, site, space, class, needs, &readiness, reference, group,
+    )?;
     Ok(outcomes)
 }
 

@@ -7,6 +7,7 @@ use Rattle.vx_class.specs.declared.class_file.ClassFile.{ClassFile}
 use Rattle.vx_families.specs.Bounds.{IsBounded, has_argument_room, has_short_code, is_short}
 use Rattle.vx_heap.specs.Heap.{has_options}
 use Rattle.vx_java.specs.Initialisation.{max_locals}
+use Rattle.vx_java.specs.NativeForms.{has_form}
 use Rattle.vx_link.specs.CoreFiles.{core_count}
 use Rattle.vx_link.specs.Faults.{bad_super, cycle, file_named, is_main, link_fault, no_main, no_option, passes, twice}
 use Rattle.vx_link.specs.Linked.{fields_from, is_main_method, linked_classes, methods_from, methods_named, program_of, program_with, unless_fault}
@@ -18,6 +19,7 @@ use Rattle.vx_link.specs.declared.program.LinkedMethod.{LinkedMethod}
 use Rattle.vx_link.specs.declared.program.Program.{Program}
 use Rattle.vx_program_bounds.proofs.ListLaws.{all_follow, both, first_holds, last_none, second_holds}
 use Rattle.vx_program_bounds.proofs.MainRoom.{HasMain, main_among}
+use Rattle.vx_program_bounds.proofs.NativeForms.{plain_forms}
 use Rattle.vx_program_bounds.proofs.ShortFiles.{is_short_file, short_file}
 use Rattle.vx_program_bounds.proofs.ShortParts.{count_classes, is_short_method, options_below, options_laid, short_classes, short_fields, short_laid, short_methods}
 use Rattle.vx_jump_targets.proofs.Lists.{all_pass}
@@ -68,9 +70,10 @@ IsGood options p = IsBounded p × (has_options (length options) p.fields ≡ tru
 
 good : (classes core : List ClassFile) (numbers : List (List ℕ)) (options : List OptionField) (main : List ℕ)
     → length classes ≤ 1024 → All Holds classes → length core ≡ core_count → list_all is_short_file core ≡ true
+    → ((class : ℕ) → list_all has_form (methods_from class core numbers) ≡ true)
     → passes (λ c. list_any (is_main c) c.methods) (file_named classes main) ≡ true
     → IsGood options (program_of classes core numbers options main)
-good classes core numbers options main few holds count short_core declared =
+good classes core numbers options main few holds count short_core core_forms declared =
     let all : List ClassFile = classes ++ core in
     let names : List (List ℕ) = names_of all in
     let methods : List LinkedMethod = methods_from 0 classes [] ++ methods_from (length classes) core numbers in
@@ -90,6 +93,8 @@ good classes core numbers options main few holds count short_core declared =
         texts = short_classes names all 0 0 short_all;
         codes = all_follow is_short_method (λ m. has_short_code m.code) (λ m h. first_holds _ _ (first_holds _ _ h)) methods methods_short;
         arguments = all_follow is_short_method has_argument_room (λ m h. second_holds _ _ (first_holds _ _ h)) methods methods_short;
+        natives = list_all-append has_form (methods_from 0 classes []) (methods_from (length classes) core numbers)
+            ∙ both (plain_forms 0 classes) (core_forms (length classes));
         signatures = all_follow is_short_method (λ m. is_short (length m.descriptor)) (λ m h. second_holds _ _ h) methods methods_short;
         main = found_room methods (methods_named (linked_classes names all 0 0) main)
             (main_among names core main methods classes 0 0 0 [] (methods_from (length classes) core numbers) refl refl holds declared);
@@ -98,11 +103,12 @@ good classes core numbers options main few holds count short_core declared =
       options_laid (length options) laid 0 (fields_from options 0 all) (options_below options 0 all),
     )
 
--- of any core classes that are short
+-- of any core classes that are short, and whose native methods have the forms of their numbers
 pub bounded : (core : List ClassFile) (numbers : List (List ℕ)) → length core ≡ core_count → list_all is_short_file core ≡ true
+    → ((class : ℕ) → list_all has_form (methods_from class core numbers) ≡ true)
     → (classes : List ClassFile) (options : List OptionField) (main : List ℕ) (p : Program) → length classes ≤ 1024 → All Holds classes
     → unless_fault (link_fault classes core options main) (program_of classes core numbers options main) ≡ Ok p → IsGood options p
-bounded core numbers count short_core classes options main p few holds is =
+bounded core numbers count short_core core_forms classes options main p few holds is =
     let made = no_fault (link_fault classes core options main) (program_of classes core numbers options main) p is in
     let P : Program → Type 0 = IsGood options in
-    subst P made.1 (good classes core numbers options main few holds count short_core (main_declared classes core options main made.0))
+    subst P made.1 (good classes core numbers options main few holds count short_core core_forms (main_declared classes core options main made.0))

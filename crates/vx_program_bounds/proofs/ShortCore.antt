@@ -13,11 +13,11 @@ use Rattle.vx_program_bounds.proofs.ShortFiles.{is_short_file}
 abbrev is_short_row : WrittenClass → Bool
 is_short_row row = is_short_file (class_file row)
 
--- the first rows, and the next ones
-more_rows : (n m : ℕ) (rows : List WrittenClass) → list_all is_short_row (take n rows) ≡ true
-    → list_all is_short_row (take m (drop n rows)) ≡ true → list_all is_short_row (take (n + m) rows) ≡ true
-more_rows n m rows first next =
-    ap (list_all is_short_row) (take-add n m rows) ∙ list_all-append is_short_row (take n rows) (take m (drop n rows)) ∙ both first next
+-- a test of the first rows, and of the next ones
+pub more_rows : (test : WrittenClass → Bool) (n m : ℕ) (rows : List WrittenClass) → list_all test (take n rows) ≡ true
+    → list_all test (take m (drop n rows)) ≡ true → list_all test (take (n + m) rows) ≡ true
+more_rows test n m rows first next =
+    ap (list_all test) (take-add n m rows) ∙ list_all-append test (take n rows) (take m (drop n rows)) ∙ both first next
 
 first_rows : list_all is_short_row (take 9 core_table) ≡ true
 unfolding element_at field_of is_class_name method_of result_at type_at types_at
@@ -50,10 +50,10 @@ all_rows = refl
 pub short_core : list_all is_short_file core_files ≡ true
 short_core =
     list_all-map is_short_file class_file core_table ∙ ap (list_all is_short_row) (sym all_rows)
-    ∙ more_rows 35 11 core_table
-    (more_rows 25 10 core_table
-    (more_rows 18 7 core_table
-    (more_rows 12 6 core_table (more_rows 9 3 core_table first_rows text_rows) value_rows)
+    ∙ more_rows is_short_row 35 11 core_table
+    (more_rows is_short_row 25 10 core_table
+    (more_rows is_short_row 18 7 core_table
+    (more_rows is_short_row 12 6 core_table (more_rows is_short_row 9 3 core_table first_rows text_rows) value_rows)
     general_rows)
     exception_rows)
     error_rows

@@ -1,18 +1,16 @@
 -- The return of the machine: the class of an initialisation is marked first, then the frame is left.
-use Rattle.std.proofs.Common.{◌≡◌, ℕ, ◌<◌, ◌≤◌, ◌^◌, zero, suc, Bool, true, false, List, [], ◌∷◌, ◌&&◌, refl, sym, ◌∙◌, ap, arith, map, length}
+use Rattle.std.proofs.Common.{◌≡◌, ℕ, ◌≤◌, suc, Bool, true, false, List, [], ◌∷◌, ◌&&◌, refl, sym, ◌∙◌, ap, arith, map, length}
 use Rattle.std.proofs.lemmas.Bool.{le-ltb, lt-ltb}
-use Rattle.std.specs.List.{list_all}
 use Rattle.std.specs.Prelude.{Option, Some, None, Ok, Err, if◌then◌else◌, is_some, nat_lt, not, ok_or}
 use Rattle.vx_class.specs.declared.class_file.Code.{Code}
 use Rattle.vx_families.proofs.SlotSorts.{same_sort}
-use Rattle.vx_families.specs.Bounds.{IsBounded, has_short_code, is_short}
+use Rattle.vx_families.specs.Bounds.{IsBounded, has_short_code}
 use Rattle.vx_frames.specs.Unwinding.{is_call}
 use Rattle.vx_families.specs.Sorts.{slot_is_of}
-use Rattle.vx_fields.proofs.Pools.{below}
+use Rattle.vx_fields.proofs.Pools.{below, item_passes}
 use Rattle.vx_fields.specs.Statics.{top_of}
 use Rattle.vx_frames.specs.Entering.{with_frame}
 use Rattle.vx_frames.specs.Waking.{state_awake}
-use Rattle.vx_group_states.proofs.StateLaws.{both_first, both_second}
 use Rattle.vx_group_states.specs.Sites.{here}
 use Rattle.vx_group_states.specs.declared.site.Site.{Site}
 use Rattle.vx_growth.specs.Changing.{with_globals}
@@ -25,7 +23,6 @@ use Rattle.vx_java.specs.declared.operation.Sort.TheVariants.{Int as IntSort, Lo
 use Rattle.vx_link.specs.Parts.{method_at, no_method}
 use Rattle.vx_link.specs.declared.program.LinkedMethod.{LinkedMethod}
 use Rattle.vx_link.specs.declared.program.Program.{Program}
-use Rattle.vx_list.specs.Places.{item_or}
 use Rattle.vx_opcode.specs.Decode.{instruction_at}
 use Rattle.vx_opcode.specs.declared.instruction.DecodeFault.{DecodeFault}
 use Rattle.vx_opcode.specs.declared.instruction.Instruction.{Instruction}
@@ -40,16 +37,6 @@ use Rattle.vx_returns.specs.Handing.{handed, left_by, left_to, received}
 use Rattle.vx_returns.specs.declared.receiving.ReturnSite.{ReturnSite}
 
 -- ---- the method
-
-item_passes : {A : Type 0} (test : A → Bool) (xs : List A) (i : ℕ) (d : A) → list_all test xs ≡ true → test d ≡ true → test (item_or xs i d) ≡ true
-item_passes test [] i d h e = e
-item_passes test (x ∷ xs) zero d h e = both_first (test x) (list_all test xs) h
-item_passes test (x ∷ xs) (suc i) d h e = item_passes test xs i d (both_second (test x) (list_all test xs) h) e
-
-pub short_descriptor : (p : Program) (n : ℕ) → IsBounded p → length (method_at p n).descriptor < 2 ^ 32
-short_descriptor p n b =
-    let short = below (length (method_at p n).descriptor) (item_passes (λ (m : LinkedMethod). is_short (length m.descriptor)) p.methods n no_method b.signatures refl) in
-    omega (arith, short)
 
 pub short_code : (p : Program) (n : ℕ) (code : Code) → IsBounded p → Some code ≡ (method_at p n).code → length code.bytes ≤ 65535
 short_code p n code b e =

@@ -1,10 +1,9 @@
 //! One round, by itself and with the upkeep between rounds.
 
-ghost use Rattle.std.specs.Prelude.{◌≡◌, ◌<◌, Err, OnOk, length, map, true};
+ghost use Rattle.std.specs.Prelude.{◌≡◌, ◌<◌, OnOk, length, map, true};
 ghost use Rattle.vx_space.specs.Sets.{Extends};
 ghost use Rattle.vx_space.specs.Under.{IsNumberUnder};
-ghost use Rattle.vx_standing.specs.Attempted.{IsUnbuiltThere};
-ghost use Rattle.vx_standing.specs.Rounds.{IsRoundAt, IsStuckAt};
+ghost use Rattle.vx_standing.specs.Rounds.{IsRoundAt};
 ghost use Rattle.vx_standing.specs.State.{IsState, IsTreeKnown, state_ids};
 ghost use Rattle.vx_rounds.specs.Making.{MayMake};
 ghost use Rattle.vx_turns.specs.Turns.{IsMade};
@@ -12,12 +11,11 @@ ghost use Rattle.vx_turns.specs.Turns.{IsMade};
 use std::alloc::Global;
 use vx_attempt::attempt;
 use vx_cond::Cond;
-use vx_families::AttemptFault;
 use vx_group::Group;
 use vx_heap::Heap;
 use vx_link::Program;
 use vx_placing::{Round, Setting, place_all};
-use vx_space::Space;
+use vx_space::{Space, SpaceFault};
 use vx_standing::State;
 use vx_turns::{Upkeep, begin_round, compact, end_round, spend, sweep, tend};
 
@@ -31,11 +29,10 @@ fn make<S: Space>(
     round: &mut Round<S>,
     group: Group<S>,
     attempts: &Cond<u64, S>,
-) -> Result<(), AttemptFault>
+) -> Result<(), SpaceFault>
     requires { MayMake program.now (S.sets space.old) heap.old limit round.old group attempts.now }
     ensures extends { Extends (S.sets space.old) (S.sets space.new) }
     ensures made { OnOk result (IsMade program.now (S.sets space.old) (S.sets space.new) heap.old heap.new limit group round.old round.new) }
-    ensures not_yet { result ≡ Err AttemptFault.NotYet → IsUnbuiltThere program.now (S.sets space.old) heap.old round.old.callers group }
 {
     let outcomes = attempt(alloc, program, space, heap, &mut round.callers, group)?;
     let setting = Setting {
@@ -48,20 +45,18 @@ fn make<S: Space>(
 }
 
 /// Makes a round with the group of a place: one attempt of each of its runs. The space is only extended, and callers that no group
-/// has any more stay, so it costs what its group costs. `NotYet` comes only where a run of the group stands at what isn't built. After
-/// a refusal the state is given up.
+/// has any more stay, so it costs what its group costs. The only refusal is want of memory, after which the state is given up.
 pub fn make_round<S: Space>(
     alloc: Global,
     program: &Program,
     space: &mut S,
     state: &mut State<S>,
     which: usize,
-) -> Result<(), AttemptFault>
+) -> Result<(), SpaceFault>
     requires state { IsState program.now (S.sets space.old) state.old.heap.allowed state.old }
     requires which { which < length state.old.groups }
     ensures extends { Extends (S.sets space.old) (S.sets space.new) }
     ensures ok { OnOk result (IsRoundAt program.now (S.sets space.old) (S.sets space.new) state.old state.new which) }
-    ensures not_yet { result ≡ Err AttemptFault.NotYet → IsStuckAt program.now (S.sets space.old) state.old which }
 {
     let (begun, group) = begin_round(alloc, state, which);
     let mut round = begun;
@@ -89,13 +84,12 @@ pub fn step_group<S: Space>(
     space: &mut S,
     state: &mut State<S>,
     which: usize,
-) -> Result<(), AttemptFault>
+) -> Result<(), SpaceFault>
     requires state { IsState program.now (S.sets space.old) state.old.heap.allowed state.old }
     requires tree { IsTreeKnown (S.sets space.old) state.old }
     requires which { which < length state.old.groups }
     ensures ok { OnOk result (IsRoundAt program.now (S.sets space.old) (S.sets space.new) state.old state.new which) }
     ensures tree { OnOk result (IsTreeKnown (S.sets space.new) state.new) }
-    ensures not_yet { result ≡ Err AttemptFault.NotYet → IsStuckAt program.now (S.sets space.old) state.old which }
     ensures based { OnOk result ((S.sets space.new).counts ≡ true → IsNumberUnder (map (S.sets space.old).test (state_ids state.old)) (S.sets space.new).base) }
 {
     compact(alloc, space, state)?;
@@ -113,11 +107,10 @@ pub fn next_round<S: Space>(
     state: &mut State<S>,
     upkeep: &mut Upkeep,
     which: usize,
-) -> Result<(), AttemptFault>
+) -> Result<(), SpaceFault>
     requires state { IsState program.now (S.sets space.old) state.old.heap.allowed state.old }
     requires which { which < length state.old.groups }
-    ensures ok { OnOk result (IsRoundAt program.now (S.sets space.old) (S.sets space.new) state.old state.new which) }
-    ensures not_yet { result ≡ Err AttemptFault.NotYet → IsStuckAt program.now (S.sets space.old) state.old which }
+    ensures { OnOk result (IsRoundAt program.now (S.sets space.old) (S.sets space.new) state.old state.new which) }
 {
     tend(alloc, space, state, upkeep)?;
     make_round(alloc, program, space, state, which)?;

@@ -6,7 +6,6 @@ use Rattle.vx_group.specs.declared.callers.Caller.{Caller}
 use Rattle.vx_group.specs.Group.{GroupView, path_of}
 use Rattle.vx_heap.specs.Heap.{HeapView, IsHeap, IsHeapFor}
 use Rattle.vx_families.specs.Bounds.{IsBounded}
-use Rattle.vx_families.specs.Built.{is_built}
 use Rattle.vx_java.specs.Machine.{Ends, Goes, Next, State}
 use Rattle.vx_java.specs.Machine.{Outcome as PlainOutcome, Ended, Go, Raise, Throw}
 use Rattle.vx_java.specs.Row.{row}
@@ -16,7 +15,7 @@ use Rattle.vx_link.specs.declared.program.Program.{Program}
 use Rattle.vx_outcome.specs.Outcome.{condition_of}
 use Rattle.vx_outcome.specs.declared.outcome.Outcome.{Outcome}
 use Rattle.vx_outcome.specs.declared.outcome.Outcome.TheVariants as shared
-use Rattle.vx_group_states.specs.Stands.{Attempts, StandsIn, state_at}
+use Rattle.vx_group_states.specs.Stands.{Attempts, StandsIn}
 
 -- ---- plain outcomes
 
@@ -64,12 +63,6 @@ pub record IsAttempted {S I : Type 0} (p : Program) (old new : Sets I) (before a
   pub is_for : IsHeapFor p after
   pub attempts : Attempts p (attempted_row p) old new before after tree later group outcomes
   pub placed : list_all is_placed outcomes ≡ true
-
--- a run of the group stands at an attempt that isn't built
-pub record IsUnbuiltThere {S I : Type 0} (p : Program) (sets : Sets I) (heap : HeapView S I) (tree : List (Option (Caller S I))) (group : GroupView S I) : Type 0 where
-  pub config : List Bool
-  pub holds : sets.test (path_of group) config ≡ true
-  pub unbuilt : is_built p (state_at sets heap tree group config) ≡ false
 
 -- the conditions of the outcomes are known
 abbrev pub AreConditionsKnown : {S I : Type 0} → Sets I → List (Outcome S I) → Type 0

@@ -1,16 +1,15 @@
 -- A round: the runs of one group make an attempt, and all others stay (own).
-use Rattle.std.specs.Prelude.{◌≡◌, ℕ, ◌++◌, suc, Bool, true, false, List, [], ◌∷◌, drop, length, Option, Some, None, slice_get}
+use Rattle.std.specs.Prelude.{◌≡◌, ℕ, ◌++◌, suc, Bool, true, List, [], ◌∷◌, drop, length, Option, Some, None, slice_get}
 use Rattle.vx_space.specs.Sets.{Sets, AreKept}
 use Rattle.vx_cond.specs.Leaves.{AreLeaves, value_at}
 use Rattle.vx_group.specs.Group.{GroupView, path_of}
-use Rattle.vx_families.specs.Built.{is_built}
 use Rattle.vx_findings.specs.declared.piece.Piece.{Piece}
 use Rattle.vx_findings.specs.declared.shared.Shared.{Shared}
 use Rattle.vx_findings.specs.Orders.{piece_cmp}
 use Rattle.vx_findings.specs.Shared.{leaves_of}
 use Rattle.vx_java.specs.Lockstep.{output_of, piece_of}
 use Rattle.vx_java.specs.Lockstep as lockstep
-use Rattle.vx_java.specs.Step.{Config, Live, Progress, start, step, steps}
+use Rattle.vx_java.specs.Step.{start, step}
 use Rattle.vx_link.specs.declared.program.Program.{Program}
 use Rattle.vx_value.specs.declared.end.Stream.{Stream}
 use Rattle.vx_standing.specs.State.{IsState, IsTreeKnown, Standing, StateView, Runs, shared_ids, standing_at, standing_of}
@@ -44,21 +43,9 @@ pub record IsRound {S I : Type 0} (p : Program) (old new : Sets I) (allowed : I)
   pub are_texts : AreLeaves piece_cmp new (leaves_of texts)
   pub wrote : (c : List Bool) → pieces_in (value_at new (leaves_of texts) c) ≡ piece_of (written p (old.test (path_of group) c) (standing_at old before c))
 
--- a run of the group stands at an attempt that isn't built
-pub record IsStuck {S I : Type 0} (p : Program) (sets : Sets I) (st : StateView S I) (group : GroupView S I) : Type 0 where
-  pub config : Config
-  pub holds : sets.test (path_of group) config ≡ true
-  pub progress : Progress
-  pub stands : standing_at sets st config ≡ Some (Runs progress)
-  pub unbuilt : is_built p progress.state ≡ false
-
 -- a round with the group of a place
 abbrev pub IsRoundAt : {S I : Type 0} → Program → (old new : Sets I) → (before after : StateView S I) → (place : ℕ) → Type 0
 IsRoundAt {S = S} {I = I} p old new before after place = (group : GroupView S I) × (slice_get before.groups place ≡ Some group) × IsRound p old new before.heap.allowed before after group
-
--- a run of the group of a place stands at an attempt that isn't built
-abbrev pub IsStuckAt : {S I : Type 0} → Program → Sets I → StateView S I → (place : ℕ) → Type 0
-IsStuckAt {S = S} {I = I} p sets st place = (group : GroupView S I) × (slice_get st.groups place ≡ Some group) × IsStuck p sets st group
 
 -- the state with which the runs of these configurations begin
 pub record IsStart {S I : Type 0} (p : Program) (sets : Sets I) (allowed : I) (limit : ℕ) (st : StateView S I) : Type 0 where
@@ -68,13 +55,3 @@ pub record IsStart {S I : Type 0} (p : Program) (sets : Sets I) (allowed : I) (l
   pub rounds : st.rounds ≡ 0
   pub found : st.found ≡ []
   pub standing : (c : List Bool) → sets.test allowed c ≡ true → standing_at sets st c ≡ Some (standing_of limit (start p c))
-
--- a run of one of these configurations comes, with attempts left, to an attempt that isn't built
-pub record MeetsUnbuilt (p : Program) (is_allowed : Config → Bool) (limit : ℕ) : Type 0 where
-  pub config : Config
-  pub allowed : is_allowed config ≡ true
-  pub made : ℕ
-  pub progress : Progress
-  pub comes : steps p made (start p config) ≡ Live progress
-  pub left : lockstep.live_progress limit (Live progress) ≡ Some progress
-  pub unbuilt : is_built p progress.state ≡ false

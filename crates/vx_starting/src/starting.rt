@@ -22,9 +22,10 @@ use vx_cond::Cond;
 use vx_families::CLASS_WORD;
 use vx_findings::Shared;
 use vx_frame::Frame;
+use vx_frames::MOST_FRAMES;
 use vx_group::{Callers, Group};
 use vx_heap::Heap;
-use vx_init::{MOST_FRAMES, push_chain};
+use vx_init::push_chain;
 use vx_initial_heap::first_inits;
 use vx_java::parts::{class_of_method, name_of_class};
 use vx_java::{blocked, init_chain, place, quiet_chain};
@@ -88,7 +89,7 @@ fn first_end(
         let end = blocked_end(alloc, program, interface)?;
         return Ok(Some(end));
     }
-    if !is_quiet && chain.len() >= MOST_FRAMES {
+    if !is_quiet && chain.len() >= MOST_FRAMES as usize {
         let end = overflow_end(alloc)?;
         return Ok(Some(end));
     }

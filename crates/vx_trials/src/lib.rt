@@ -84,10 +84,10 @@ mod tests {
             "z/1.class",
             "class 0021 P java/lang/Object\nmethod 0008 <clinit> ()V 0 0\nreturn\nend\n",
         ),
-        // With the option on it makes an object of that class, and then exits, which isn't built.
+        // With the option on it makes an object of that class, and then exits.
         (
             "z/2.class",
-            "class 0021 Main java/lang/Object\nfield 0009 A Z\nmethod 0009 main ([Ljava/lang/String;)V 1 1\ngetstatic Main A Z\nifeq Off\nnew P\npop\niconst_0\ninvokestatic java/lang/System exit (I)V\nOff:\nreturn\nend\n",
+            "class 0021 Main java/lang/Object\nfield 0009 A Z\nmethod 0009 main ([Ljava/lang/String;)V 1 1\ngetstatic Main A Z\nifeq Off\nnew P\npop\niconst_3\ninvokestatic java/lang/System exit (I)V\nOff:\nreturn\nend\n",
         ),
     ];
 
@@ -293,7 +293,12 @@ mod tests {
             "",
             "bad model line 1 reason 6\n",
         ),
-        ("run z m Main 100 1", 20, "", "not yet 2.class\n"),
+        (
+            "run z m Main 100 1",
+            0,
+            "varexj report 1\noptions 1\noption A\nlimit 100\nrounds 9\nnode 2 0 1 0\nnode 3 0 0 1\nend 2 return\nend 3 exit 3\ndone\n",
+            "",
+        ),
         (
             "run z off Main 100 1",
             0,

@@ -12,7 +12,7 @@ use Rattle.vx_group.specs.Sweep.{IsSwept, StandIn}
 use Rattle.vx_findings.specs.Shared.{leaves_of}
 use Rattle.vx_java.specs.Lockstep.{piece_of}
 use Rattle.vx_link.specs.declared.program.Program.{Program}
-use Rattle.vx_standing.specs.Rounds.{IsRound, IsRoundAt, IsStuck, IsStuckAt, after_round, written}
+use Rattle.vx_standing.specs.Rounds.{IsRound, IsRoundAt, after_round, written}
 use Rattle.vx_standing.specs.State.{IsState, IsTreeKnown, StateView, output_at, shared_ids, standing_at, state_ids}
 use Rattle.vx_standing.proofs.Keeping.{IsState-kept, groups_known, standing_at-kept, state_kept}
 use Rattle.vx_standing.proofs.Running.{AreRunning-waiting, AreWaiting-running, standing_at-by, standing_by}
@@ -152,15 +152,6 @@ IsRound-tended {S = S} {I = I} p s0 s1 s2 allowed st tended after which group h 
       wrote = λ c. r.wrote c ∙ (λ i. piece_of (written p (path c i) (t.standing c i)));
     }
 
-IsStuck-tended : {S I : Type 0} (p : Program) (s0 s1 : Sets I) (st tended : StateView S I) (which : ℕ) (group : GroupView S I) → IsTended s0 s1 st tended → slice_get st.groups which ≡ Some group → IsStuck p s1 tended group → IsStuck p s0 st group
-IsStuck-tended p s0 s1 st tended which group t e k = record {
-  config = k.config;
-  holds = sym (path_kept s0 s1 st.groups which group t.groups e k.config) ∙ k.holds;
-  progress = k.progress;
-  stands = sym (t.standing k.config) ∙ k.stands;
-  unbuilt = k.unbuilt;
-}
-
 -- after a round the callers may be dropped
 pub IsRound-swept : {S I : Type 0} (p : Program) (s0 s1 : Sets I) (allowed : I) (st after swept : StateView S I) (group : GroupView S I) → IsRound p s0 s1 allowed st after group → IsTended s1 s1 after swept → IsRound p s0 s1 allowed st swept group
 IsRound-swept {S = S} {I = I} p s0 s1 allowed st after swept group r t = record {
@@ -190,8 +181,3 @@ IsRoundAt-tended {S = S} {I = I} p s0 s1 s2 st tended after which h t r =
     let chosen = ap (λ (x : StateView S I). slice_get x.groups which) (sym t.rest) ∙ r.1 in
     let round = subst (λ a. IsRound p s1 s2 a tended after r.0) (ap (λ (x : StateView S I). x.heap.allowed) t.rest) r.2 in
     (r.0, chosen, IsRound-tended p s0 s1 s2 st.heap.allowed st tended after which r.0 h t chosen round)
-
-pub IsStuckAt-tended : {S I : Type 0} (p : Program) (s0 s1 : Sets I) (st tended : StateView S I) (which : ℕ) → IsTended s0 s1 st tended → IsStuckAt p s1 tended which → IsStuckAt p s0 st which
-IsStuckAt-tended {S = S} {I = I} p s0 s1 st tended which t k =
-    let chosen = ap (λ (x : StateView S I). slice_get x.groups which) (sym t.rest) ∙ k.1 in
-    (k.0, chosen, IsStuck-tended p s0 s1 st tended which k.0 t chosen k.2)

@@ -1,28 +1,18 @@
--- A whole round: from a state to the state after it; or a run that stands at what isn't built.
-use Rattle.std.proofs.Common.{◌≡◌, ℕ, ◌+◌, List, [], ◌++◌, refl, sym, ◌∙◌, ap, subst, suc, arith}
-use Rattle.std.specs.Prelude.{Option, option_map}
+-- A whole round: from a state to the state after it.
+use Rattle.std.proofs.Common.{◌≡◌, ℕ, ◌+◌, [], refl, sym, ◌∙◌, ap, subst, suc, arith}
 use Rattle.vx_space.specs.Sets.{Sets, Extends, IsLawful}
 use Rattle.vx_space.proofs.Spaces.{Extends-trans}
 use Rattle.vx_cond.specs.Cond.{Conditional}
-use Rattle.vx_cond.specs.Leaves.{value_at}
-use Rattle.vx_group.specs.Group.{GroupView, attempts_at}
-use Rattle.vx_group.proofs.GroupLaws.{IsGroup-path_known}
+use Rattle.vx_group.specs.Group.{GroupView}
 use Rattle.vx_heap.specs.Heap.{HeapView}
 use Rattle.vx_heap.proofs.Known.{AreKept-extends}
-use Rattle.vx_families.specs.Built.{is_built}
-use Rattle.vx_findings.specs.Shared.{leaves_of}
 use Rattle.vx_link.specs.declared.program.Program.{Program}
-use Rattle.vx_group_states.specs.Stands.{state_at}
 use Rattle.vx_placing.specs.declared.round.Round.{Round}
-use Rattle.vx_standing.specs.Attempted.{IsUnbuiltThere}
-use Rattle.vx_standing.specs.Rounds.{IsRound, IsStuck}
-use Rattle.vx_standing.specs.State.{IsState, StateView, output_at, shared_ids}
+use Rattle.vx_standing.specs.Rounds.{IsRound}
+use Rattle.vx_standing.specs.State.{IsState, StateView, shared_ids}
 use Rattle.vx_turns.specs.Turns.{IsBegun, IsMade, IsSpent, put_back}
 use Rattle.vx_turns.proofs.Closing.{IsState-closed, closed_standing, closed_state, closed_wrote, same_allowed}
-use Rattle.vx_turns.proofs.Opening.{chosen_is_group, chosen_running, chosen_taken, spent_path, spent_state}
-use Rattle.vx_standing.proofs.Running.{standing_at-by, standing_by}
 use Rattle.vx_turns.proofs.Turning.{IsTurn}
-use Rattle.vx_standing.proofs.Waiting.{run_by, waiting_at-standing}
 
 -- ---- what was done
 
@@ -50,23 +40,6 @@ IsRound-closed {S = S} {I = I} p {s1 = s1} {s3 = s3} l allowed st begun_st made_
 
     final_is : final ≡ closed_state st heap round
     final_is = c ∙ ap {B = StateView S I} (λ (x : StateView S I). put_back x round) made_is
-
--- ---- what isn't built
-
-pub IsStuck-met : {S I : Type 0} (p : Program) (s1 s2 : Sets I) → Extends s1 s2 → (allowed : I) (st begun_st : StateView S I) (which : ℕ) (was : Round S I) (group spent_group : GroupView S I) (attempts : Conditional ℕ S I) → IsState p s1 allowed st → IsBegun st begun_st which was group → IsSpent s1 s2 group spent_group attempts → IsUnbuiltThere p s2 st.heap st.tree spent_group → IsStuck p s1 st group
-IsStuck-met p s1 s2 e allowed st begun_st which was group spent_group attempts h b q u =
-    let c = u.config in
-    let known = IsGroup-path_known s1 group (chosen_is_group p s1 allowed st begun_st which was group h b) in
-    let running = chosen_running p s1 allowed st begun_st which was group h b in
-    let path = sym (spent_path e group spent_group attempts known q c) ∙ u.holds in
-    let waits = waiting_at-standing s1 st.heap st.tree st.groups c ∙ ap (λ o. option_map (run_by s1 st.heap c) o) ((chosen_taken p s1 allowed st begun_st which was group h b).inside c path) in
-    record {
-      config = c;
-      holds = path;
-      progress = record { state = state_at s1 st.heap st.tree group c; output = output_at s1 st.found c; attempts = attempts_at s1 group c };
-      stands = standing_at-by s1 st c ∙ ap (λ w. standing_by w (output_at s1 st.found c) (value_at s1 (leaves_of st.ends) c) (value_at s1 (leaves_of st.spent) c)) waits;
-      unbuilt = ap (λ s. is_built p s) (sym (spent_state e st.heap h.is_heap st.tree group spent_group attempts running.stands.is_group q c)) ∙ u.unbuilt;
-    }
 
 -- ---- the parts as the code has them
 

@@ -1,1 +1,4 @@
+pub mod Listed
+pub mod Nodes
 pub mod Numbering
+pub mod Spans

@@ -1,8 +1,11 @@
 pub mod Arithmetic
+pub mod Buffers
 pub mod Ends
 pub mod Exact
 pub mod Key
 pub mod KeyLaws
+pub mod Listed
 pub mod Slot
 pub mod Texts
+pub mod Trie
 pub mod Words

@@ -1,5 +1,5 @@
 -- Texts in order, each once: the number of a text is its place among them.
-use Rattle.std.specs.Prelude.{◌≡◌, ℕ, ◌<◌, nat_lt, List, [], ◌∷◌, ◌++◌, length, bytes_eq, if◌then◌else◌}
+use Rattle.std.specs.Prelude.{◌≡◌, ℕ, ◌<◌, ◌^◌, nat_lt, List, [], ◌∷◌, ◌++◌, length, bytes_eq, if◌then◌else◌}
 use Rattle.std.specs.List.{position_or_len}
 use Rattle.vx_list.specs.Places.{item_or}
 
@@ -18,6 +18,10 @@ with_text texts units = if nat_lt (number_of texts units) (length texts) then te
 -- different numbers are different texts
 abbrev pub AreDistinct : List (List ℕ) → Type 0
 AreDistinct texts = (a b : ℕ) → a < length texts → b < length texts → text_at texts a ≡ text_at texts b → a ≡ b
+
+-- an int counts the units of each text
+abbrev pub AreShort : List (List ℕ) → Type 0
+AreShort texts = (number : ℕ) → length (text_at texts number) < 2 ^ 31
 
 -- a number has a text
 pub record IsNumber (texts : List (List ℕ)) (number : ℕ) (units : List ℕ) : Type 0 where

@@ -2,6 +2,7 @@
 //! arithmetic computes of plain numbers.
 #![tactic(auto)]
 
+pub mod buffers;
 pub mod end;
 pub mod exact;
 pub mod ids;
@@ -10,6 +11,7 @@ pub mod name;
 pub mod operation;
 pub mod slot;
 pub mod texts;
+pub mod trie;
 
 pub use end::{End, Stream};
 pub use exact::Exact;

@@ -1,25 +1,58 @@
 //! The texts of strings, each under one number.
 
-ghost use Rattle.std.specs.Prelude.{◌≡◌, ◌<◌, ◌^◌, [], ◌∷◌, ◌++◌, length, bytes_eq, position, IfOk, IfSome, OnOk, OnErr};
+ghost use Rattle.std.specs.Prelude.{◌≡◌, ◌<◌, ◌^◌, [], ◌∷◌, ◌++◌, None, Some, length, slice_get, IfOk, OnOk, OnErr, nat_eq};
 ghost use Rattle.std.proofs.Props.{props};
-ghost use Rattle.vx_value.specs.Texts.{AreDistinct, Extends, IsNumber, number_of, text_at, with_text};
+ghost use Rattle.indexmap.specs.IndexMap.{get};
+ghost use Rattle.vx_value.specs.Texts.{AreDistinct, AreShort, Extends, IsNumber, number_of, text_at, with_text};
 
-use indexmap::IndexSet;
+use crate::buffers::{Buffers, Span};
+use crate::trie::Trie;
+use indexmap::IndexMap;
 use std::alloc::{AllocError, Global};
 use std::marker::Model;
 
-/// Texts in order, found by their hashes. Contracts see the list of them, each as its UTF-16 code units.
+/// Texts in order, found by the nodes of a trie at which they end. Contracts see the list of them, each as its UTF-16 code units.
 #[derive(Drop)]
 pub struct Texts {
-    listed: IndexSet<Vec<u16>>,
+    trie: Trie,
+    buffers: Buffers,
+    /// The node at which each text ends, and the span that holds it.
+    listed: IndexMap<u64, Span>,
 }
 
 impl Model for Texts {
-    ghost use Rattle.std.specs.Prelude.{ℕ, List, map};
+    ghost use Rattle.std.specs.Prelude.{ℕ, List};
+    ghost use Rattle.vx_value.specs.Listed.{AreListed, listed_texts};
+    ghost use Rattle.vx_value.specs.Trie.{paths};
 
     ghost Value = { List (List ℕ) };
 
-    ghost view = { λ texts. map (λ text. text.items) texts.listed.keys };
+    ghost view = { λ texts. listed_texts (paths texts.trie.steps.keys) texts.listed.entries };
+
+    ghost invariant = { λ texts. AreListed (paths texts.trie.steps.keys) texts.buffers texts.listed.entries };
+}
+
+/// The entry of a known place.
+fn entry_at(listed: &IndexMap<u64, Span>, place: usize) -> (u64, Span)
+    requires { place < length listed.now.entries }
+    ensures { slice_get listed.now.entries place ≡ Some result }
+{
+    match listed.get_index(place) {
+        Some((end, span)) => (*end, *span),
+        None => unreachable!(),
+    }
+}
+
+/// Puts an entry behind the others, and tells its place.
+fn list(listed: &mut IndexMap<u64, Span>, end: u64, span: Span) -> Result<u64, AllocError>
+    requires { get nat_eq listed.old end ≡ None }
+    ensures number { IfOk result (λ number. number ≡ length listed.old.entries) }
+    ensures entries { OnOk result (listed.new.entries ≡ listed.old.entries ++ (end, span) ∷ []) }
+    ensures err { OnErr result (listed.new.entries ≡ listed.old.entries) }
+{
+    let place = listed.len();
+    listed.insert(end, span)?;
+    Ok(place as u64)
 }
 
 impl Texts {
@@ -27,7 +60,9 @@ impl Texts {
         ensures { result ≡ [] }
     {
         Texts {
-            listed: IndexSet::new(alloc),
+            trie: Trie::new(alloc),
+            buffers: Buffers::new(alloc),
+            listed: IndexMap::new(alloc),
         }
     }
 
@@ -38,36 +73,53 @@ impl Texts {
         self.listed.len()
     }
 
-    fn place_of(&self, units: &[u16]) -> Option<usize>
-        ensures place { result ≡ position (bytes_eq units.now) self.now }
-        ensures within { IfSome result (λ place. place < length self.now) }
-    {
-        self.listed.get_index_of(units)
-    }
-
-    fn push(&mut self, units: &[u16]) -> Result<(), AllocError>
-        requires { number_of self.old units.now ≡ length self.old }
-        ensures ok { OnOk result (self.new ≡ self.old ++ units.now ∷ []) }
-        ensures err { OnErr result (self.new ≡ self.old) }
-    {
-        let text = Vec::from_slice(*self.listed.allocator(), units)?;
-        self.listed.insert(text)?;
-        Ok(())
-    }
-
     fn text(&self, place: usize) -> &[u16]
         requires { place < length self.now }
         ensures { result.now ≡ text_at self.now place }
     {
-        self.listed.as_slice()[place].as_slice()
+        let (_, span) = entry_at(&self.listed, place);
+        self.buffers.text(span)
+    }
+
+    fn put(&mut self, units: &[u16]) -> Result<u64, AllocError>
+        ensures number { IfOk result (λ number. number ≡ number_of self.old units.now) }
+        ensures texts { OnOk result (self.new ≡ with_text self.old units.now) }
+        ensures err { OnErr result (self.new ≡ self.old) }
+    {
+        let end = self.trie.walk(0, units)?;
+        if let Some(place) = self.listed.get_index_of(&end) {
+            return Ok(place as u64);
+        }
+        let span = self.buffers.put(units)?;
+        list(&mut self.listed, end, span)
+    }
+
+    fn append(&mut self, place: usize, units: &[u16]) -> Result<u64, AllocError>
+        requires { place < length self.old }
+        ensures number { IfOk result (λ number. number ≡ number_of self.old (text_at self.old place ++ units.now)) }
+        ensures texts { OnOk result (self.new ≡ with_text self.old (text_at self.old place ++ units.now)) }
+        ensures err { OnErr result (self.new ≡ self.old) }
+    {
+        let (start, beginning) = entry_at(&self.listed, place);
+        let end = self.trie.walk(start, units)?;
+        if let Some(place) = self.listed.get_index_of(&end) {
+            return Ok(place as u64);
+        }
+        let span = self.buffers.append(beginning, units)?;
+        list(&mut self.listed, end, span)
     }
 }
 
-/// A table of texts, each there once: the number of a text is its place. So numbers are equal exactly where their texts are.
+/// The most UTF-16 units of a text: so an int counts them.
+const MOST_UNITS: usize = 2_147_483_647;
+
+/// A table of texts, each there once: the number of a text is its place. So numbers are equal exactly where their texts are. No text has
+/// more units than an int can count.
 #[derive(Drop)]
 pub struct TextTable {
     pub texts: Texts,
     pub ghost distinct: { AreDistinct texts } by { Prim.hlevel props },
+    pub ghost short: { AreShort texts } by { Prim.hlevel props },
 }
 
 impl TextTable {
@@ -89,7 +141,7 @@ impl TextTable {
     }
 
     /// The number of a text, which is put behind the others unless it is there already. Earlier numbers keep their texts. A
-    /// known text takes no memory; after an error the texts are as they were.
+    /// known text takes no memory; for a text of 2^31 units or more there is none. After an error the texts are as they were.
     pub fn put(&mut self, units: &[u16]) -> Result<u64, AllocError>
         ensures number { IfOk result (λ number. number ≡ number_of self.old.texts units.now) }
         ensures texts { OnOk result (self.new.texts ≡ with_text self.old.texts units.now) }
@@ -97,14 +149,25 @@ impl TextTable {
         ensures extends { Extends self.old.texts self.new.texts }
         ensures err { OnErr result (self.new.texts ≡ self.old.texts) }
     {
-        match self.texts.place_of(units) {
-            Some(place) => Ok(place as u64),
-            None => {
-                let place = self.texts.len();
-                self.texts.push(units)?;
-                Ok(place as u64)
-            }
+        if units.len() > MOST_UNITS {
+            return Err(AllocError);
         }
+        self.texts.put(units)
+    }
+
+    /// The number of the text that a known number has with units behind it, as by `put` of the whole text.
+    pub fn append(&mut self, number: u64, units: &[u16]) -> Result<u64, AllocError>
+        requires { number < length self.old.texts }
+        ensures number { IfOk result (λ appended. appended ≡ number_of self.old.texts (text_at self.old.texts number ++ units.now)) }
+        ensures texts { OnOk result (self.new.texts ≡ with_text self.old.texts (text_at self.old.texts number ++ units.now)) }
+        ensures text { IfOk result (λ appended. IsNumber self.new.texts appended (text_at self.old.texts number ++ units.now)) }
+        ensures extends { Extends self.old.texts self.new.texts }
+        ensures err { OnErr result (self.new.texts ≡ self.old.texts) }
+    {
+        if units.len() > MOST_UNITS - self.text(number).len() {
+            return Err(AllocError);
+        }
+        self.texts.append(number as usize, units)
     }
 
     /// The text of a known number. Takes no memory.

@@ -1,13 +1,13 @@
 use Rattle.std.proofs.Common.{◌+◌, ◌<◌, ◌∙◌, arith, sym}
 use Rattle.vx_cells.specs.Places.{place_cmp}
 use Rattle.vx_cells.specs.declared.place.Place.TheVariants.{Illegal}
-use Rattle.vx_families.proofs.Tops.{lifting2_cond}
+use Rattle.vx_families.proofs.Tops.{lifting2_cond, made_of_two}
 use Rattle.vx_group_states.specs.Answering.{operands_at}
 use Rattle.vx_list.specs.Places.{item_or}
 use Rattle.vx_value.specs.declared.slot.Slot.TheVariants.{Top}
 use Rattle.vx_arrays.specs.Elements.{element_place}
 use Rattle.vx_arrays.proofs.Operands.{operand_is_cond, operand_scope, operand_value, places_held, operand_held}
-use Rattle.vx_arrays.proofs.Placed.{element_held, made_of_two}
+use Rattle.vx_arrays.proofs.Placed.{element_held}
 use Rattle.vx_arrays.proofs.elements.places_under.Goals as goal
 
 pub zip-requires-clause-first : goal.zip-requires-clause-first

@@ -1,11 +1,9 @@
 use Rattle.std.proofs.Common.{ap, arith, length}
 use Rattle.std.specs.Vec.Iter.{into_iter_items}
-use Rattle.std.proofs.lemmas.Result.{err_from_is_err_and}
 use Rattle.vx_space.proofs.Spaces.{Extends-trans}
 use Rattle.vx_java.specs.Step.{outcome_carried_out}
-use Rattle.vx_attempt.specs.Carrying.{is_unbuilt}
 use Rattle.vx_attempt.proofs.Calls.{AreAtCalls-later, AreThere-grown, all_known}
-use Rattle.vx_attempt.proofs.Carrying.{IsCarrying-end, IsCarrying-start, IsCarrying-step, SomeComesTo-next, nothing_left}
+use Rattle.vx_attempt.proofs.Carrying.{IsCarrying-end, IsCarrying-start, IsCarrying-step, nothing_left}
 use Rattle.vx_attempt.proofs.natives.carried_out.Goals as goal
 
 pub loop-outcome-init : goal.loop-outcome-init
@@ -25,13 +23,6 @@ one_carried_out-requires g c =
 
 pub returns-in_err-some-clause-extends : goal.returns-in_err-some-clause-extends
 returns-in_err-some-clause-extends g c = Extends-trans c.loop-outcome.invariant.1.0.extends c.in_err-some.ensures.extends
-
-pub returns-in_err-some-clause-not_yet : goal.returns-in_err-some-clause-not_yet
-returns-in_err-some-clause-not_yet g c = λ e.
-    let p = c.args.site.now.program.now in
-    let k = rw c.in-Some.ensures.steps.0 at c.loop-outcome.invariant.1.0 in
-    let q = err_from_is_err_and c.from_residual.result c.from_residual.ensures.1 in
-    SomeComesTo-next p (outcome_carried_out p) c.args.heap.now c.loop-outcome.heap c.args.callers.now c.loop-outcome.callers c.args.outcomes.items.items c.in-Some.outcome (into_iter_items c.next.new.self) c.loop-outcome.made.items.items k (is_unbuilt p) (c.in_err-some.ensures.not_yet (cc (e, q.1, q.2)))
 
 pub loop-outcome-preserved : goal.loop-outcome-preserved
 loop-outcome-preserved g c =

@@ -1,4 +1,5 @@
 use Rattle.std.proofs.Common.{refl}
+use Rattle.std.proofs.lemmas.Result.{IfOk-weaker}
 use Rattle.vx_space.proofs.Spaces.{Extends-refl}
 use Rattle.vx_java.specs.Initialisation.{begin}
 use Rattle.vx_java.specs.Step.{outcome_carried_out}
@@ -14,7 +15,6 @@ returns-in_ok-same-in_default g c =
     record {
       extends = Extends-refl sets;
       carried = rw c.in_ok-same-in_default.ensures (AreCarriedOut-plain p (outcome_carried_out p) sets c.args.heap.now c.args.callers.now c.args.outcome c.requires.may.is_heap c.requires.may.is_for (IsPlain-other p c.args.outcome c.in_default.not-Begin c.in_default.not-Native));
-      not_yet = λ e. cc e;
     }
 
 pub returns-in-Native-clause-carried : goal.returns-in-Native-clause-carried
@@ -25,7 +25,7 @@ begin-requires g c =
     let may = rw c.in-Begin.is at c.requires.may in
     record { classes = may.bounded.classes; is_heap = may.is_heap; is_for = may.is_for; stands = may.there.0 }
 
-pub returns-in_ok-begun-in-Begin-clause-carried : goal.returns-in_ok-begun-in-Begin-clause-carried
-returns-in_ok-begun-in-Begin-clause-carried g c =
+pub returns-in-Begin-clause-carried : goal.returns-in-Begin-clause-carried
+returns-in-Begin-clause-carried g c =
     let p = c.args.site.now.program.now in
-    rw c.in-Begin.is (AreCarriedOut-at p (outcome_carried_out p) (g.S.Space.sets c.args.space.now) _ c.args.heap.now c.begin.new.heap c.args.callers.now c.begin.new.callers (λ _ s. begin p s c.in-Begin.class.0) (Begin c.in-Begin.group c.in-Begin.class) c.in-Begin.group c.in_ok-begun-in-Begin.begun.items.items refl (λ start group h. h) (λ d. refl) c.in_ok-begun-in-Begin.ensures.begun)
+    rw c.in-Begin.is (IfOk-weaker c.begin.result _ _ (λ r by. AreCarriedOut-at p (outcome_carried_out p) (g.S.Space.sets c.args.space.now) (g.S.Space.sets c.begin.new.space) c.args.heap.now c.begin.new.heap c.args.callers.now c.begin.new.callers (λ _ s. begin p s c.in-Begin.class.0) (Begin c.in-Begin.group c.in-Begin.class) c.in-Begin.group r.items.items refl (λ start group h. h) (λ d. refl) by) c.begin.ensures.begun)

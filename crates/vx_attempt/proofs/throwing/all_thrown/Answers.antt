@@ -1,11 +1,9 @@
 use Rattle.std.proofs.Common.{ap, arith, length, refl}
 use Rattle.std.specs.Vec.Iter.{into_iter_items}
-use Rattle.std.proofs.lemmas.Result.{err_from_is_err_and}
 use Rattle.vx_space.proofs.Spaces.{Extends-trans}
 use Rattle.vx_standing.specs.Attempted.{thrown_out}
-use Rattle.vx_attempt.specs.Carrying.{is_refused}
 use Rattle.vx_attempt.proofs.Calls.{AreThere-grown, all_known}
-use Rattle.vx_attempt.proofs.Carrying.{IsCarrying-end, IsCarrying-start, IsCarrying-step, SomeComesTo-next, nothing_left}
+use Rattle.vx_attempt.proofs.Carrying.{IsCarrying-end, IsCarrying-start, IsCarrying-step, SomeUncarried-next, nothing_left}
 use Rattle.vx_attempt.proofs.Raised.{placed_append}
 use Rattle.vx_attempt.proofs.throwing.all_thrown.Goals as goal
 
@@ -15,7 +13,7 @@ loop-outcome-init g c =
     let gives = c.into_iter-outcome-iterator.ensures.into_iter_gives in
     let known = all_known p (g.S.Space.sets c.args.space.now) c.args.heap.now c.args.callers.now c.args.outcomes.items.items c.requires.there in (
       omega (arith, gives.1, ap length gives.0, c.args.outcomes.items.ok.0),
-      (rw (gives.0, c.new-made.ensures) (IsCarrying-start p (thrown_out p) (g.S.Space.sets c.args.space.now) c.args.heap.now c.args.callers.now c.args.outcomes.items.items c.requires.is_heap c.requires.is_for known), (rw gives.0 c.requires.there, rw c.new-made.ensures refl)),
+      (rw (gives.0, c.new-made.ensures) (IsCarrying-start p (thrown_out p) (g.S.Space.sets c.args.space.now) c.args.heap.now c.args.callers.now c.args.outcomes.items.items c.requires.is_heap c.requires.is_for known), (rw gives.0 c.requires.there, λ none. rw c.new-made.ensures refl)),
     )
 
 pub one_thrown-requires : goal.one_thrown-requires
@@ -26,13 +24,6 @@ one_thrown-requires g c =
 
 pub returns-in_err-some-clause-extends : goal.returns-in_err-some-clause-extends
 returns-in_err-some-clause-extends g c = Extends-trans c.loop-outcome.invariant.1.0.extends c.in_err-some.ensures.extends
-
-pub returns-in_err-some-clause-not_yet : goal.returns-in_err-some-clause-not_yet
-returns-in_err-some-clause-not_yet g c = λ e.
-    let p = c.args.program.now in
-    let k = rw c.in-Some.ensures.steps.0 at c.loop-outcome.invariant.1.0 in
-    let q = err_from_is_err_and c.from_residual.result c.from_residual.ensures.1 in
-    SomeComesTo-next p (thrown_out p) c.args.heap.now c.loop-outcome.heap c.args.callers.now c.loop-outcome.callers c.args.outcomes.items.items c.in-Some.outcome (into_iter_items c.next.new.self) c.loop-outcome.made.items.items k is_refused (c.in_err-some.ensures.not_yet (cc (e, q.1, q.2)))
 
 pub loop-outcome-preserved : goal.loop-outcome-preserved
 loop-outcome-preserved g c =
@@ -48,7 +39,7 @@ loop-outcome-preserved g c =
         rw c.in_ok-append.ensures.ok (IsCarrying-step p (thrown_out p) c.args.heap.now c.loop-outcome.heap c.args.callers.now c.loop-outcome.callers c.args.outcomes.items.items c.in-Some.outcome left made k c.one_thrown.new.heap c.one_thrown.new.callers some c.in_ok-some.ensures.extends one),
         (
           AreThere-grown p c.in_ok-some.ensures.extends one.keeps c.loop-outcome.heap c.one_thrown.new.heap k.is_heap one.grows left t.1,
-          rw c.in_ok-append.ensures.ok (placed_append made some c.loop-outcome.invariant.1.1.1 c.in_ok-some.ensures.placed),
+          λ none. rw c.in_ok-append.ensures.ok (placed_append made some (c.loop-outcome.invariant.1.1.1 none) (c.in_ok-some.ensures.placed (λ u. none (SomeUncarried-next p (thrown_out p) c.args.heap.now c.loop-outcome.heap c.args.callers.now c.loop-outcome.callers c.args.outcomes.items.items c.in-Some.outcome left made k u)))),
         ),
       ),
     )

@@ -13,7 +13,7 @@ returns-then-is_never-clause-carried g c =
     rw c.new.ensures (AreCarriedOut-none p (thrown_out p) (g.met.S.Space.lawful c.args.space.now) c.args.heap.now c.args.callers.now c.args.outcome c.requires.is_heap c.requires.is_for (sym c.condition.ensures ∙ c.if-is_never.ensures.0 refl))
 
 pub returns-then-is_never-clause-placed : goal.returns-then-is_never-clause-placed
-returns-then-is_never-clause-placed g c = rw c.new.ensures refl
+returns-then-is_never-clause-placed g c = λ none. rw c.new.ensures refl
 
 pub some_thrown-requires-clause-some : goal.some_thrown-requires-clause-some
 some_thrown-requires-clause-some g c = λ q. cc (c.if-is_never.ensures.1 (c.condition.ensures ∙ q))

@@ -1,26 +1,29 @@
 use Rattle.std.proofs.Common.{[]}
 use Rattle.std.proofs.lemmas.Result.{err_from_is_err_and}
 use Rattle.vx_cursor.specs.Reading.{steps, behind}
-use Rattle.vx_cursor.specs.Steps.{steps-done, behind-goes_on, behind-ends}
+use Rattle.vx_cursor.specs.Steps.{steps-goes_on, steps-ends, steps-done}
 use Rattle.vx_class.specs.Members.{field_at}
 use Rattle.vx_class.proofs.members.some_fields.Goals as goal
 
-pub returns-in_err-next : goal.returns-in_err-next
-returns-in_err-next c =
+pub returns-in_err-add_field : goal.returns-in_err-add_field
+returns-in_err-add_field c =
     let p = err_from_is_err_and c.from_residual.result c.from_residual.ensures.1 in
     let item = field_at c.args.pool.now c.args.is_interface in
     rw (p.1, p.2)
-    (behind-ends c.in_err-next.field-0.0 item c.loop.fields.items c.args.count c.loop.counter c.loop.cursor (steps (behind item) [] c.args.count c.args.cursor.now)
-    c.loop-test.true (rw c.deref.ensures.value at c.in_err-next.ensures) c.loop.invariant)
+    (steps-ends c.in_err-add_field.field-0.0 (behind item) c.loop.fields.items c.args.count c.loop.counter c.loop.cursor (steps (behind item) [] c.args.count c.args.cursor.now)
+    c.loop-test.true c.in_err-add_field.ensures.value c.loop.invariant.so_far)
 
 pub loop-preserved : goal.loop-preserved
 loop-preserved c =
     let item = field_at c.args.pool.now c.args.is_interface in
-    rw c.in_ok-push.ensures.items
-    (behind-goes_on item c.loop.fields.items c.in_ok-next.next c.args.count c.loop.counter c.loop.cursor c.field.new.cursor (steps (behind item) [] c.args.count c.args.cursor.now)
-    c.loop-test.true (rw c.deref.ensures.value at c.in_ok-next.ensures) c.loop.invariant)
+    record {
+      so_far =
+          steps-goes_on (behind item) c.loop.fields.items c.add_field.new.fields.items c.args.count c.loop.counter c.loop.cursor c.add_field.new.cursor (steps (behind item) [] c.args.count c.args.cursor.now)
+          c.loop-test.true c.in_ok-add_field.ensures.value c.loop.invariant.so_far;
+      taken = c.in_ok-add_field.ensures.taken;
+    }
 
 pub returns : goal.returns
 returns c =
     let item = field_at c.args.pool.now c.args.is_interface in
-    rw c.of.ensures (steps-done (behind item) c.loop.fields.items c.args.count c.loop.counter c.loop.cursor (steps (behind item) [] c.args.count c.args.cursor.now) c.loop-test.false c.loop.invariant)
+    rw c.of.ensures (steps-done (behind item) c.loop.fields.items c.args.count c.loop.counter c.loop.cursor (steps (behind item) [] c.args.count c.args.cursor.now) c.loop-test.false c.loop.invariant.so_far)

@@ -1,6 +1,6 @@
 use Rattle.std.proofs.Common.{◌∙◌}
 use Rattle.std.proofs.lemmas.Result.{err_from_is_err_and}
-use Rattle.vx_cli.proofs.Loaded.{few_files, is_work, lawful_model, link_refused, model_is_that, model_refused, named_model, none_unbuilt, program_is, read_files, work_may_start, work_reportable}
+use Rattle.vx_cli.proofs.Loaded.{few_files, is_work, lawful_model, link_refused, model_is_that, model_refused, named_model, program_is, read_files, work_may_start, work_reportable}
 use Rattle.vx_cli.proofs.load.work_report.Goals as goal
 
 pub program_in-requires-clause-few : goal.program_in-requires-clause-few
@@ -40,11 +40,6 @@ pub report_of_work-requires-clause-reportable : goal.report_of_work-requires-cla
 report_of_work-requires-clause-reportable c =
     work_reportable c.args.seed c.args.options _ _ c.in_ok-found.found.model c.in_ok-program.program c.in_ok-found.found.allowed c.linked_are_sound.ensures c.reports_are_spelled.ensures c.work_is_lawful.ensures
     (is_work _ _ _ _ c.in_ok-work.ensures.classes c.in_ok-work.ensures.model) c.in_ok-program.ensures c.in_ok-found.ensures.0 c.in_ok-found.ensures.1
-
-pub report_of_work-requires-clause-built : goal.report_of_work-requires-clause-built
-report_of_work-requires-clause-built c =
-    let is = program_is c.args.seed c.args.options _ _ c.in_ok-program.program c.work_is_lawful.ensures (is_work _ _ _ _ c.in_ok-work.ensures.classes c.in_ok-work.ensures.model) c.in_ok-program.ensures in
-    none_unbuilt c.args.seed c.args.options c.in_ok-program.program _ c.work_is_built.ensures is
 
 pub returns : goal.returns
 returns c =

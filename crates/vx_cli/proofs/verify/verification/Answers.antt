@@ -1,4 +1,3 @@
-use Rattle.std.proofs.Common.{map, string_bytes}
 use Rattle.std.proofs.lemmas.Result.{err_from_is_err_and}
 use Rattle.vx_cli.specs.Run.{read_folder}
 use Rattle.vx_cli.specs.Verify.{judge_classes, verify_plan}
@@ -12,21 +11,21 @@ returns-in_err-model-clause-err g c =
     let w = c.args.words in
     rw (p.1, p.2) (c.in_err-model.ensures.err (λ model. read_folder w.folder.now (judge_classes w.main.now model)))
 
-pub returns-in_err-found-clause-err : goal.returns-in_err-found-clause-err
-returns-in_err-found-clause-err g c =
-    let p = err_from_is_err_and c.from_residual-in_err-found.result c.from_residual-in_err-found.ensures.1 in
+pub returns-in_err-classes-clause-err : goal.returns-in_err-classes-clause-err
+returns-in_err-classes-clause-err g c =
+    let p = err_from_is_err_and c.from_residual-in_err-classes.result c.from_residual-in_err-classes.ensures.1 in
     let w = c.args.words in
     rw (p.1, p.2) (stops_behind (g.F.Files.seen c.args.files.now) (g.F.Files.seen c.read_any_model.new.files) (g.F.Files.seen c.read_folder.new.files) (verify_plan w.folder.now w.model.now w.main.now) (read_folder w.folder.now (judge_classes w.main.now c.in_ok-model.model)) _
-    c.in_ok-model.ensures.keeps (c.in_ok-model.ensures.ok (λ model. read_folder w.folder.now (judge_classes w.main.now model))) (c.in_err-found.ensures.err (judge_classes w.main.now c.in_ok-model.model)))
+    c.in_ok-model.ensures.keeps (c.in_ok-model.ensures.ok (λ model. read_folder w.folder.now (judge_classes w.main.now model))) (c.in_err-classes.ensures.err (judge_classes w.main.now c.in_ok-model.model)))
 
 pub returns-clause-ok : goal.returns-clause-ok
 returns-clause-ok g c =
     let w = c.args.words in
     verify_ok (g.F.Files.seen c.args.files.now) (g.F.Files.seen c.read_any_model.new.files) (g.F.Files.seen c.read_folder.new.files) w.folder.now w.model.now w.main.now c.in_ok-model.model
-    (map string_bytes c.in_ok-found.found.paths.items) c.in_ok-found.found.classes.items c.verdict_of.result c.in_ok-model.ensures.keeps c.in_ok-model.ensures.ok c.in_ok-found.ensures.ok c.verdict_of.ensures
+    c.in_ok-classes.classes.items c.verdict_of.result c.in_ok-model.ensures.keeps c.in_ok-model.ensures.ok c.in_ok-classes.ensures.ok c.verdict_of.ensures
 
 pub returns-clause-err : goal.returns-clause-err
 returns-clause-err g c =
     let w = c.args.words in
     verify_err (g.F.Files.seen c.args.files.now) (g.F.Files.seen c.read_any_model.new.files) (g.F.Files.seen c.read_folder.new.files) w.folder.now w.model.now w.main.now c.in_ok-model.model
-    (map string_bytes c.in_ok-found.found.paths.items) c.in_ok-found.found.classes.items c.verdict_of.result c.in_ok-model.ensures.keeps c.in_ok-found.ensures.keeps c.in_ok-model.ensures.ok c.in_ok-found.ensures.ok c.verdict_of.ensures
+    c.in_ok-classes.classes.items c.verdict_of.result c.in_ok-model.ensures.keeps c.in_ok-classes.ensures.keeps c.in_ok-model.ensures.ok c.in_ok-classes.ensures.ok c.verdict_of.ensures

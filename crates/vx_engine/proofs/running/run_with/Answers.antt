@@ -1,12 +1,8 @@
-use Rattle.std.proofs.Common.{◌≡◌, ◌<◌, Err, sym, ap, ◌∙◌, length, subst}
-use Rattle.std.specs.Prelude.{Result}
-use Rattle.std.proofs.lemmas.Result.{err_from_is_err_and}
+use Rattle.std.proofs.Common.{◌<◌, sym, length, subst}
 use Rattle.vx_lockstep.proofs.Falling.{attempts_fall, round_steps}
-use Rattle.vx_lockstep.proofs.Underway.{ended, goes_on, is_last, reported, started, stuck}
-use Rattle.vx_standing.specs.Rounds.{IsRoundAt, IsStuckAt}
+use Rattle.vx_lockstep.proofs.Underway.{ended, goes_on, is_last, reported, started}
+use Rattle.vx_standing.specs.Rounds.{IsRoundAt}
 use Rattle.vx_standing.specs.State.{IsState, StateView}
-use Rattle.vx_families.specs.declared.fault.AttemptFault.{AttemptFault}
-use Rattle.vx_families.specs.declared.fault.AttemptFault.TheVariants.{NotYet}
 use Rattle.vx_engine.proofs.running.run_with.Goals as goal
 
 pub rounds-init : goal.rounds-init
@@ -20,30 +16,15 @@ pub next_round-requires-clause-which : goal.next_round-requires-clause-which
 next_round-requires-clause-which g c =
     subst (λ (st : StateView g.row.S.Denot g.row.S-Id.Denot). c.in_ok-which.which < length st.groups) (sym c.next_place.ensures.same) c.in_ok-which.ensures.in_range
 
--- a fault that is handed on is the same one
-handed_on : {A B : Type 0} (r : Result A AttemptFault) (handed fault : AttemptFault) → r ≡ Err handed → handed ≡ fault → r ≡ Err NotYet → ◌≡◌ {A = Result B AttemptFault} (Err fault) (Err NotYet)
-handed_on {A = A} r handed fault e same h =
-    let both : ◌≡◌ {A = Result A AttemptFault} (Err handed) (Err NotYet) = sym e ∙ h in
-    let is : handed ≡ NotYet = cc in
-    ap Err (sym same ∙ is)
-
-pub returns-in_err-next_round-clause-not_yet : goal.returns-in_err-next_round-clause-not_yet
-returns-in_err-next_round-clause-not_yet g c =
-    let p = err_from_is_err_and c.from_residual-in_err-next_round.result c.from_residual-in_err-next_round.ensures.1 in
-    λ h.
-    let met = subst (λ (st : StateView g.row.S.Denot g.row.S-Id.Denot). IsStuckAt c.args.program.now (g.S.Space.sets c.rounds.space) st c.in_ok-which.which) c.next_place.ensures.same
-    (c.in_err-next_round.ensures.not_yet (handed_on c.from_residual-in_err-next_round.result p.0 c.in_err-next_round.field-0.0 p.1 p.2 h)) in
-    stuck c.args.program.now (g.S.Space.sets c.rounds.space) (g.S.Space.sets c.args.space.now).options ((g.S.Space.sets c.args.space.now).test c.args.allowed) c.args.limit _ c.rounds.state met.0 c.rounds.invariant met.2
-
 pub rounds-smaller : goal.rounds-smaller
 rounds-smaller g c =
-    let round = subst (λ (st : StateView g.row.S.Denot g.row.S-Id.Denot). IsRoundAt c.args.program.now (g.S.Space.sets c.rounds.space) (g.S.Space.sets c.next_round.new.space) st c.next_round.new.state c.in_ok-which.which) c.next_place.ensures.same c.in_ok-next_round.ensures.ok in
+    let round = subst (λ (st : StateView g.row.S.Denot g.row.S-Id.Denot). IsRoundAt c.args.program.now (g.S.Space.sets c.rounds.space) (g.S.Space.sets c.next_round.new.space) st c.next_round.new.state c.in_ok-which.which) c.next_place.ensures.same c.in_ok-next_round.ensures in
     let stepped = round_steps c.args.program.now (g.S.Space.sets c.rounds.space) (g.S.Space.sets c.next_round.new.space) c.rounds.state.heap.allowed c.rounds.state c.next_round.new.state round.0 round.2 in
     attempts_fall c.args.program.now (g.S.Space.sets c.rounds.space) (g.S.Space.sets c.next_round.new.space) c.rounds.state c.next_round.new.state c.in_ok-which.which round.0 (g.met.S.Space.lawful c.rounds.space) c.rounds.invariant.is_state.groups c.rounds.invariant.is_state.running round.1 stepped
 
 pub rounds-preserved : goal.rounds-preserved
 rounds-preserved g c =
-    let round = subst (λ (st : StateView g.row.S.Denot g.row.S-Id.Denot). IsRoundAt c.args.program.now (g.S.Space.sets c.rounds.space) (g.S.Space.sets c.next_round.new.space) st c.next_round.new.state c.in_ok-which.which) c.next_place.ensures.same c.in_ok-next_round.ensures.ok in
+    let round = subst (λ (st : StateView g.row.S.Denot g.row.S-Id.Denot). IsRoundAt c.args.program.now (g.S.Space.sets c.rounds.space) (g.S.Space.sets c.next_round.new.space) st c.next_round.new.state c.in_ok-which.which) c.next_place.ensures.same c.in_ok-next_round.ensures in
     goes_on c.args.program.now (g.S.Space.sets c.rounds.space) (g.S.Space.sets c.next_round.new.space) (g.S.Space.sets c.args.space.now).options ((g.S.Space.sets c.args.space.now).test c.args.allowed) c.args.limit _ c.rounds.state c.next_round.new.state c.in_ok-which.which round.0 (g.met.S.Space.lawful c.rounds.space) (g.met.S.Space.lawful c.next_round.new.space) c.rounds.invariant round.1
     c.in_ok-which.ensures.first
     round.2

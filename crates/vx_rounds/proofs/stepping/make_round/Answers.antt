@@ -1,12 +1,11 @@
 use Rattle.std.proofs.Common.{ap, ◌∙◌}
-use Rattle.std.proofs.lemmas.Result.{err_from_is_err_and}
 use Rattle.vx_space.proofs.Spaces.{Extends-trans}
 use Rattle.vx_standing.specs.State.{StateView}
 use Rattle.vx_turns.proofs.Closing.{rounds_small}
 use Rattle.vx_placing.proofs.Going.{IsVacant-inside}
 use Rattle.vx_turns.proofs.Opening.{begun_underway, begun_unwritten, begun_vacant, chosen_is_group, may_spend, spent_count, spent_may}
 use Rattle.vx_placing.proofs.Putting.{IsUnderway-extends}
-use Rattle.vx_turns.proofs.Whole.{IsRound-closed, IsStuck-met, IsTurn-made}
+use Rattle.vx_turns.proofs.Whole.{IsRound-closed, IsTurn-made}
 use Rattle.vx_rounds.proofs.stepping.make_round.Goals as goal
 
 pub spend-requires-clause-group : goal.spend-requires-clause-group
@@ -37,16 +36,6 @@ make-requires g c =
 
 pub returns-in_err-make-clause-extends : goal.returns-in_err-make-clause-extends
 returns-in_err-make-clause-extends g c = Extends-trans c.in_ok-spent.ensures.extends c.make.ensures.extends
-
-pub returns-in_err-make-clause-not_yet : goal.returns-in_err-make-clause-not_yet
-returns-in_err-make-clause-not_yet g c e =
-    let b = c.begin_round-begun.ensures in
-    let same_heap = ap (λ (x : StateView g.row.S.Denot g.row.S-Id.Denot). x.heap) (c.state.view_is ∙ b.state) in
-    let u = rw (same_heap, b.callers) at (c.in_err-make.ensures.not_yet (let k = err_from_is_err_and c.from_residual-in_err-make.result c.from_residual-in_err-make.ensures.1 in cc (e, k.1, k.2))) in (
-      c.begin_round-begun.result.1,
-      b.chosen,
-      IsStuck-met c.args.program.now (g.S.Space.sets c.args.space.now) (g.S.Space.sets c.spend.new.space) c.in_ok-spent.ensures.extends c.args.state.now.heap.allowed c.args.state.now c.begin_round-begun.new.state c.args.which c.begin_round-begun.result.0 c.begin_round-begun.result.1 c.in_ok-spent.spent c.in_ok-spent.attempts c.requires.state b c.in_ok-spent.ensures.spent u,
-    )
 
 pub end_round-requires : goal.end_round-requires
 end_round-requires g c =

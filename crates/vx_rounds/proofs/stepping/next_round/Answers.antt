@@ -1,5 +1,4 @@
-use Rattle.std.proofs.lemmas.Result.{err_from_is_err_and}
-use Rattle.vx_turns.proofs.Tended.{IsRoundAt-tended, IsStuckAt-tended, tended_place, tended_state}
+use Rattle.vx_turns.proofs.Tended.{IsRoundAt-tended, tended_place, tended_state}
 use Rattle.vx_rounds.proofs.stepping.next_round.Goals as goal
 
 pub tend-requires : goal.tend-requires
@@ -11,10 +10,5 @@ make_round-requires-clause-state g c = tended_state c.args.program.now (g.S.Spac
 pub make_round-requires-clause-which : goal.make_round-requires-clause-which
 make_round-requires-clause-which g c = tended_place (g.S.Space.sets c.args.space.now) (g.S.Space.sets c.tend.new.space) c.args.state.now c.tend.new.state c.args.which c.in_ok-tend.ensures c.requires.which
 
-pub returns-in_err-make_round-clause-not_yet : goal.returns-in_err-make_round-clause-not_yet
-returns-in_err-make_round-clause-not_yet g c e =
-    let k = err_from_is_err_and c.from_residual-in_err-make_round.result c.from_residual-in_err-make_round.ensures.1 in
-    IsStuckAt-tended c.args.program.now (g.S.Space.sets c.args.space.now) (g.S.Space.sets c.tend.new.space) c.args.state.now c.tend.new.state c.args.which c.in_ok-tend.ensures (c.in_err-make_round.ensures.not_yet (cc (e, k.1, k.2)))
-
-pub returns-clause-ok : goal.returns-clause-ok
-returns-clause-ok g c = IsRoundAt-tended c.args.program.now (g.S.Space.sets c.args.space.now) (g.S.Space.sets c.tend.new.space) (g.S.Space.sets c.make_round.new.space) c.args.state.now c.tend.new.state c.make_round.new.state c.args.which c.requires.state c.in_ok-tend.ensures c.in_ok-make_round.ensures.ok
+pub returns : goal.returns
+returns g c = IsRoundAt-tended c.args.program.now (g.S.Space.sets c.args.space.now) (g.S.Space.sets c.tend.new.space) (g.S.Space.sets c.make_round.new.space) c.args.state.now c.tend.new.state c.make_round.new.state c.args.which c.requires.state c.in_ok-tend.ensures c.in_ok-make_round.ensures.ok

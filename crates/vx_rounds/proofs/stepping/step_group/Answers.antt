@@ -1,7 +1,6 @@
 use Rattle.std.proofs.Common.{sym, ◌∙◌}
-use Rattle.std.proofs.lemmas.Result.{err_from_is_err_and}
 use Rattle.vx_standing.proofs.Keeping.{state_known}
-use Rattle.vx_turns.proofs.Tended.{IsRound-swept, IsRoundAt-tended, IsStuckAt-tended, state_nodes, swept_tree, tended_compacted, tended_state, tended_swept}
+use Rattle.vx_turns.proofs.Tended.{IsRound-swept, IsRoundAt-tended, state_nodes, swept_tree, tended_compacted, tended_state, tended_swept}
 use Rattle.vx_rounds.proofs.stepping.step_group.Goals as goal
 
 pub compact-requires : goal.compact-requires
@@ -14,15 +13,6 @@ make_round-requires-clause-state g c =
     let compacted = g.S.Space.sets c.compact.new.space in
     let st = c.args.state.now in
     tended_state p old compacted st st c.requires.state (tended_compacted p old compacted st.heap.allowed st c.requires.state c.in_ok-compact.ensures.compacted)
-
-pub returns-in_err-make_round-clause-not_yet : goal.returns-in_err-make_round-clause-not_yet
-returns-in_err-make_round-clause-not_yet g c e =
-    let p = c.args.program.now in
-    let old = g.S.Space.sets c.args.space.now in
-    let compacted = g.S.Space.sets c.compact.new.space in
-    let st = c.args.state.now in
-    let k = err_from_is_err_and c.from_residual-in_err-make_round.result c.from_residual-in_err-make_round.ensures.1 in
-    IsStuckAt-tended p old compacted st st c.args.which (tended_compacted p old compacted st.heap.allowed st c.requires.state c.in_ok-compact.ensures.compacted) (c.in_err-make_round.ensures.not_yet (cc (e, k.1, k.2)))
 
 pub sweep-requires : goal.sweep-requires
 sweep-requires g c = state_nodes c.args.program.now (g.S.Space.sets c.make_round.new.space) c.args.state.now.heap.allowed c.make_round.new.state c.in_ok-make_round.ensures.ok.2.is_state

@@ -1,0 +1,14 @@
+use Rattle.std.proofs.Common.{◌∙◌, ap, length, map}
+use Rattle.vx_effects.specs.Elements.{char_slot}
+use Rattle.vx_effects.proofs.Carried.{chars_made-done}
+use Rattle.vx_effects.proofs.Elements.{elements_plain}
+use Rattle.vx_effects.proofs.giving.give_chars.Goals as goal
+
+pub alloc_cells-requires-clause-size : goal.alloc_cells-requires-clause-size
+alloc_cells-requires-clause-size g c = c.in_ok-size.ensures.short
+
+pub alloc_cells-requires-clause-slots : goal.alloc_cells-requires-clause-slots
+alloc_cells-requires-clause-slots g c = rw (c.deref-3.ensures.value, c.in_ok-elements.ensures) (elements_plain (length c.args.heap.now.texts) c.deref-2.result.now)
+
+pub returns : goal.returns
+returns g c = λ sets v known held. chars_made-done c.args.program.now sets c.args.heap.now c.alloc_cells.new.self c.args.condition c.args.units.items c.in_ok-elements.elements.items c.in_ok-size.size c.char_array-class.result c.in_ok-reference.reference v (c.in_ok-elements.ensures ∙ ap (map char_slot) c.deref-2.ensures.value) (c.in_ok-size.ensures.count ∙ ap length c.deref.ensures.value) c.char_array-class.ensures known (rw c.deref-3.ensures.value at (c.in_ok-reference.ensures.ok sets))

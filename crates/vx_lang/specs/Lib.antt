@@ -1,0 +1,4 @@
+pub mod Values
+pub mod Questions
+pub mod Numbers
+pub mod Deeds

@@ -1,0 +1,14 @@
+pub mod Numbers
+pub mod CallLaws
+pub mod ArgumentRows
+pub mod NativeRows
+pub mod Arguing
+pub mod Keeping
+pub mod Leaves
+pub mod Attempting
+pub mod Behaving
+pub mod Few
+pub mod CellLaws
+pub mod CharLaws
+pub mod PutBehind
+pub mod Rights

@@ -1,0 +1,13 @@
+pub mod Calls
+pub mod CallOrder
+pub mod Behaviours
+pub mod Forms
+pub mod Takes
+pub mod Arguments
+pub mod Rows
+pub mod Cells
+pub mod Texts
+pub mod Chars
+pub mod Doing
+pub mod Deeds
+pub mod Readings

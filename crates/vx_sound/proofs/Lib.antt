@@ -1,0 +1,11 @@
+pub mod Values
+pub mod Words
+pub mod Taken
+pub mod Sites
+pub mod Arithmetic
+pub mod Jumps
+pub mod Moves
+pub mod Led
+pub mod OperandRows
+pub mod Heaps
+pub mod Classes

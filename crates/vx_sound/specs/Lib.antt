@@ -1,0 +1,4 @@
+pub mod Values
+pub mod Typed
+pub mod Sound
+pub mod Law

@@ -1,0 +1,5 @@
+pub mod Spelled
+pub mod Lengths
+pub mod Questions
+pub mod Changes
+pub mod Printed

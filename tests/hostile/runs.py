@@ -1,0 +1,83 @@
+"""A dozen runs of each command and more, over the files of worked cases and the reports that those expect."""
+
+import os
+from typing import NamedTuple
+
+import trying
+
+# The report that a worked case expects of `run`.
+REPORT = 'stdout'
+
+
+class Run(NamedTuple):
+    """Words, and the worked case whose files they name."""
+
+    case: str
+    words: list
+
+    def name(self):
+        return f'{" ".join(self.words)}, {self.case}'
+
+    def folder(self, place):
+        """A folder with the files, at a place that is its own."""
+        return trying.case_folder(self.case, os.path.join(place, '_'.join(self.words)))
+
+
+# Cases whose runs are done, each with a report.
+REPORTED = ['print-an-option', 'dimacs-model', 'equal-pairs-4-options', 'attempts-by-branch', 'remainder-by-zero', 'exit-and-uncaught',
+            'exceptions-by-configuration', 'initialiser-in-one-branch', 'loop-without-end-in-one-branch', 'shop']
+
+# Cases by their own words.
+OWN = {
+    'run': ['print-an-option', 'dimacs-model', 'equal-pairs-4-options', 'attempts-by-branch', 'remainder-by-zero', 'shop',
+            'rule-without-operand', 'no-configuration', 'class-zero-byte-in-text', 'link-class-twice', 'folder-absent', 'limit-zero'],
+    'project': ['project-option-on', 'project-not-allowed', 'project-repeated-option', 'project-unknown-option', 'report-other-numbering',
+                'report-too-many-options', 'report-cut-at-40'],
+    'asm': ['assemble-class-with-option', 'assemble-smallest-class', 'assemble-version-45', 'assemble-version-52', 'source-empty',
+            'source-unknown-label', 'source-unknown-word', 'source-number-out-of-range', 'source-text-as-label', 'source-text-as-class',
+            'source-no-text-behind-string', 'source-version-53'],
+    'verify': ['verify-branches', 'verify-empty-stack', 'verify-shop', 'verify-super-call-on-another', 'verify-unlike-operands'],
+    'interact': ['interact-one-option', 'interact-two-options'],
+    'agree': ['agree-in-one-branch', 'agree-unlike', 'agree-with-itself', 'agree-shop-with-itself'],
+    'picture': ['picture-one-option'],
+    'cover': ['cover-one-option', 'cover-mail'],
+    'explain': ['explain-one-option', 'explain-mail'],
+    'load': ['workload-summary-3-options']}
+
+# Seeds and numbers of options of `load`; the last two are refused.
+LOADS = [('0', '1'), ('1', '1'), ('1', '2'), ('7', '3'), ('9', '4'), ('21', '5'), ('1', '6'), ('99', '7'), ('1', '12'), ('1', '0'), ('1', '65')]
+
+# Cases of `run` that are verified, the last two refused.
+VERIFIED = ['print-an-option', 'dimacs-model', 'interface-call-splits', 'exceptions-by-configuration', 'static-call', 'link-cycle', 'no-main']
+
+
+def own_runs():
+    return [Run(case, trying.case_words(case)) for cases in OWN.values() for case in cases]
+
+
+def report_runs():
+    """Each report told of, compared with itself, and projected at the configuration of no option."""
+    for command in ('interact', 'picture', 'cover', 'explain'):
+        yield Run('report-cut-at-40', [command, 'report'])
+        for case in REPORTED:
+            yield Run(case, [command, REPORT])
+    for case in REPORTED[:8]:
+        yield Run(case, ['agree', REPORT, REPORT])
+    for case in REPORTED[:5]:
+        yield Run(case, ['project', REPORT, '-'])
+
+
+def other_runs():
+    """Classes verified, workloads, and the pages."""
+    for case in VERIFIED:
+        yield Run(case, ['verify', *trying.case_words(case)[1:4]])
+    for words in LOADS:
+        yield Run('source-empty', ['load', *words])
+    for page in ('--help', '--version'):
+        yield Run('source-empty', [page])
+
+
+def runs(varexj):
+    """The runs of the commands that the program has; each has a name and a folder of its own."""
+    commands = trying.built_commands(varexj)
+    return [run for run in [*own_runs(), *report_runs(), *other_runs()] if run.words[0] in commands]
