@@ -3,6 +3,7 @@ use Rattle.std.proofs.Common.{Bool, Err, Global, IfErr, IfOk, List, MatchResult,
 use Rattle.std.proofs.lemmas.Bool.{cases_lt}
 use Rattle.std.specs.List.{list_all}
 use Rattle.std.specs.Prelude.{All}
+use Rattle.vx_class.specs.Class.{class_of}
 use Rattle.vx_class.specs.File.{Holds}
 use Rattle.vx_class.specs.declared.class_file.ClassFile.{ClassFile}
 use Rattle.vx_class.specs.declared.class_file.Code.{Code}
@@ -65,19 +66,19 @@ of_judged main model classes p (Err status) linked made = inl made
 -- ---- the plan
 
 pub verify_ok : (old mid new : FilesState) (folder path main : List ℕ) (model : Model) (classes : List ClassFile) (r : Result (Vec ℕ Global) Status) → KeepsFiles old mid
-    → ((next : Model → Plan) → Leads old.held (read_any_model path next) (next model)) → ((next : List ClassFile → Plan) → Leads mid.held (read_folder folder next) (next classes))
+    → ((next : Model → Plan) → Leads old.held (read_any_model path next) (next model)) → ((next : List ClassFile → Plan) → Leads mid.held (read_folder class_of folder next) (next classes))
     → MatchResult r (λ text. IsVerdictOf main model classes text.items) (IsNoProgram main model classes) → IfOk r (λ text. MayGive old.held old.faults new.faults (verify_plan folder path main) (Ok text.items))
 verify_ok old mid new folder path main model classes (Err e) keeps modeled found made = tt
 verify_ok old mid new folder path main model classes (Ok text) keeps modeled found made =
-    let there = then_leads (modeled (λ m. read_folder folder (judge_classes main m))) (rw keeps.held at (found (judge_classes main model))) in
+    let there = then_leads (modeled (λ m. read_folder class_of folder (judge_classes main m))) (rw keeps.held at (found (judge_classes main model))) in
     (then_leads there (attempt_goes old.held (program_in main model classes) (λ p. Write (Judged p)) made.program made.is_program)).to old.faults new.faults (Ok text.items) (text.items, made.is_text, refl)
 
 pub verify_err : (old mid new : FilesState) (folder path main : List ℕ) (model : Model) (classes : List ClassFile) (r : Result (Vec ℕ Global) Status) → KeepsFiles old mid → KeepsFiles mid new
-    → ((next : Model → Plan) → Leads old.held (read_any_model path next) (next model)) → ((next : List ClassFile → Plan) → Leads mid.held (read_folder folder next) (next classes))
+    → ((next : Model → Plan) → Leads old.held (read_any_model path next) (next model)) → ((next : List ClassFile → Plan) → Leads mid.held (read_folder class_of folder next) (next classes))
     → MatchResult r (λ text. IsVerdictOf main model classes text.items) (IsNoProgram main model classes) → IfErr r (λ status. MayStop old new (verify_plan folder path main) status)
 verify_err old mid new folder path main model classes (Ok text) keeps more modeled found made = tt
 verify_err old mid new folder path main model classes (Err status) keeps more modeled found made =
-    let there = then_leads (modeled (λ m. read_folder folder (judge_classes main m))) (rw keeps.held at (found (judge_classes main model))) in
+    let there = then_leads (modeled (λ m. read_folder class_of folder (judge_classes main m))) (rw keeps.held at (found (judge_classes main model))) in
     value_stops old new (verify_plan folder path main) (program_in main model classes) (λ p. Write (Judged p)) status (keeps_then keeps more) there made
 
 -- ---- one verdict

@@ -1,5 +1,6 @@
 -- The plan of `verify`: the order of its questions and of its refusals.
 use Rattle.std.specs.Prelude.{List, Ok, ℕ, ◌≡◌}
+use Rattle.vx_class.specs.Class.{class_of}
 use Rattle.vx_class.specs.declared.class_file.ClassFile.{ClassFile}
 use Rattle.vx_link.specs.declared.program.Program.{Program}
 use Rattle.vx_model.specs.declared.model.Model.{Model}
@@ -18,7 +19,7 @@ judge_classes main model classes = attempt (program_in main model classes) (λ p
 
 -- the plan of `verify`: the model first, then the folder, then its class files in ascending order, then linking
 abbrev pub verify_plan : List ℕ → List ℕ → List ℕ → Plan
-verify_plan folder path main = read_any_model path (λ model. read_folder folder (judge_classes main model))
+verify_plan folder path main = read_any_model path (λ model. read_folder class_of folder (judge_classes main model))
 
 -- the class files link, and the text is that of the verdict over their program
 pub record IsVerdictOf (main : List ℕ) (model : Model) (classes : List ClassFile) (text : List ℕ) : Type 0 where
