@@ -117,6 +117,7 @@ pub state_later : (p : Program) → IsRanked p → (typings : Typings) (s : Stat
 state_later p ranked typings s later grows heap is = record {
   heap = heap;
   statics = λ f static. still p ranked s.heap later grows (item_or s.statics f Top) (type_of_field p f) (is.statics f static);
+  inits = is.inits;
   top = typed_frame_later p ranked s.heap later grows typings s.top is.top;
   callers = callers_later p ranked s.heap later grows typings s.top.kind s.top.method s.callers is.callers;
 }
