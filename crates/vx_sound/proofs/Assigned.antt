@@ -114,7 +114,7 @@ root_type p = by (is_interface p (object_class p))
     by true = refl
     by false = refl
 
-root_takes : (p : Program) → HasHierarchy p → (t : VerType) → IsReference t → fits p t (type_of_class p (object_class p)) ≡ true
+pub root_takes : (p : Program) → HasHierarchy p → (t : VerType) → IsReference t → fits p t (type_of_class p (object_class p)) ≡ true
 root_takes p has t q =
     subst (λ (u : VerType). fits p t u ≡ true)
     (sym (plain_type p (object_class p) (plain_class p (object_class p) has.root) ∙ ap (is.Ref 0) (root_type p)))

@@ -28,4 +28,8 @@ pub mod Operations
 pub mod Unwinding
 pub mod Beginning
 pub mod Starting
+pub mod Selecting
+pub mod Calling
+pub mod CallRows
+pub mod WholeRows
 pub mod WholeRuns

@@ -36,7 +36,7 @@ item_map g [] i d e less = absurd (omega (arith, less))
 item_map g (x ∷ xs) zero d e less = refl
 item_map g (x ∷ xs) (suc i) d e less = item_map g xs i d e (omega (arith, less))
 
-take_less : (n m : ℕ) (t : VerType) → n ≤ m → take n (replicate m t) ≡ replicate n t
+pub take_less : (n m : ℕ) (t : VerType) → n ≤ m → take n (replicate m t) ≡ replicate n t
 take_less zero m t less = refl
 take_less (suc n) zero t less = absurd (omega (arith, less))
 take_less (suc n) (suc m) t less = ap (λ (ts : List VerType). t ∷ ts) (take_less n m t (omega (arith, less)))

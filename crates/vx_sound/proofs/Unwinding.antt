@@ -145,7 +145,7 @@ module _ (p : Program) (typings : Typings) (sound : IsSound p) (are : AreTypings
   handler_known s Init r handler found = found
   handler_known s Wait r handler found = none_some found
 
-  reference_there : (heap : List Object) (r : ℕ) → r < length heap → type_of_reference p heap r ≡ type_of_class p (item_or heap r no_object).class
+  pub reference_there : (heap : List Object) (r : ℕ) → r < length heap → type_of_reference p heap r ≡ type_of_class p (item_or heap r no_object).class
   reference_there heap r there = ap (λ b. if b then type_of_class p (item_or heap r no_object).class else is.Top) (lt-ltb r (length heap) there)
 
   handled : (s : State) (r handler : ℕ) → IsThrown p s r → IsHandling p typings s.heap s.top → AreTypedUnder p typings s.heap s.top.kind s.top.method s.callers → handler_of p s s.top.kind r ≡ Some handler

@@ -1,7 +1,7 @@
 //! What a verdict of yes says of runs: values are of the types that the typings of their methods tell, and no instruction's rule is broken.
 #![tactic(auto)]
 
-ghost use Rattle.vx_sound.specs.Law.{BeginningsKeepTypes, NextKeepsTypes, OperationsKeepTypes, StartIsTyped, StepsLead, is_of_arrays, is_of_objects, is_of_operands, is_return};
+ghost use Rattle.vx_sound.specs.Law.{BeginningsKeepTypes, NextKeepsTypes, OperationsKeepTypes, RowsFollow, StartIsTyped, StepsLead, is_call, is_of_arrays, is_of_objects, is_of_operands, is_return};
 
 /// The law of the rows of operands: in a typed state of a program that has a typing of each method, an instruction that works on operands
 /// and local variables alone breaks no rule, and what it leads to is typed (JVMS 4.10.2.2).
@@ -22,6 +22,17 @@ pub fn object_rows_keep_types()
 /// The law of the rows of returns: the caller goes on with what it is handed, and the frame below an initialisation stands as it stood (JVMS 2.6.4).
 pub fn return_rows_keep_types()
     ensures { OperationsKeepTypes is_return }
+{}
+
+/// The law of the rows of calls: the selected method begins with the receiver and the arguments that its descriptor tells, and the caller waits for what it hands back (JVMS
+/// 2.6, 4.10.1.9).
+pub fn call_rows_keep_types()
+    ensures { OperationsKeepTypes is_call }
+{}
+
+/// Each row is that of an operation of these families, or makes an array with its parts.
+pub fn rows_follow()
+    ensures { RowsFollow }
 {}
 
 /// The law of beginnings: the frames of what initialises the classes of a chain begin as their methods' typings do, above frames that stand as they stood (JVMS 5.5).
