@@ -20,13 +20,13 @@ LINES = {
     0: rb'', 5: rb'bad model line \d+ reason [1-9]\n', 6: rb'no configuration\n', 7: rb'bad class [^ \n]+ at \d+ reason \d+\n',
     8: rb'(twice|no super|final super|cycle|no option) [^ \n]+\n|no main\n', 10: rb'bad report line \d+\n', 11: rb'not allowed\n',
     12: rb'bad source line \d+ reason [1-8]\n', 14: rb'unlike\n'}
-STATUSES = {'run': (0, 5, 6, 7, 8), 'verify': (0, 5, 7, 8), 'project': (0, 10, 11), 'asm': (0, 12), 'agree': (0, 10, 14),
+STATUSES = {'run': (0, 5, 6, 7, 8), 'verify': (0, 5, 7, 8), 'replay': (0, 5, 7, 8, 11), 'project': (0, 10, 11), 'asm': (0, 12), 'agree': (0, 10, 14),
             **dict.fromkeys(('interact', 'picture', 'cover', 'explain'), (0, 10))}
 # A case, and the file that is damaged.
 FILES = [('print-an-option', 'f/Main.class'), ('branches-join-with-different-values', 'f/Main.class'), ('dimacs-model', 'm.cnf'),
          ('model-with-true-rule', 'model'), ('project-option-on', 'report'), ('interact-two-options', 'report'),
          ('agree-in-one-branch', 'other'), ('assemble-class-with-option', 'source.jasm'), ('verify-branches', 'f/Main.class'),
-         ('picture-one-option', 'report'), ('cover-one-option', 'report'), ('explain-one-option', 'report')]
+         ('replay-with-lines', 'f/Main.class'), ('replay-uncaught', 'model'), ('picture-one-option', 'report'), ('cover-one-option', 'report'), ('explain-one-option', 'report')]
 
 
 def damaged(data):

@@ -131,6 +131,14 @@ def many_constant_values():
     return made
 
 
+def constant_values_of_one_long_text():
+    made = started()
+    value = made.attribute('ConstantValue', struct.pack('>H', made.string('a' * MOST_TEXT)))
+    for number in range(38000):
+        made.field(STATIC, f'n{number:05}', 'Ljava/lang/String;', [value])
+    return made
+
+
 def many_attributes():
     """Attributes that are passed over: of the class, of a field and of a method's code."""
     made = started()
@@ -248,7 +256,8 @@ FILES = {
     'names and types of one long descriptor': types_of_one_long_descriptor, 'methods of one long descriptor': methods_of_one_long_descriptor,
     'fields of one long name': fields_of_one_long_name, 'method types of one long descriptor': method_types_of_one_long_descriptor,
     'strings': many_strings, 'interfaces': many_interfaces, 'static fields': many_static_fields, 'instance fields': many_instance_fields,
-    'native methods': many_native_methods, 'methods': many_methods, 'constant values': many_constant_values, 'attributes': many_attributes, 'one long attribute': one_long_attribute,
+    'native methods': many_native_methods, 'methods': many_methods, 'constant values': many_constant_values, 'constant values of one long text': constant_values_of_one_long_text,
+    'attributes': many_attributes, 'one long attribute': one_long_attribute,
     'descriptors of 255 arguments': longest_descriptors, 'long code': long_code, 'jumps to the end': jumps_to_the_end,
     'table switches': table_switch, 'lookup switches': lookup_switch, 'catch rows': many_catch_rows, 'jumps that run': jumps_that_run}
 

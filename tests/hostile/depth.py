@@ -44,6 +44,8 @@ def deep_inputs():
     unfinished = b'varexj report 1\noptions 0\nlimit 100\nrounds 100\nend 1 unfinished\ndone\n'
     returned = b'varexj report 1\noptions 0\nlimit 100\nrounds 1\nend 1 return\ndone\n'
     run, verify = ['run', 'f', 'model', 'Main', '100', '1'], ['verify', 'f', 'model', 'Main']
+    replay = ['replay', 'f', 'model', 'Main', '100', '-']
+    replayed = b'varexj replay 1\nend return\nattempts 1\nat Main.main([Ljava/lang/String;)V@0 -\ndone\n'
     for name in ('a chain of superclasses', 'a chain of interfaces'):
         classes = {f'f/{key}.class': made.bytes() for key, made in dear_classes.FOLDERS[name]().items()}
         yield name, {'model': b'', **classes}, run, (0, unfinished, b'')
@@ -53,6 +55,7 @@ def deep_inputs():
     deep = {'model': b'', 'f/' + 'd/' * DEEPEST + 'Main.class': dear_classes.started().bytes()}
     yield f'folders {DEEPEST} deep', deep, run, (0, returned, b'')
     yield f'folders {DEEPEST} deep, verified', deep, verify, (0, b'verified\n', b'')
+    yield f'folders {DEEPEST} deep, replayed', deep, replay, (0, replayed, b'')
 
 
 def try_deep_inputs(varexj, tally, commands):

@@ -228,7 +228,8 @@ def _(place):
 
 # What each command reads beside a folder: the words, where the path of a file is given.
 READS = {
-    'run': lambda path: run(model=path), 'verify': lambda path: ['verify', 'f', path, 'Main'], 'asm': lambda path: ['asm', path],
+    'run': lambda path: run(model=path), 'verify': lambda path: ['verify', 'f', path, 'Main'],
+    'replay': lambda path: ['replay', 'f', path, 'Main', '100', '-'], 'asm': lambda path: ['asm', path],
     'project': lambda path: ['project', path, '-'], 'interact': lambda path: ['interact', path], 'picture': lambda path: ['picture', path],
     'cover': lambda path: ['cover', path], 'explain': lambda path: ['explain', path], 'agree': lambda path: ['agree', path, 'report'],
     'agree, the other one': lambda path: ['agree', 'report', path]}
@@ -238,7 +239,7 @@ def good_file(place, word):
     """A file that a command can read, and how the command then ends."""
     place.put_class()
     place.put('report', place.good[1])
-    data = {'asm': b'class 0021 Main java/lang/Object\n', 'run': place.model, 'verify': place.model}.get(word, place.good[1])
+    data = {'asm': b'class 0021 Main java/lang/Object\n', **dict.fromkeys(('run', 'verify', 'replay'), place.model)}.get(word, place.good[1])
     place.put('good', data)
     ended = trying.called([place.varexj, *READS[word]('good')], place.path, SECONDS)
     assert ended.status == 0, ended.told()

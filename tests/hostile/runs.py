@@ -42,6 +42,7 @@ OWN = {
     'picture': ['picture-one-option'],
     'cover': ['cover-one-option', 'cover-mail'],
     'explain': ['explain-one-option', 'explain-mail'],
+    'replay': ['replay-exit', 'replay-uncaught', 'replay-with-lines'],
     'load': ['workload-summary-3-options']}
 
 # Seeds and numbers of options of `load`; the last two are refused.
@@ -49,6 +50,11 @@ LOADS = [('0', '1'), ('1', '1'), ('1', '2'), ('7', '3'), ('9', '4'), ('21', '5')
 
 # Cases of `run` that are verified, the last two refused.
 VERIFIED = ['print-an-option', 'dimacs-model', 'interface-call-splits', 'exceptions-by-configuration', 'static-call', 'link-cycle', 'no-main']
+
+
+# Cases of `run` that are replayed at the configuration of no option, the last two refused.
+REPLAYED = ['print-an-option', 'dimacs-model', 'interface-call-splits', 'exceptions-by-configuration', 'static-call', 'attempts-by-branch',
+            'initialiser-in-one-branch', 'loop-without-end-in-one-branch', 'link-cycle', 'no-main']
 
 
 def own_runs():
@@ -68,7 +74,9 @@ def report_runs():
 
 
 def other_runs():
-    """Classes verified, workloads, and the pages."""
+    """Classes verified, configurations replayed, workloads, and the pages."""
+    for case in REPLAYED:
+        yield Run(case, ['replay', *trying.case_words(case)[1:5], '-'])
     for case in VERIFIED:
         yield Run(case, ['verify', *trying.case_words(case)[1:4]])
     for words in LOADS:

@@ -85,7 +85,7 @@ def own_calls(calls, words):
 
 def shown_path(call, words):
     """What a read fault names: the folder, a path below it, or a word of the command."""
-    if words[0] not in ('run', 'verify') or call.path == words[2]:
+    if words[0] not in ('run', 'verify', 'replay') or call.path == words[2]:
         return call.path
     folder = words[1]
     is_listing = call.name in LISTS or 'O_DIRECTORY' in call.line

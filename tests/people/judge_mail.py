@@ -10,6 +10,7 @@ the texts by its own means, and finds out at each setting of the options:
 - whether each line of the cover has what it names, and nothing is left out;
 - whether an end or piece depends on an option just where `interactions` says so;
 - whether a walk along the edges of the picture leads to `always` just where a piece or end comes;
+- whether the replay has the output, the end, and the frames and lines that the Java machine had in its configuration;
 - whether the agreement holds just where the Java machine said the same of both versions.
 
 What isn't so is printed, and the status is then 1.
@@ -27,6 +28,7 @@ import check_people
 import programs
 import run_programs
 
+REPLAYED = 'MAIL,SIGN,ZIP'
 MAIL, MENDED = (next(program for program in programs.programs() if program.name == name) for name in ('mail', 'mail-mended'))
 
 
@@ -100,6 +102,15 @@ def picture_faults(report, text):
                 yield '%s %d at %s' % (kind, index, report.name_of(setting))
 
 
+def replay_faults(text, said, traces):
+    frames = ''.join('at %s %s\n' % frame for frame in re.findall(r'^at ([^(]*)\(\S* (\d+)$', text, re.M))
+    wanted = 'varexj replay 1\n' + said[REPLAYED] + 'attempts '
+    if not text.startswith(wanted) or not re.fullmatch(r'\d+\n(at \S+ \d+\n)*done\n', text[len(wanted):]):
+        yield 'what it says'
+    if 'config %s\n%s' % (REPLAYED, frames) not in re.split('(?=config )', traces):
+        yield 'its frames'
+
+
 def agreement_faults(text, said, mended):
     agreement = Report(text)
     root = int(re.search(r'^agree (\d+)$', text, re.M).group(1))
@@ -113,6 +124,8 @@ def main():
     said, mended = (dict(run_programs.expected(program)) for program in (MAIL, MENDED))
     text = read('report')
     report = Report(text)
+    with open(MAIL.place('traces'), encoding='ascii') as file:
+        traces = file.read()
     faults = {
         'report': list(report_faults(report, said)),
         'mended_report': list(report_faults(Report(read('mended_report')), mended)),
@@ -120,6 +133,7 @@ def main():
         'cover': check_people.cover_faults(text, read('cover')),
         'interactions': list(interaction_faults(report, read('interactions'))),
         'picture.dot': list(picture_faults(report, read('picture.dot'))),
+        'replay': list(replay_faults(read('replay'), said, traces)),
         'agreement': list(agreement_faults(read('agreement'), said, mended)),
     }
     for name, found in faults.items():

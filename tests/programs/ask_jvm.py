@@ -2,7 +2,7 @@
 
     python3 ask_jvm.py [NAME..]
 
-Writes the folders classes and the files expected. Wants javac and java of a release that still compiles for Java 8.
+Writes the folders classes, the files expected and, where a configuration ends by an exception, the files traces. Wants javac and java of a release that still compiles for Java 8.
 """
 
 import os
@@ -29,8 +29,21 @@ def expected(program, folder):
         file.writelines(' '.join(option) + '\n' for option in model.options if len(option) == 3)
     with open(configurations, 'w') as file:
         file.writelines(configuration + '\n' for configuration in model.configurations())
-    words = ['java', os.path.join(programs.HERE, 'Ask.java'), compiled(program), program.main(), options, configurations]
-    return subprocess.run(words, check=True, capture_output=True).stdout
+    traces = os.path.join(folder, 'traces')
+    words = ['java', os.path.join(programs.HERE, 'Ask.java'), compiled(program), program.main(), options, configurations, traces]
+    said = subprocess.run(words, check=True, capture_output=True).stdout
+    with open(traces, 'rb') as file:
+        return {'expected': said, 'traces': file.read()}
+
+
+def write(program, texts):
+    for name, text in texts.items():
+        place = program.place(name)
+        if text:
+            with open(place, 'wb') as file:
+                file.write(text)
+        elif os.path.exists(place):
+            os.remove(place)
 
 
 def main(names):
@@ -38,10 +51,9 @@ def main(names):
         if names and program.name not in names:
             continue
         with tempfile.TemporaryDirectory() as folder:
-            text = expected(program, folder)
-        with open(program.place('expected'), 'wb') as file:
-            file.write(text)
-        print(f'{program.name}: {text.count(b"config ")} configurations')
+            texts = expected(program, folder)
+        write(program, texts)
+        print(f'{program.name}: {texts["expected"].count(b"config ")} configurations')
 
 
 main(sys.argv[1:])

@@ -2,5 +2,4 @@ pub mod AttemptLaws
 pub mod Ends
 pub mod HeldLaws
 pub mod OperandLaws
-pub mod Pairs
 pub mod RowLaws

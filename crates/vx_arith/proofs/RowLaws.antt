@@ -18,8 +18,9 @@ use Rattle.vx_opcode.specs.Numbers.{s4}
 use Rattle.vx_group_states.specs.Answering.{answered}
 use Rattle.vx_group_states.specs.declared.answer.Answer.{Answer}
 use Rattle.vx_arith.specs.Family.{divides, takes_one, takes_two}
-use Rattle.vx_arith.specs.Numbers.{branch_by, int_or, jump_by, long_or, of_one, of_top, of_top_two, of_two, pair_jump, table_jump}
+use Rattle.vx_arith.specs.Numbers.{branch_by, int_or, jump_by, long_or, of_one, of_top, of_top_two, of_two}
 use Rattle.vx_arith.specs.Raising.{IsByZero}
+use Rattle.vx_switches.specs.Switches.{pair_jump, table_jump}
 use Rattle.vx_arith.specs.declared.spot.Spot.{Spot}
 
 -- the spot is that of the instruction

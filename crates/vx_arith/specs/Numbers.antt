@@ -1,15 +1,15 @@
 -- What the instructions of numbers and the jumps make of plain operands.
 use Rattle.std.specs.Int.{w32, w64}
-use Rattle.std.specs.Prelude.{Bool, true, false, List, None, Option, Some, if◌then◌else◌, int_le, nat_abs, not, pos, suc, zero, ℕ, ℤ, ◌&&◌, ◌*◌, ◌+ℤ◌, ◌+◌, ◌-ℤ◌, [], ◌∷◌}
+use Rattle.std.specs.Prelude.{Bool, true, false, List, None, Option, Some, not, pos, ℕ, ℤ, ◌+ℤ◌, ◌+◌, [], ◌∷◌}
 use Rattle.vx_java.specs.Jumps.{passes}
 use Rattle.vx_java.specs.declared.operation.Operation.{Operation}
 use Rattle.vx_java.specs.declared.operation.Operation.TheVariants.{Goto, IfInt, IfInts, IfNull, IntArithmetic, IntNarrow, IntNegate, IntShift, IntToLong, LongArithmetic, LongCompare, LongNegate, LongShift, LongToInt, SwitchLookup, SwitchTable}
-use Rattle.vx_opcode.specs.Numbers.{s4}
 use Rattle.vx_group_states.specs.declared.answer.Answer.{Answer}
 use Rattle.vx_group_states.specs.declared.answer.Answer.TheVariants.{Illegal, Jump, Push}
-use Rattle.vx_value.specs.Arithmetic.{compare_long_of, int_op_of, long_op_of, long_to_int, narrow_of, natural, negation, same_int, shift_int_of, shift_long_of}
+use Rattle.vx_value.specs.Arithmetic.{compare_long_of, int_op_of, long_op_of, long_to_int, narrow_of, natural, negation, shift_int_of, shift_long_of}
 use Rattle.vx_value.specs.declared.slot.Slot.{Slot}
 use Rattle.vx_value.specs.declared.slot.Slot.TheVariants.{Int, Long, Null, Ref}
+use Rattle.vx_switches.specs.Switches.{pair_jump, table_jump}
 use Rattle.vx_arith.specs.declared.spot.Spot.{Spot}
 
 -- ---- positions
@@ -30,17 +30,6 @@ jump_by spot offset = Jump (target_of spot offset)
 abbrev pub branch_by : Spot → Bool → ℤ → Answer
 branch_by spot true offset = jump_by spot offset
 branch_by spot false offset = Jump (spot.position + spot.size)
-
--- the jump of a key in a table, whose jumps stand from the place first on
-abbrev pub table_jump : List ℕ → (fallback low high : ℤ) → (first : ℕ) → (key : ℤ) → ℤ
-table_jump code fallback low high first key =
-    if int_le low key && int_le key high then s4 code (first + 4 * nat_abs (key -ℤ low)) else fallback
-
--- the jump of the first pair of a key; the pairs stand from the place first on
-abbrev pub pair_jump : List ℕ → (key fallback : ℤ) → (pairs first : ℕ) → ℤ
-pair_jump code key fallback zero first = fallback
-pair_jump code key fallback (suc pairs) first =
-    elim (same_int (s4 code first) key) [ true ↦ s4 code (first + 4) | false ↦ pair_jump code key fallback pairs (first + 8) ]
 
 -- ---- one operand
 

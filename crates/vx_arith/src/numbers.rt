@@ -4,7 +4,7 @@ ghost use Rattle.std.specs.Prelude.{◌≡◌};
 ghost use Rattle.vx_arith.specs.Numbers.{int_or, long_or, of_int, of_ints, of_long, of_longs, of_mixed, of_one, of_reference, of_two};
 ghost use Rattle.vx_java.specs.Jumps.{passes};
 
-use crate::jumping::{branch_by, jump_by, pair_jump, table_jump};
+use crate::jumping::{branch_by, jump_by};
 use crate::spot::Spot;
 use vx_group_states::Answer;
 use vx_java::{Operation, Test};
@@ -12,6 +12,7 @@ use vx_numbers::{
     compare_long, int_op, long_op, long_to_int, narrow, negate_int, negate_long, shift_int,
     shift_long,
 };
+use vx_switches::{pair_jump, table_jump};
 use vx_value::Slot;
 
 /// Whether two ints pass a test.

@@ -1,6 +1,6 @@
 //! Marks of ids.
 
-ghost use Rattle.std.specs.Prelude.{◌≡◌, ℕ, true, false, OnOk, if◌then◌else◌, nat_eq, slice_index_or};
+ghost use Rattle.std.specs.Prelude.{◌≡◌, ℕ, [], true, false, OnOk, if◌then◌else◌, nat_eq, slice_index_or};
 ghost use Rattle.std.proofs.Props.{props};
 ghost use Rattle.vx_bdd.specs.Stamps.{has_stamp, AreUpTo};
 
@@ -17,7 +17,10 @@ pub struct Marks {
 #[tactic(auto, using(crate::proofs::StampLaws::stamp_laws))]
 impl Marks {
     /// No marks, and no memory.
-    pub fn new(alloc: Global) -> Marks {
+    pub fn new(alloc: Global) -> Marks
+        ensures stamps { result.stamps.items ≡ [] }
+        ensures current { result.current ≡ 0 }
+    {
         Marks {
             stamps: Vec::new(alloc),
             current: 0,

@@ -2,6 +2,7 @@
 use Rattle.std.proofs.Common.{◌≡◌, ℕ, List, IfSome, Ok, Some, ap, sym, subst, ◌∙◌}
 use Rattle.vx_io.specs.Held.{FilesState, Held, contents}
 use Rattle.vx_io.specs.Sink.{Gains, SinkState}
+use Rattle.vx_class.specs.Class.{class_of}
 use Rattle.vx_agree.proofs.Agreeing.{one_agreement_text}
 use Rattle.vx_agree.specs.Text.{IsAgreementText}
 use Rattle.vx_model.specs.Models as models
@@ -14,20 +15,22 @@ use Rattle.vx_report_reader.specs.Rules.{ReportText}
 use Rattle.vx_reporting.proofs.OneText.{one_text}
 use Rattle.vx_reporting.specs.Reported.{IsReported}
 use Rattle.vx_summary.specs.Summary.{summary_text}
-use Rattle.vx_cli.specs.Causes.{AreClasses, HasOneResult, IsAgreeing, IsProjection, IsReport, IsResult, IsShown, IsTold, IsVerification}
-use Rattle.vx_cli.specs.Command.{Agree, Asm, Command, Load, Project, Run, Show, Tell, Verify}
+use Rattle.vx_cli.specs.Causes.{AreClasses, AreGiven, HasOneResult, IsAgreeing, IsProjection, IsReplaying, IsReport, IsResult, IsShown, IsTold, IsVerification}
+use Rattle.vx_cli.specs.Command.{Agree, Asm, Command, Load, Project, Replay, Run, Show, Tell, Verify}
 use Rattle.vx_cli.specs.Ends.{Ends}
 use Rattle.vx_cli.specs.Job.{names_of, program_in}
 use Rattle.vx_cli.specs.Load.{IsSummary, load_limit, load_model, load_program}
 use Rattle.vx_cli.specs.PlanOf.{plan_of}
 use Rattle.vx_cli.specs.Project.{projected}
+use Rattle.vx_cli.specs.Replay.{allowed_at, run_text, traced_program}
 use Rattle.vx_cli.specs.Run.{class_paths}
+use Rattle.vx_cli.specs.Traced.{traced_of}
 use Rattle.vx_cli.specs.Verdicts.{IsVerdictText}
 use Rattle.vx_cli.specs.declared.status.Status.{Status}
 use Rattle.vx_cli.specs.declared.status.Status.TheVariants.{Done}
+use Rattle.vx_cli.proofs.FolderShown.{same_given}
 use Rattle.vx_cli.proofs.Judging.{one_verdict_text}
 use Rattle.vx_cli.proofs.OneListing.{one_listing}
-use Rattle.vx_cli.proofs.RunShown.{same_classes}
 use Rattle.vx_cli.proofs.Shown.{call_shows}
 use Rattle.vx_cli.proofs.Told.{same_value}
 
@@ -37,7 +40,7 @@ one_report held folder path main limit version one other h k =
     let model : h.model ≡ k.model = same_value h.model k.model _ h.modeled.spelled.reads k.modeled.spelled.reads in
     let listing = one_listing held folder h.all.listed.listing k.all.listed.listing h.all.listed.listed k.all.listed.listed in
     let paths : h.paths ≡ k.paths = h.all.listed.classes ∙ ap class_paths listing ∙ sym k.all.listed.classes in
-    let classes : h.classes ≡ k.classes = same_classes held folder h.paths h.classes k.classes h.all.good (subst (λ p. AreClasses held folder p k.classes) (sym paths) k.all.good) in
+    let classes : h.classes ≡ k.classes = same_given class_of held folder h.paths h.classes k.classes h.all.good (subst (λ p. AreClasses held folder p k.classes) (sym paths) k.all.good) in
     let program : h.reported.program ≡ k.reported.program = same_value h.reported.program k.reported.program (program_in main h.model h.classes) h.reported.is_program
     (subst (λ c. program_in main h.model c ≡ Ok k.reported.program) (sym classes) (subst (λ m. program_in main m k.classes ≡ Ok k.reported.program) (sym model) k.reported.is_program)) in
     one_text version (names_of h.model) limit (is_allowed h.model) h.reported.program one other h.reported.is_report
@@ -49,10 +52,23 @@ one_verification held folder path main one other h k =
     let model : h.model ≡ k.model = same_value h.model k.model _ h.modeled.reads k.modeled.reads in
     let listing = one_listing held folder h.all.listed.listing k.all.listed.listing h.all.listed.listed k.all.listed.listed in
     let paths : h.paths ≡ k.paths = h.all.listed.classes ∙ ap class_paths listing ∙ sym k.all.listed.classes in
-    let classes : h.classes ≡ k.classes = same_classes held folder h.paths h.classes k.classes h.all.good (subst (λ p. AreClasses held folder p k.classes) (sym paths) k.all.good) in
+    let classes : h.classes ≡ k.classes = same_given class_of held folder h.paths h.classes k.classes h.all.good (subst (λ p. AreClasses held folder p k.classes) (sym paths) k.all.good) in
     let program : h.judged.program ≡ k.judged.program = same_value h.judged.program k.judged.program (program_in main h.model h.classes) h.judged.is_program
     (subst (λ c. program_in main h.model c ≡ Ok k.judged.program) (sym classes) (subst (λ m. program_in main m k.classes ≡ Ok k.judged.program) (sym model) k.judged.is_program)) in
     one_verdict_text h.judged.program one other h.judged.is_text (subst (λ p. IsVerdictText p other) (sym program) k.judged.is_text)
+
+-- and so the same run of one configuration
+one_replay : (held : Held) (folder path main : List ℕ) (limit : ℕ) (word one other : List ℕ) → IsReplaying held folder path main limit word one → IsReplaying held folder path main limit word other → one ≡ other
+one_replay held folder path main limit word one other h k =
+    let model : h.model ≡ k.model = same_value h.model k.model _ h.modeled.reads k.modeled.reads in
+    let configuration : h.configuration ≡ k.configuration = same_value h.configuration k.configuration (allowed_at h.model word) h.allowed (subst (λ m. allowed_at m word ≡ Ok k.configuration) (sym model) k.allowed) in
+    let listing = one_listing held folder h.all.listed.listing k.all.listed.listing h.all.listed.listed k.all.listed.listed in
+    let paths : h.paths ≡ k.paths = h.all.listed.classes ∙ ap class_paths listing ∙ sym k.all.listed.classes in
+    let traced : h.traced ≡ k.traced = same_given traced_of held folder h.paths h.traced k.traced h.all.good (subst (λ p. AreGiven traced_of held folder p k.traced) (sym paths) k.all.good) in
+    let program : h.replayed.program ≡ k.replayed.program = same_value h.replayed.program k.replayed.program (traced_program main h.model h.traced) h.replayed.is_program
+    (subst (λ t. traced_program main h.model t ≡ Ok k.replayed.program) (sym traced) (subst (λ m. traced_program main m k.traced ≡ Ok k.replayed.program) (sym model) k.replayed.is_program)) in
+    let texts : run_text limit h.configuration h.traced h.replayed.program ≡ run_text limit k.configuration k.traced k.replayed.program = λ i. run_text limit (configuration i) (traced i) (program i) in
+    h.replayed.is_text ∙ texts ∙ sym k.replayed.is_text
 
 one_projection : (held : Held) (path word one other : List ℕ) → IsProjection held path word one → IsProjection held path word other → one ≡ other
 one_projection held path word one other h k =
@@ -87,6 +103,7 @@ one_result held (Agree path against) one other p h k = one_agreeing held path ag
 one_result held (Asm path) one other p h k = same_value one other _ h.is_text k.is_text
 one_result held (Load seed options) one other p h k = one_summary seed options one other h k
 one_result held (Verify folder path main) one other p h k = one_verification held folder path main one other h k
+one_result held (Replay folder path main limit word) one other p h k = one_replay held folder path main limit word one other h k
 one_result held (Show page) one other p h k = h ∙ sym k
 
 -- a call that is done has written each text that its command asks for, of which there is one

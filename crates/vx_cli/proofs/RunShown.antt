@@ -1,11 +1,8 @@
 -- What the plan of `run` gave shows in terms of the files.
-use Rattle.std.proofs.Common.{◌≡◌, ◌≤◌, ◌<◌, ℕ, Bool, true, false, List, [], ◌∷◌, ◌++◌, length, filter, cond, IfSome, None, Some, Result, Ok, Err, inl, inr, ◌⊎◌, refl, ap, sym, ◌∙◌, arith, append-nil, append_assoc}
-use Rattle.std.specs.Prelude.{IsTrue}
-use Rattle.std.specs.List.{AllByRecursion}
+use Rattle.std.proofs.Common.{◌≡◌, ◌≤◌, ◌<◌, ℕ, true, false, List, ◌∷◌, ◌++◌, length, IfSome, None, Some, Result, Ok, Err, inl, inr, ◌⊎◌, refl, ap, sym, ◌∙◌, arith}
 use Rattle.vx_io.specs.Call.{Reading}
 use Rattle.vx_io.specs.Held.{Held, FilesState, contents}
 use Rattle.vx_io.specs.Sink.{SinkState}
-use Rattle.vx_cursor.specs.Reading.{Fault}
 use Rattle.vx_class.specs.declared.class_file.ClassFile.{ClassFile}
 use Rattle.vx_class.specs.Class.{class_of}
 use Rattle.vx_model.specs.declared.model.Model.{Model}
@@ -16,123 +13,14 @@ use Rattle.vx_link.specs.declared.fault.LinkFault.{LinkFault}
 use Rattle.vx_link.specs.declared.program.Program.{Program}
 use Rattle.vx_cli.specs.declared.status.Status.{Status}
 use Rattle.vx_cli.specs.declared.status.Status.TheVariants.{Done, NoMemory, ReadFault, WriteFault, BadModel, NoConfiguration, BadClass, BadLink, TooLarge}
-use Rattle.vx_cli.specs.Causes.{HasClasses, IsReached, IsModelOf, IsGoodModel, IsNotLinked, AreAll, class_bytes, AreClasses, InputCause, RunCause, Shows, IsShown, IsGood, NothingFails}
+use Rattle.vx_cli.specs.Causes.{HasClasses, IsReached, IsModelOf, IsGoodModel, IsNotLinked, AreAll, class_bytes, InputCause, RunCause, Shows, IsShown, IsGood, NothingFails}
 use Rattle.vx_cli.specs.Command.{Run}
-use Rattle.vx_cli.specs.Job.{is_class_path, model_of, or_bad_link, or_bad_model, program_in, slashed, spelled_model, Report}
+use Rattle.vx_cli.specs.Job.{model_of, or_bad_link, or_bad_model, program_in, slashed, spelled_model, Report}
 use Rattle.vx_cli.specs.Plan.{Plan, MayGive, Write, If_allowed, AllowsSome, AllowsNone, attempt}
-use Rattle.vx_cli.specs.Run.{read_classes, read_model, read_folder, run_classes, run_plan, class_in, or_bad_class, most_classes, place_of, class_paths}
-use Rattle.vx_cli.specs.Sized.{most_bytes, too_large}
-use Rattle.vx_cli.proofs.Told.{told_map, told_both, unless_cases, large_cases, IsText, SizedShows, sized_shows, attempt_cases, ok_and_err, same_value}
-
--- ---- the class files
-
-all_filter : {X : Type 0} (p : X → Bool) (xs : List X) → AllByRecursion (λ x. IsTrue (p x)) (filter p xs)
-all_filter p [] = tt
-all_filter p (x ∷ xs) = by_test (p x) refl (all_filter p xs)
-  where
-    by_test : (b : Bool) → p x ≡ b → AllByRecursion (λ y. IsTrue (p y)) (filter p xs) → AllByRecursion (λ y. IsTrue (p y)) (cond b (x ∷ filter p xs) (filter p xs))
-    by_test true e h = (e, h)
-    by_test false e h = h
-
--- the class files so far, and those that are left
-record SoFar (held : Held) (folder : List ℕ) (done paths : List (List ℕ)) (classes : List ClassFile) : Type 0 where
-  all : HasClasses held folder (done ++ paths)
-  good : AreClasses held folder done classes
-
-reached : (held : Held) (folder path : List ℕ) (done paths : List (List ℕ)) (classes : List ClassFile) → SoFar held folder done (path ∷ paths) classes → IsReached held folder path
-reached held folder path done paths classes h = record { before = done; after = paths; listed = h.all; classes = classes; good = h.good }
-
-are_more : (held : Held) (folder path : List ℕ) (class : ClassFile) (done : List (List ℕ)) (classes : List ClassFile) → AreClasses held folder done classes → length (class_bytes held folder path) ≤ most_bytes → class_of (class_bytes held folder path) ≡ Ok class
-    → AreClasses held folder (done ++ path ∷ []) (classes ++ class ∷ [])
-are_more held folder path class [] [] h fits reads = (fits, reads, tt)
-are_more held folder path class [] (c ∷ classes) h fits reads = absurd h
-are_more held folder path class (p ∷ done) [] h fits reads = absurd h
-are_more held folder path class (p ∷ done) (c ∷ classes) h fits reads = (h.0, h.1, are_more held folder path class done classes h.2 fits reads)
-
-further : (held : Held) (folder path bytes : List ℕ) (class : ClassFile) (done paths : List (List ℕ)) (classes : List ClassFile) → SoFar held folder done (path ∷ paths) classes
-    → (length (class_bytes held folder path) ≤ most_bytes) × (bytes ≡ class_bytes held folder path) → class_of bytes ≡ Ok class
-    → SoFar held folder (done ++ path ∷ []) paths (classes ++ class ∷ [])
-further held folder path bytes class done paths classes h b reads = record {
-  all = rw append_assoc h.all;
-  good = are_more held folder path class done classes h.good b.0 (ap class_of (sym b.1) ∙ reads);
-}
-
-abbrev ClassesShow : FilesState → FilesState → List ℕ → List ℕ → List (List ℕ) → (List ClassFile → Plan) → Result (List ℕ) Status → Type 0
-ClassesShow old new folder model all next outcome =
-    ((status : Status) × (outcome ≡ Err status) × InputCause old new folder model status)
-    ⊎ ((classes : List ClassFile) × IfSome old.held (λ held. SoFar held folder all [] classes) × MayGive old.held old.faults new.faults (next classes) outcome)
-
-a_class : (path bytes : List ℕ) (class : ClassFile) → class_in path bytes ≡ Ok class → class_of bytes ≡ Ok class
-a_class path bytes class e = by_case (class_of bytes) e
-  where
-    by_case : (r : Result ClassFile Fault) → or_bad_class path r ≡ Ok class → r ≡ Ok class
-    by_case (Ok c) e = let k : c ≡ class = cc in ap Ok k
-    by_case (Err fault) e = cc
-
-a_bad_class : (path bytes : List ℕ) (status : Status) → class_in path bytes ≡ Err status → (at : ℕ) × (reason : ℕ) × (class_of bytes ≡ Err (record { at = at; reason = reason })) × (status ≡ BadClass path at reason)
-a_bad_class path bytes status e = by_case (class_of bytes) e
-  where
-    by_case : (r : Result ClassFile Fault) → or_bad_class path r ≡ Err status → (at : ℕ) × (reason : ℕ) × (r ≡ Err (record { at = at; reason = reason })) × (status ≡ BadClass path at reason)
-    by_case (Ok c) e = cc
-    by_case (Err fault) e = (fault.at, fault.reason, refl, cc)
-
--- reading on from here shows what a plan gave
-abbrev Continues : FilesState → FilesState → List ℕ → List ℕ → List (List ℕ) → (List ClassFile → Plan) → List (List ℕ) → List (List ℕ) → List ClassFile → Result (List ℕ) Status → Type 0
-Continues old new folder model all next paths done classes outcome =
-    IfSome old.held (λ held. SoFar held folder done paths classes) → AllByRecursion (λ path. IsTrue (is_class_path path)) paths
-    → MayGive old.held old.faults new.faults (read_classes folder next classes paths) outcome → ClassesShow old new folder model all next outcome
-
-classes_show : (old new : FilesState) (folder model : List ℕ) (all : List (List ℕ)) (next : List ClassFile → Plan) (paths done : List (List ℕ)) (classes : List ClassFile) (outcome : Result (List ℕ) Status) → all ≡ done ++ paths
-    → IfSome old.held (λ held. SoFar held folder done paths classes) → AllByRecursion (λ path. IsTrue (is_class_path path)) paths
-    → MayGive old.held old.faults new.faults (read_classes folder next classes paths) outcome → ClassesShow old new folder model all next outcome
-classes_show old new folder model all next [] done classes outcome is told named g = inr (classes, rw (is ∙ append-nil done) told, g)
-classes_show old new folder model all next (path ∷ paths) done classes outcome is told named g =
-    by_file (λ class. classes_show old new folder model all next paths (done ++ path ∷ []) (classes ++ class ∷ []) outcome (is ∙ sym (append_assoc done (path ∷ []) paths)))
-    (sized_shows old new most_bytes (place_of folder path) path _ outcome g)
-  where
-    by_test : (bytes : List ℕ) → IfSome old.held (λ held. (length (class_bytes held folder path) ≤ most_bytes) × (bytes ≡ class_bytes held folder path)) → ((class : ClassFile) → Continues old new folder model all next paths (done ++ path ∷ []) (classes ++ class ∷ []) outcome)
-        → ((status : Status) × (class_in path bytes ≡ Err status) × (outcome ≡ Err status)) ⊎ ((class : ClassFile) × (class_in path bytes ≡ Ok class) × MayGive old.held old.faults new.faults (read_classes folder next (classes ++ class ∷ []) paths) outcome)
-        → ClassesShow old new folder model all next outcome
-    by_test bytes is rest (inl bad) =
-        let b = a_bad_class path bytes bad.0 bad.1 in
-        inl (BadClass path b.0 b.1, bad.2 ∙ ap Err b.3, told_both old.held _ _ _ (λ held h k. (reached held folder path done paths classes h, ap class_of (sym k.1) ∙ b.2)) told is)
-    by_test bytes is rest (inr good) =
-        rest good.0 (told_both old.held _ _ _ (λ held h k. further held folder path bytes good.0 done paths classes h k (a_class path bytes good.0 good.1)) told is) named.1 good.2
-
-    by_file : ((class : ClassFile) → Continues old new folder model all next paths (done ++ path ∷ []) (classes ++ class ∷ []) outcome)
-        → SizedShows old new most_bytes (place_of folder path) path (λ bytes. attempt (class_in path bytes) (λ class. read_classes folder next (classes ++ class ∷ []) paths)) outcome → ClassesShow old new folder model all next outcome
-    by_file rest (inl (inl fault)) = inl (ReadFault path, fault.1, inr (inr (named.0, fault.0, told_map old.held _ _ (λ held h. reached held folder path done paths classes h) told)))
-    by_file rest (inl (inr large)) = inl (TooLarge path most_bytes, large.1, inr (inr (refl, told_both old.held _ _ _ (λ held h k. (reached held folder path done paths classes h, k)) told large.0)))
-    by_file rest (inr read) = by_test read.0 read.1 rest (attempt_cases old.held old.faults new.faults (class_in path read.0) _ outcome read.2)
-
--- ---- the folder
-
-abbrev pub FolderShows : FilesState → FilesState → List ℕ → List ℕ → (List ClassFile → Plan) → Result (List ℕ) Status → Type 0
-FolderShows old new folder model next outcome =
-    ((status : Status) × (outcome ≡ Err status) × InputCause old new folder model status)
-    ⊎ ((paths : List (List ℕ)) × (classes : List ClassFile) × IfSome old.held (λ held. AreAll held folder paths classes) × MayGive old.held old.faults new.faults (next classes) outcome)
-
--- a listing has one length
-pub folder_shows : (old new : FilesState) (folder model : List ℕ) (next : List ClassFile → Plan) (outcome : Result (List ℕ) Status)
-    → MayGive old.held old.faults new.faults (read_folder folder next) outcome → FolderShows old new folder model next outcome
-folder_shows old new folder model next outcome (inl fault) = inl (ReadFault folder, fault.1, inr (inl (refl, fault.0)))
-folder_shows old new folder model next outcome (inr g) = by_size (unless_cases old.held old.faults new.faults (too_large folder most_classes (length (class_paths g.0))) _ outcome g.2) (large_cases folder most_classes (length (class_paths g.0)))
-  where
-    start : IfSome old.held (λ held. SoFar held folder [] (class_paths g.0) [])
-    start = told_map old.held _ _ (λ held h. record { all = record { listing = g.0; listed = h; classes = refl }; good = tt }) g.1
-
-    by_size : ((status : Status) × (too_large folder most_classes (length (class_paths g.0)) ≡ Some status) × (outcome ≡ Err status)) ⊎ ((too_large folder most_classes (length (class_paths g.0)) ≡ None) × MayGive old.held old.faults new.faults (read_classes folder next [] (class_paths g.0)) outcome)
-        → ((too_large folder most_classes (length (class_paths g.0)) ≡ None) × (length (class_paths g.0) ≤ most_classes)) ⊎ ((too_large folder most_classes (length (class_paths g.0)) ≡ Some (TooLarge folder most_classes)) × (most_classes < length (class_paths g.0)))
-        → FolderShows old new folder model next outcome
-    by_size (inl refused) (inl fits) = cc
-    by_size (inl refused) (inr large) =
-        inl (TooLarge folder most_classes, (let e : refused.0 ≡ TooLarge folder most_classes = cc in refused.2 ∙ ap Err e), inr (inl (refl, refl, told_map old.held _ _ (λ held h. (class_paths g.0, record { listing = g.0; listed = h; classes = refl }, large.1)) g.1)))
-    by_size (inr goes) (inr large) = cc
-    by_size (inr goes) (inl fits) = by_classes (classes_show old new folder model (class_paths g.0) next (class_paths g.0) [] [] outcome refl start (all_filter is_class_path g.0) goes.1)
-      where
-        by_classes : ClassesShow old new folder model (class_paths g.0) next outcome → FolderShows old new folder model next outcome
-        by_classes (inl refused) = inl refused
-        by_classes (inr read) = inr (class_paths g.0, read.0, told_map old.held _ _ (λ held h. record { listed = (rw append-nil at h.all); few = fits.1; good = h.good }) read.1, read.2)
+use Rattle.vx_cli.specs.Run.{read_model, read_folder, run_classes, run_plan, most_classes}
+use Rattle.vx_cli.specs.Sized.{most_bytes}
+use Rattle.vx_cli.proofs.FolderShown.{FolderShows, class_at, classes_alone, folder_shows, same_given}
+use Rattle.vx_cli.proofs.Told.{told_map, told_both, IsText, SizedShows, sized_shows, attempt_cases, ok_and_err, same_value}
 
 -- ---- the model
 
@@ -230,33 +118,13 @@ run_shows old new folder path main limit version outcome g = by_model (model_sho
           reported = record { program = good.0; is_program = good.1; is_report = written.1 };
         }) modeled all)
 
-    by_folder : (model : Model) → IfSome old.held (λ held. IsGoodModel held path model) → FolderShows old new folder path (run_classes main limit version model) outcome → Shows old new (Run folder path main limit version) outcome
+    by_folder : (model : Model) → IfSome old.held (λ held. IsGoodModel held path model) → FolderShows class_of old new folder path (run_classes main limit version model) outcome → Shows old new (Run folder path main limit version) outcome
     by_folder model modeled (inl stop) = refused stop.0 stop.1 (run_cause old new folder path main stop.0 stop.2)
     by_folder model modeled (inr read) = by_program model read.0 read.1 modeled read.2 (attempt_cases old.held old.faults new.faults (program_in main model read.1) _ outcome read.3)
 
-    by_model : ModelShows old new folder path main (λ model. read_folder folder (run_classes main limit version model)) outcome → Shows old new (Run folder path main limit version) outcome
+    by_model : ModelShows old new folder path main (λ model. read_folder class_of folder (run_classes main limit version model)) outcome → Shows old new (Run folder path main limit version) outcome
     by_model (inl stop) = refused stop.0 stop.1 stop.2
-    by_model (inr modeled) = by_folder modeled.0 modeled.1 (folder_shows old new folder path (run_classes main limit version modeled.0) outcome modeled.2)
-
--- the class of a file among those that spell classes
-pub class_at : (held : Held) (folder path : List ℕ) (before after : List (List ℕ)) (classes : List ClassFile) → AreClasses held folder (before ++ path ∷ after) classes
-    → (length (class_bytes held folder path) ≤ most_bytes) × ((class : ClassFile) × (class_of (class_bytes held folder path) ≡ Ok class))
-class_at held folder path [] after [] h = absurd h
-class_at held folder path [] after (c ∷ classes) h = (h.0, (c, h.1))
-class_at held folder path (p ∷ before) after [] h = absurd h
-class_at held folder path (p ∷ before) after (c ∷ classes) h = class_at held folder path before after classes h.2
-
--- files spell one list of classes
-pub same_classes : (held : Held) (folder : List ℕ) (paths : List (List ℕ)) (a b : List ClassFile) → AreClasses held folder paths a → AreClasses held folder paths b → a ≡ b
-same_classes held folder [] [] [] h k = refl
-same_classes held folder [] [] (c ∷ b) h k = absurd k
-same_classes held folder [] (c ∷ a) b h k = absurd h
-same_classes held folder (p ∷ paths) [] b h k = absurd h
-same_classes held folder (p ∷ paths) (c ∷ a) [] h k = absurd k
-same_classes held folder (p ∷ paths) (c ∷ a) (d ∷ b) h k =
-    let e : Ok c ≡ Ok d = sym h.1 ∙ k.1 in
-    let same : c ≡ d = cc in
-    rw (same, same_classes held folder paths a b h.2 k.2)
+    by_model (inr modeled) = by_folder modeled.0 modeled.1 (folder_shows class_of (λ class. class) classes_alone old new folder path (run_classes main limit version modeled.0) outcome modeled.2)
 
 -- a run over good files, in which nothing fails, is done
 pub run_completes : (old new : FilesState) (out out' : SinkState) (folder model main : List ℕ) (limit version : ℕ) (held : Held) (status : Status) → old.held ≡ Some held → IsGood held (Run folder model main limit version) → NothingFails held old new out out' (Run folder model main limit version)
@@ -273,7 +141,7 @@ run_completes old new out out' folder model main limit version held status told 
     not_linked fault h =
         let n = good.2 h.paths h.all.listed in
         let m : h.model ≡ good.0 = same_value h.model good.0 _ h.modeled.spelled.reads good.1.spelled.reads in
-        let classes : h.classes ≡ n.0 = same_classes held folder h.paths h.classes n.0 h.all.good n.1.good in
+        let classes : h.classes ≡ n.0 = same_given class_of held folder h.paths h.classes n.0 h.all.good n.1.good in
         ok_and_err n.2.0 (BadLink fault) (program_in main h.model h.classes) (rw (m, classes) n.2.1) (faulty_program main h.model h.classes fault h.faulty)
 
     bad_model : (s : Status) → IfSome old.held (λ held. (length (contents held model) ≤ most_bytes) × (model_of model (contents held model) ≡ Err s)) → ⊥

@@ -18,17 +18,18 @@ use Rattle.vx_cli.specs.Plan.{Plan, MayGive, Write, attempt}
 use Rattle.vx_cli.specs.Run.{most_classes, read_folder}
 use Rattle.vx_cli.specs.Sized.{most_bytes}
 use Rattle.vx_cli.specs.Verify.{judge_classes, read_any_model, verify_plan}
-use Rattle.vx_cli.proofs.RunShown.{FolderShows, class_at, faulty_program, folder_shows, model_refused, refused_program, same_classes}
+use Rattle.vx_cli.proofs.FolderShown.{FolderShows, class_at, classes_alone, folder_shows, same_given}
+use Rattle.vx_cli.proofs.RunShown.{faulty_program, model_refused, refused_program}
 use Rattle.vx_cli.proofs.Told.{told_map, told_both, IsText, SizedShows, sized_shows, attempt_cases, ok_and_err, same_value}
 
 -- ---- the model
 
-abbrev ModelShows : FilesState → FilesState → List ℕ → List ℕ → (Model → Plan) → Result (List ℕ) Status → Type 0
+abbrev pub ModelShows : FilesState → FilesState → List ℕ → List ℕ → (Model → Plan) → Result (List ℕ) Status → Type 0
 ModelShows old new folder path next outcome =
     ((status : Status) × (outcome ≡ Err status) × InputCause old new folder path status)
     ⊎ ((model : Model) × IfSome old.held (λ held. IsModelOf held path model) × MayGive old.held old.faults new.faults (next model) outcome)
 
-model_shows : (old new : FilesState) (folder path : List ℕ) (next : Model → Plan) (outcome : Result (List ℕ) Status)
+pub model_shows : (old new : FilesState) (folder path : List ℕ) (next : Model → Plan) (outcome : Result (List ℕ) Status)
     → MayGive old.held old.faults new.faults (read_any_model path next) outcome → ModelShows old new folder path next outcome
 model_shows old new folder path next outcome g = by_file (sized_shows old new most_bytes path path _ outcome g)
   where
@@ -51,7 +52,7 @@ model_shows old new folder path next outcome g = by_file (sized_shows old new mo
 -- ---- the whole
 
 -- what refuses the files of any command that links them refuses them here
-input_cause : (old new : FilesState) (folder model main : List ℕ) (status : Status) → InputCause old new folder model status → VerifyCause old new folder model main status
+pub input_cause : (old new : FilesState) (folder model main : List ℕ) (status : Status) → InputCause old new folder model status → VerifyCause old new folder model main status
 input_cause old new folder model main (BadLink fault) cause = absurd cause
 input_cause old new folder model main status cause = cause
 
@@ -80,21 +81,21 @@ verify_shows old new folder path main outcome g = by_model (model_shows old new 
           paths = paths;
           classes = classes;
           all = h;
-          judged = record { program = good.0; is_program = good.1; is_text = written.1 };
+          judged = record { program = good.0; is_program = good.1; is_text = written.1.0; sound = written.1.1 };
         }) modeled all)
 
-    by_folder : (model : Model) → IfSome old.held (λ held. IsModelOf held path model) → FolderShows old new folder path (judge_classes main model) outcome → Shows old new (Verify folder path main) outcome
+    by_folder : (model : Model) → IfSome old.held (λ held. IsModelOf held path model) → FolderShows class_of old new folder path (judge_classes main model) outcome → Shows old new (Verify folder path main) outcome
     by_folder model modeled (inl stop) = refused stop.0 stop.1 (input_cause old new folder path main stop.0 stop.2)
     by_folder model modeled (inr read) = by_program model read.0 read.1 modeled read.2 (attempt_cases old.held old.faults new.faults (program_in main model read.1) _ outcome read.3)
 
-    by_model : ModelShows old new folder path (λ model. read_folder folder (judge_classes main model)) outcome → Shows old new (Verify folder path main) outcome
+    by_model : ModelShows old new folder path (λ model. read_folder class_of folder (judge_classes main model)) outcome → Shows old new (Verify folder path main) outcome
     by_model (inl stop) = refused stop.0 stop.1 (input_cause old new folder path main stop.0 stop.2)
-    by_model (inr modeled) = by_folder modeled.0 modeled.1 (folder_shows old new folder path (judge_classes main modeled.0) outcome modeled.2)
+    by_model (inr modeled) = by_folder modeled.0 modeled.1 (folder_shows class_of (λ class. class) classes_alone old new folder path (judge_classes main modeled.0) outcome modeled.2)
 
--- a verdict over good files, in which nothing fails, is given
-pub verify_completes : (old new : FilesState) (out out' : SinkState) (folder model main : List ℕ) (held : Held) (status : Status) → old.held ≡ Some held → IsGood held (Verify folder model main) → NothingFails held old new out out' (Verify folder model main)
-    → IsShown old new out out' (Verify folder model main) status → (status ≡ Done) ⊎ (status ≡ NoMemory)
-verify_completes old new out out' folder model main held status told good fails shown = by_status status shown
+-- nothing refuses good files, where nothing fails
+pub no_cause : (old new : FilesState) (out out' : SinkState) (folder model main : List ℕ) (held : Held) (status : Status) → old.held ≡ Some held → IsGood held (Verify folder model main) → NothingFails held old new out out' (Verify folder model main)
+    → VerifyCause old new folder model main status → ⊥
+no_cause old new out out' folder model main held status told good fails cause = by_status status cause
   where
     here : (P : Held → Type 0) → IfSome old.held P → P held
     here P h = rw told at h
@@ -106,31 +107,39 @@ verify_completes old new out out' folder model main held status told good fails 
     linked fault h =
         let n = good.2 h.paths h.all.listed in
         let m : h.model ≡ good.0 = same_value h.model good.0 _ h.modeled.reads good.1.reads in
-        let classes : h.classes ≡ n.0 = same_classes held folder h.paths h.classes n.0 h.all.good n.1.good in
+        let classes : h.classes ≡ n.0 = same_given class_of held folder h.paths h.classes n.0 h.all.good n.1.good in
         ok_and_err n.2.0 (BadLink fault) (program_in main h.model h.classes) (rw (m, classes) n.2.1) (faulty_program main h.model h.classes fault h.faulty)
 
     bad_model : (s : Status) → IfSome old.held (λ held. (length (contents held model) ≤ most_bytes) × (model_of model (contents held model) ≡ Err s)) → ⊥
     bad_model s h = ok_and_err good.0 s _ good.1.reads (here (λ held. (length (contents held model) ≤ most_bytes) × (model_of model (contents held model) ≡ Err s)) h).1
 
-    by_status : (s : Status) → IsShown old new out out' (Verify folder model main) s → (s ≡ Done) ⊎ (s ≡ NoMemory)
-    by_status Done h = inl refl
-    by_status NoMemory h = inr refl
-    by_status WriteFault h = absurd (fails.3 h.0)
-    by_status (ReadFault path) h = absurd (elim h.0 [
+    by_status : (s : Status) → VerifyCause old new folder model main s → ⊥
+    by_status (ReadFault path) h = elim h [
       | inl m ↦ (let e = ap (λ p. new.faults (Reading p)) m.0 in omega (arith, m.1, fails.0))
       | inr k ↦ elim k [ inl l ↦ omega (arith, l.1, fails.1) | inr c ↦ omega (arith, c.1, fails.2 path (here (λ held. IsReached held folder path) c.2)) ]
-    ])
+    ]
     by_status (BadClass path at reason) h =
-        let k = here (λ held. IsReached held folder path × (class_of (class_bytes held folder path) ≡ Err (record { at = at; reason = reason }))) h.0 in
+        let k = here (λ held. IsReached held folder path × (class_of (class_bytes held folder path) ≡ Err (record { at = at; reason = reason }))) h in
         let r = is_reached path k.0 in
-        absurd (ok_and_err r.1.0 (record { at = at; reason = reason }) _ r.1.1 k.1)
-    by_status (BadLink fault) h = absurd (linked fault (here (λ held. IsUnlinked held folder model main fault) h.0))
-    by_status (TooLarge path room) h = absurd (elim h.0 [
+        ok_and_err r.1.0 (record { at = at; reason = reason }) _ r.1.1 k.1
+    by_status (BadLink fault) h = linked fault (here (λ held. IsUnlinked held folder model main fault) h)
+    by_status (TooLarge path room) h = elim h [
       | inl m ↦ (let k = here (λ held. most_bytes < length (contents held model)) m.2 in omega (arith, k, good.1.fits))
       | inr n ↦ elim n [
         | inl f ↦ (let k = here (λ held. (paths : List (List ℕ)) × HasClasses held folder paths × (most_classes < length paths)) f.2 in omega (arith, k.2, (good.2 k.0 k.1).1.few))
         | inr c ↦ (let k = here (λ held. IsReached held folder path × (most_bytes < length (class_bytes held folder path))) c.1 in omega (arith, k.1, (is_reached path k.0).0))
       ]
-    ])
-    by_status (BadModel line reason) h = absurd (bad_model (BadModel line reason) h.0)
-    by_status s h = absurd h.0
+    ]
+    by_status (BadModel line reason) h = bad_model (BadModel line reason) h
+    by_status s h = h
+
+-- a verdict over good files, in which nothing fails, is given
+pub verify_completes : (old new : FilesState) (out out' : SinkState) (folder model main : List ℕ) (held : Held) (status : Status) → old.held ≡ Some held → IsGood held (Verify folder model main) → NothingFails held old new out out' (Verify folder model main)
+    → IsShown old new out out' (Verify folder model main) status → (status ≡ Done) ⊎ (status ≡ NoMemory)
+verify_completes old new out out' folder model main held status told good fails shown = by_status status shown
+  where
+    by_status : (s : Status) → IsShown old new out out' (Verify folder model main) s → (s ≡ Done) ⊎ (s ≡ NoMemory)
+    by_status Done h = inl refl
+    by_status NoMemory h = inr refl
+    by_status WriteFault h = absurd (fails.3 h.0)
+    by_status s h = absurd (no_cause old new out out' folder model main held s told good fails h.0)

@@ -18,6 +18,8 @@ help_text =
     ++ codes "  varexj asm SOURCE                the class file that a source names\n"
     ++ codes "  varexj load SEED OPTIONS         the size of a report of a program made for trials\n"
     ++ codes "  varexj verify FOLDER MODEL MAIN  whether each method has a typing\n"
+    ++ codes "  varexj replay FOLDER MODEL MAIN LIMIT CONFIG  how one configuration runs, and the lines\n"
+    ++ codes "                                                of source where it ends\n"
     ++ codes "  varexj --help, varexj --version  this page, and the version\n"
     ++ codes "\n"
     ++ codes "FOLDER  a folder of class files of Java 8 or before\n"

@@ -28,6 +28,8 @@ const HELP: &[u8] =
 \x20 varexj asm SOURCE                the class file that a source names\n\
 \x20 varexj load SEED OPTIONS         the size of a report of a program made for trials\n\
 \x20 varexj verify FOLDER MODEL MAIN  whether each method has a typing\n\
+\x20 varexj replay FOLDER MODEL MAIN LIMIT CONFIG  how one configuration runs, and the lines\n\
+\x20                                               of source where it ends\n\
 \x20 varexj --help, varexj --version  this page, and the version\n\
 \n\
 FOLDER  a folder of class files of Java 8 or before\n\

@@ -1,18 +1,18 @@
-//! Reading files, for every command: one file within its room, and for `run` the class files of a folder. Each stage is
-//! proved against its part of the plan.
+//! Reading files, for every command: one file within its room, and the class files of a folder. Each stage is proved against its
+//! part of the plan.
 
 ghost use Rattle.std.specs.Prelude.{◌≡◌, ◌<◌, ◌≤◌, ◌^◌, ℕ, All, List, length, map, string_bytes, IfOk, IfErr, MatchResult, Ok, [], ◌⊎◌};
 ghost use Rattle.vx_class.specs.File.{Holds};
-ghost use Rattle.vx_class.specs.declared.class_file.ClassFile.{ClassFile};
 ghost use Rattle.vx_cli.specs.Plan.{Plan, Leads, MayStop};
 ghost use Rattle.vx_cli.specs.Sized.{read_sized};
-ghost use Rattle.vx_cli.specs.Run.{read_checked, read_classes, read_folder, list_classes, class_in, place_of, class_paths};
+ghost use Rattle.vx_cli.specs.Run.{or_bad_class, read_checked, read_classes, read_folder, list_classes, place_of, class_paths};
 ghost use Rattle.vx_cli.specs.KeepsFiles.{KeepsFiles};
 
 use crate::job::is_class_file;
 use crate::status::Status;
+use crate::taken::FromClassFile;
 use std::alloc::{AllocError, Global};
-use vx_class::{ClassFault, ClassFile, read_class};
+use vx_class::ClassFault;
 use vx_io::{FileFault, Files};
 use vx_value::Name;
 
@@ -103,14 +103,14 @@ fn place_below(alloc: Global, folder: &str, path: &str) -> Result<String, AllocE
     Ok(place)
 }
 
-/// The class that a file spells, or the refusal by its path.
-fn class_in(alloc: Global, path: &str, bytes: &[u8]) -> Result<ClassFile, Status>
-    ensures exact { MatchResult result (λ class. class_in path.now bytes.now ≡ Ok class)
-        (λ status. (status ≡ Status.NoMemory) ⊎ (class_in path.now bytes.now ≡ Err status)) }
-    ensures holds { IfOk result Holds }
+/// What the bytes of a class file give, or the refusal by its path.
+fn taken_from<T: FromClassFile>(alloc: Global, path: &str, bytes: &[u8]) -> Result<T, Status>
+    ensures exact { MatchResult result (λ taken. or_bad_class path.now (T.given bytes.now) ≡ Ok taken)
+        (λ status. (status ≡ Status.NoMemory) ⊎ (or_bad_class path.now (T.given bytes.now) ≡ Err status)) }
+    ensures holds { IfOk result (λ taken. Holds (T.class taken)) }
 {
-    match read_class(alloc, bytes) {
-        Ok(class) => Ok(class),
+    match T::from_class_file(alloc, bytes) {
+        Ok(taken) => Ok(taken),
         Err(ClassFault::NoMemory) => Err(Status::NoMemory),
         Err(ClassFault::Bad { at, reason }) => {
             let path = Name::of(alloc, path.as_bytes())?;
@@ -120,59 +120,59 @@ fn class_in(alloc: Global, path: &str, bytes: &[u8]) -> Result<ClassFile, Status
 }
 
 /// Reads a class file.
-fn read_class_file<F: Files>(
+fn read_class_file<F: Files, T: FromClassFile>(
     alloc: Global,
     files: &mut F,
     folder: &str,
     path: &str,
-) -> Result<ClassFile, Status>
-    ensures ok { IfOk result (λ class. (next : ClassFile → Plan) →
-        Leads (F.seen files.old).held (read_checked folder.now path.now next) (next class)) }
-    ensures holds { IfOk result Holds }
-    ensures err { IfErr result (λ status. (next : ClassFile → Plan) →
-        MayStop (F.seen files.old) (F.seen files.new) (read_checked folder.now path.now next) status) }
+) -> Result<T, Status>
+    ensures ok { IfOk result (λ taken. (next : T → Plan) →
+        Leads (F.seen files.old).held (read_checked T.given folder.now path.now next) (next taken)) }
+    ensures holds { IfOk result (λ taken. Holds (T.class taken)) }
+    ensures err { IfErr result (λ status. (next : T → Plan) →
+        MayStop (F.seen files.old) (F.seen files.new) (read_checked T.given folder.now path.now next) status) }
     ensures keeps { KeepsFiles (F.seen files.old) (F.seen files.new) }
 {
     let place = place_below(alloc, folder, path)?;
     let bytes = read_file(alloc, files, MOST_BYTES, place.as_str(), path)?;
-    class_in(alloc, path, bytes.as_slice())
+    taken_from(alloc, path, bytes.as_slice())
 }
 
 /// Reads the class files at these paths below a folder.
-pub fn read_class_files<F: Files>(
+fn read_class_files<F: Files, T: FromClassFile>(
     alloc: Global,
     files: &mut F,
     folder: &str,
     paths: &[String],
-) -> Result<Vec<ClassFile>, Status>
-    ensures ok { IfOk result (λ classes. (next : List ClassFile → Plan) →
-        Leads (F.seen files.old).held (read_classes folder.now next [] (map string_bytes paths.now)) (next classes.items)) }
-    ensures holds { IfOk result (λ classes. All Holds classes.items) }
-    ensures count { IfOk result (λ classes. length classes.items ≡ length paths.now) }
-    ensures err { IfErr result (λ status. (next : List ClassFile → Plan) →
-        MayStop (F.seen files.old) (F.seen files.new) (read_classes folder.now next [] (map string_bytes paths.now)) status) }
+) -> Result<Vec<T>, Status>
+    ensures ok { IfOk result (λ all. (next : List T → Plan) →
+        Leads (F.seen files.old).held (read_classes T.given folder.now next [] (map string_bytes paths.now)) (next all.items)) }
+    ensures holds { IfOk result (λ all. All (λ taken. Holds (T.class taken)) all.items) }
+    ensures count { IfOk result (λ all. length all.items ≡ length paths.now) }
+    ensures err { IfErr result (λ status. (next : List T → Plan) →
+        MayStop (F.seen files.old) (F.seen files.new) (read_classes T.given folder.now next [] (map string_bytes paths.now)) status) }
     ensures keeps { KeepsFiles (F.seen files.old) (F.seen files.new) }
 {
-    let mut classes = Vec::new(alloc);
+    let mut all = Vec::new(alloc);
     for path in paths {
-        let class = read_class_file(alloc, files, folder, path.as_str())?;
-        classes.push(class)?;
+        let taken = read_class_file(alloc, files, folder, path.as_str())?;
+        all.push(taken)?;
     }
-    Ok(classes)
+    Ok(all)
 }
 
 /// Lists a folder and reads its class files, ascending by their paths.
-pub fn read_folder<F: Files>(
+pub fn read_folder<F: Files, T: FromClassFile>(
     alloc: Global,
     files: &mut F,
     folder: &str,
-) -> Result<Vec<ClassFile>, Status>
-    ensures ok { IfOk result (λ classes. (next : List ClassFile → Plan) →
-        Leads (F.seen files.old).held (read_folder folder.now next) (next classes.items)) }
-    ensures few { IfOk result (λ classes. length classes.items ≤ 1024) }
-    ensures holds { IfOk result (λ classes. All Holds classes.items) }
-    ensures err { IfErr result (λ status. (next : List ClassFile → Plan) →
-        MayStop (F.seen files.old) (F.seen files.new) (read_folder folder.now next) status) }
+) -> Result<Vec<T>, Status>
+    ensures ok { IfOk result (λ all. (next : List T → Plan) →
+        Leads (F.seen files.old).held (read_folder T.given folder.now next) (next all.items)) }
+    ensures few { IfOk result (λ all. length all.items ≤ 1024) }
+    ensures holds { IfOk result (λ all. All (λ taken. Holds (T.class taken)) all.items) }
+    ensures err { IfErr result (λ status. (next : List T → Plan) →
+        MayStop (F.seen files.old) (F.seen files.new) (read_folder T.given folder.now next) status) }
     ensures keeps { KeepsFiles (F.seen files.old) (F.seen files.new) }
 {
     let paths = list_class_files(alloc, files, folder)?;

@@ -5,10 +5,10 @@ ghost use Rattle.std.specs.List.{list_all};
 ghost use Rattle.vx_class.specs.File.{Holds};
 ghost use Rattle.vx_java.specs.Ids.{HasClassNumbers};
 ghost use Rattle.vx_model.specs.Models.{IsModel};
-ghost use Rattle.vx_cli.specs.Job.{IsNoProgram, IsTextOf, Judged};
+ghost use Rattle.vx_cli.specs.Job.{IsNoProgram};
 ghost use Rattle.vx_cli.specs.KeepsFiles.{KeepsFiles};
 ghost use Rattle.vx_cli.specs.Plan.{MayGive, MayStop};
-ghost use Rattle.vx_cli.specs.Verdicts.{refused_text, verdict_text};
+ghost use Rattle.vx_cli.specs.Verdicts.{IsVerdictText, refused_text, verdict_text};
 ghost use Rattle.vx_cli.specs.Verify.{IsVerdictOf, verify_plan};
 ghost use Rattle.vx_verify.specs.Verdict.{has_short_code};
 
@@ -54,13 +54,14 @@ fn verdict_text(alloc: Global, program: &Program, verdict: Verdict) -> Result<Ve
 fn judged(alloc: Global, program: &Program) -> Result<Vec<u8>, Status>
     requires classes { HasClassNumbers program.now }
     requires codes { list_all (λ m. has_short_code m.code) program.now.methods ≡ true }
-    ensures { MatchResult result (λ text. IsTextOf (Judged program.now) text.items) (λ status. status ≡ Status.NoMemory) }
+    ensures { MatchResult result (λ text. IsVerdictText program.now text.items) (λ status. status ≡ Status.NoMemory) }
 {
     let verdict = verify(alloc, program)?;
     Ok(verdict_text(alloc, program, verdict)?)
 }
 
-/// The text of the verdict over the program of a folder's class files, or the refusal of their first fault.
+/// The text of the verdict over the program of a folder's class files, or the refusal of their first fault. Where the text is
+/// `verified`, no run of the program ends as illegal: it is linked from classes that were read.
 fn verdict_of(
     alloc: Global,
     main: &str,

@@ -1,6 +1,6 @@
 //! The configuration that a word names: the options that are on, joined by commas, or `-` for none.
 
-ghost use Rattle.std.specs.Prelude.{◌≡◌, IfOk, map};
+ghost use Rattle.std.specs.Prelude.{◌≡◌, IfOk, map, option_map};
 ghost use Rattle.std.specs.List.{list_all};
 ghost use Rattle.std.specs.Str.{bytes_eq};
 ghost use Rattle.vx_configuration.specs.Configuration.{between_commas, names_in, is_among, are_distinct, with_these_on, configuration_of};
@@ -70,15 +70,31 @@ fn are_distinct(names: &[Name]) -> bool
     true
 }
 
-/// The configuration in which the options of these names are on.
-fn with_these_on(alloc: Global, options: &[Name], names: &[Name]) -> Result<Config, AllocError>
-    ensures { IfOk result (λ c. c ≡ map (is_among names.now) options.now) }
+/// The values of the options where those of these names are on.
+fn with_these_on(alloc: Global, options: &[Name], names: &[Name]) -> Result<Vec<bool>, AllocError>
+    ensures { IfOk result (λ values. values.items ≡ map (is_among names.now) options.now) }
 {
     let mut values = Vec::new(alloc);
     for option in options {
         values.push(is_among(names, option))?;
     }
-    Config::new(alloc, values.as_slice())
+    Ok(values)
+}
+
+/// The values of these options at the configuration that a word names, or `None` where it names something that is no option, or an
+/// option twice.
+pub fn values_of(
+    alloc: Global,
+    options: &[Name],
+    word: &[u8],
+) -> Result<Option<Vec<bool>>, AllocError>
+    ensures { IfOk result (λ found. option_map (λ values. values.items) found ≡ configuration_of options.now word.now) }
+{
+    let names = names_in(alloc, word)?;
+    if !are_options(options, names.as_slice()) || !are_distinct(names.as_slice()) {
+        return Ok(None);
+    }
+    Ok(Some(with_these_on(alloc, options, names.as_slice())?))
 }
 
 /// The configuration of these options that a word names, or `None` where it names something that is no option, or an
@@ -90,9 +106,8 @@ pub fn configuration_of(
 ) -> Result<Option<Config>, AllocError>
     ensures { IfOk result (λ c. c ≡ configuration_of options.now word.now) }
 {
-    let names = names_in(alloc, word)?;
-    if !are_options(options, names.as_slice()) || !are_distinct(names.as_slice()) {
+    let Some(values) = values_of(alloc, options, word)? else {
         return Ok(None);
-    }
-    Ok(Some(with_these_on(alloc, options, names.as_slice())?))
+    };
+    Ok(Some(Config::new(alloc, values.as_slice())?))
 }

@@ -1,7 +1,9 @@
 pub mod Opening
+pub mod Blocked
 pub mod Firsts
 pub mod Ends
 pub mod Lines
 pub mod Listing
 pub mod Meeting
+pub mod Takings
 pub mod On

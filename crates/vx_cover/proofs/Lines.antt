@@ -10,7 +10,9 @@ use Rattle.vx_cover.specs.declared.target.Target.{Target}
 use Rattle.vx_cover.specs.declared.tries.Try.{Try}
 use Rattle.vx_cover.specs.declared.tries.Covering.{Covering}
 use Rattle.vx_cover.specs.Covers.{IsCover, IsCoverOf, IsRun, has_end, has_this_end, has_this_piece, times}
-use Rattle.vx_cover.specs.Targets.{AreFirst, AreOpen, AreRight, IsOneMore, IsStart, covered, first_set, left_open, times_open}
+use Rattle.vx_cover.specs.Blocks.{flat}
+use Rattle.vx_cover.specs.Steps.{IsOneMore, IsStart}
+use Rattle.vx_cover.specs.Targets.{AreFirst, AreOpen, AreRight, covered, first_set, left_open, times_open}
 use Rattle.vx_cover.proofs.Ends.{at_most_one, ended_by_end, ended_by_piece, no_end, no_piece}
 use Rattle.vx_cover.proofs.Opening.{AreOpen-left, AreRight-extends, AreRight-left, covered_right, none_open, times_open-divided}
 
@@ -52,16 +54,16 @@ IsCoveringOf-done s has numbers ts tries e h = record {
 
 pub record IsCovering {I : Type 0} (s : Sets I) (r : Report) (covering : Covering I) : Type 0 where
   pub runs : AllByRecursion (λ (t : Try). IsRun r t.configuration) covering.tries.items
-  pub ends : IsCoveringOf s (has_this_end r) (λ t. t.ends) covering.ends.items covering.tries.items
+  pub ends : IsCoveringOf s (has_this_end r) (λ t. t.ends) (flat covering.ends.items) covering.tries.items
   pub one_end : AllByRecursion (λ (t : Try). length t.ends ≤ 1) covering.tries.items
-  pub pieces : IsCoveringOf s (has_this_piece r) (λ t. t.pieces) covering.pieces.items covering.tries.items
+  pub pieces : IsCoveringOf s (has_this_piece r) (λ t. t.pieces) (flat covering.pieces.items) covering.tries.items
 
 pub IsCovering-start : {I : Type 0} (s : Sets I) (r : Report) (covering : Covering I) → IsStart s r covering → IsCovering s r covering
 IsCovering-start {I} s r covering h = record {
   runs = subst (λ ts. AllByRecursion (λ (t : Try). IsRun r t.configuration) ts) (sym h.tries) tt;
-  ends = subst (λ ts. IsCoveringOf s (has_this_end r) (λ t. t.ends) covering.ends.items ts) (sym h.tries) (IsCoveringOf-start s (has_this_end r) (λ t. t.ends) (length r.ends) covering.ends.items (no_end r) h.ends);
+  ends = subst (λ ts. IsCoveringOf s (has_this_end r) (λ t. t.ends) (flat covering.ends.items) ts) (sym h.tries) (IsCoveringOf-start s (has_this_end r) (λ t. t.ends) (length r.ends) (flat covering.ends.items) (no_end r) h.ends);
   one_end = subst (λ ts. AllByRecursion (λ (t : Try). length t.ends ≤ 1) ts) (sym h.tries) tt;
-  pieces = subst (λ ts. IsCoveringOf s (has_this_piece r) (λ t. t.pieces) covering.pieces.items ts) (sym h.tries) (IsCoveringOf-start s (has_this_piece r) (λ t. t.pieces) (length r.pieces) covering.pieces.items (no_piece r) h.pieces);
+  pieces = subst (λ ts. IsCoveringOf s (has_this_piece r) (λ t. t.pieces) (flat covering.pieces.items) ts) (sym h.tries) (IsCoveringOf-start s (has_this_piece r) (λ t. t.pieces) (length r.pieces) (flat covering.pieces.items) (no_piece r) h.pieces);
 }
 
 -- a configuration in the set of the first target has an end
@@ -74,16 +76,16 @@ first_ended s r (x ∷ xs) pieces first c f e p t =
     let same : x.set ≡ first = cc in
     ended_by_end r x.index c (sym (e.0 c) ∙ ap (λ y. s.test y c) same ∙ t)
 
-pub IsCovering-more : {I : Type 0} {s0 s1 : Sets I} → Extends s0 s1 → (r : Report) (first : I) (old new : Covering I) → s0.options ≡ length r.options → first_set old.ends.items old.pieces.items ≡ Some first → AreOpen s0 old.ends.items → AreOpen s0 old.pieces.items → IsOneMore s0 first old new → IsCovering s0 r old → IsCovering s1 r new
+pub IsCovering-more : {I : Type 0} {s0 s1 : Sets I} → Extends s0 s1 → (r : Report) (first : I) (old new : Covering I) → s0.options ≡ length r.options → first_set (flat old.ends.items) (flat old.pieces.items) ≡ Some first → AreOpen s0 (flat old.ends.items) → AreOpen s0 (flat old.pieces.items) → IsOneMore s0 s1 first old new → IsCovering s0 r old → IsCovering s1 r new
 IsCovering-more {I} {s0} {s1} x r first old new o f oe op m h =
     let line = m.line in
     let c = line.configuration in
-    let ended : has_end r c ≡ true = first_ended s0 r old.ends.items old.pieces.items first c f h.ends.targets h.pieces.targets m.member in
-    let ends = IsCoveringOf-more x (has_this_end r) (λ t. t.ends) line old.ends.items old.tries.items oe m.ends h.ends in
-    let met = covered_right s0 (has_this_end r) c old.ends.items h.ends.targets in
-    let once : (k : ℕ) → has_this_end r k c ≡ true → count_by (nat_eq k) (covered s0 c old.ends.items) ≤ 1 = λ k t. omega (arith, h.ends.once k c t, times_open-divided s0 c k old.ends.items) in
-    let few : length line.ends ≤ 1 = subst (λ ns. length ns ≤ 1) (sym m.ends) (at_most_one r c (covered s0 c old.ends.items) met once) in
-    let pieces = IsCoveringOf-more x (has_this_piece r) (λ t. t.pieces) line old.pieces.items old.tries.items op m.pieces h.pieces in
+    let ended : has_end r c ≡ true = first_ended s0 r (flat old.ends.items) (flat old.pieces.items) first c f h.ends.targets h.pieces.targets m.member in
+    let ends = IsCoveringOf-more x (has_this_end r) (λ t. t.ends) line (flat old.ends.items) old.tries.items oe m.ends h.ends in
+    let met = covered_right s0 (has_this_end r) c (flat old.ends.items) h.ends.targets in
+    let once : (k : ℕ) → has_this_end r k c ≡ true → count_by (nat_eq k) (covered s0 c (flat old.ends.items)) ≤ 1 = λ k t. omega (arith, h.ends.once k c t, times_open-divided s0 c k (flat old.ends.items)) in
+    let few : length line.ends ≤ 1 = subst (λ ns. length ns ≤ 1) (sym m.ends) (at_most_one r c (covered s0 c (flat old.ends.items)) met once) in
+    let pieces = IsCoveringOf-more x (has_this_piece r) (λ t. t.pieces) line (flat old.pieces.items) old.tries.items op m.pieces h.pieces in
     record {
       runs = subst (λ ts. AllByRecursion (λ (t : Try). IsRun r t.configuration) ts) (sym m.tries) (all-push (λ (t : Try). IsRun r t.configuration) old.tries.items line h.runs (record { values = m.values ∙ o; ended = ended }));
       ends = rw (m.tries, m.open_ends) ends;
@@ -91,12 +93,12 @@ IsCovering-more {I} {s0} {s1} x r first old new o f oe op m h =
       pieces = rw (m.tries, m.open_pieces) pieces;
     }
 
-pub IsCovering-done : {I : Type 0} (s : Sets I) (r : Report) (covering : Covering I) → first_set covering.ends.items covering.pieces.items ≡ None → IsCovering s r covering → IsCover r covering.tries.items
+pub IsCovering-done : {I : Type 0} (s : Sets I) (r : Report) (covering : Covering I) → first_set (flat covering.ends.items) (flat covering.pieces.items) ≡ None → IsCovering s r covering → IsCover r covering.tries.items
 IsCovering-done s r covering n h =
-    let none = none_open covering.ends.items covering.pieces.items n in
+    let none = none_open (flat covering.ends.items) (flat covering.pieces.items) n in
     record {
       runs = h.runs;
-      ends = IsCoveringOf-done s (has_this_end r) (λ t. t.ends) covering.ends.items covering.tries.items none.0 h.ends;
+      ends = IsCoveringOf-done s (has_this_end r) (λ t. t.ends) (flat covering.ends.items) covering.tries.items none.0 h.ends;
       one_end = h.one_end;
-      pieces = IsCoveringOf-done s (has_this_piece r) (λ t. t.pieces) covering.pieces.items covering.tries.items none.1 h.pieces;
+      pieces = IsCoveringOf-done s (has_this_piece r) (λ t. t.pieces) (flat covering.pieces.items) covering.tries.items none.1 h.pieces;
     }

@@ -1,12 +1,8 @@
 -- What is still to be covered.
-use Rattle.std.specs.Prelude.{◌≡◌, ◌≢◌, ℕ, ◌<◌, ◌≤◌, Bool, true, List, [], ◌∷◌, ◌++◌, length, Option, Some, None, nat_eq, if◌then◌else◌, ◌⊎◌}
+use Rattle.std.specs.Prelude.{◌≡◌, ◌≢◌, ℕ, ◌<◌, ◌≤◌, Bool, true, List, [], ◌∷◌, ◌++◌, Option, Some, None, nat_eq, if◌then◌else◌, ◌⊎◌}
 use Rattle.std.specs.List.{count_by, flat_map}
 use Rattle.vx_space.specs.Sets.{Sets}
-use Rattle.vx_report.specs.declared.report.Report.{Report}
 use Rattle.vx_cover.specs.declared.target.Target.{Target}
-use Rattle.vx_cover.specs.declared.tries.Try.{Try}
-use Rattle.vx_cover.specs.declared.tries.Covering.{Covering}
-use Rattle.vx_cover.specs.Covers.{has_this_end, has_this_piece}
 
 -- the sets are known, and none is never
 abbrev pub AreOpen : {I : Type 0} → Sets I → List (Target I) → Type 0
@@ -52,20 +48,3 @@ pub record IsPart {I : Type 0} (old new : Sets I) (whole part : I) : Type 0 wher
   pub known : new.is_known part ≡ true
   pub some : part ≢ new.never
   pub less : (c : List Bool) → new.test part c ≡ true → old.test whole c ≡ true
-
--- one more line, whose configuration is in the set of the first target
-pub record IsOneMore {I : Type 0} (sets : Sets I) (first : I) (old new : Covering I) : Type 0 where
-  pub line : Try
-  pub values : length line.configuration ≡ sets.options
-  pub member : sets.test first line.configuration ≡ true
-  pub ends : line.ends ≡ covered sets line.configuration old.ends.items
-  pub pieces : line.pieces ≡ covered sets line.configuration old.pieces.items
-  pub tries : new.tries.items ≡ old.tries.items ++ line ∷ []
-  pub open_ends : new.ends.items ≡ left_open sets line.configuration old.ends.items
-  pub open_pieces : new.pieces.items ≡ left_open sets line.configuration old.pieces.items
-
--- no line so far; the targets are all those of a report
-pub record IsStart {I : Type 0} (sets : Sets I) (r : Report) (covering : Covering I) : Type 0 where
-  pub ends : AreFirst sets (has_this_end r) (length r.ends) covering.ends.items
-  pub pieces : AreFirst sets (has_this_piece r) (length r.pieces) covering.pieces.items
-  pub tries : covering.tries.items ≡ []

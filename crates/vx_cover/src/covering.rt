@@ -1,206 +1,84 @@
 //! Covering by greed: from what isn't covered yet the first, met with as much of the rest as stays possible.
 
-ghost use Rattle.std.specs.Prelude.{◌≡◌, ◌≢◌, ◌++◌, IfOk, OnOk, length, if◌then◌else◌, [], ◌∷◌};
+ghost use Rattle.std.specs.Prelude.{◌≡◌, ◌≢◌, IfOk, OnOk, length};
 ghost use Rattle.vx_space.specs.Sets.{Extends, IsKnown};
 ghost use Rattle.vx_bdd_tools.specs.Listing.{AreSetsOf};
-ghost use Rattle.vx_bdd_tools.specs.Members.{IsMember};
 ghost use Rattle.vx_report.specs.declared.report.Report.{Report};
 ghost use Rattle.vx_report_reader.specs.Lawful.{IsLawful};
+ghost use Rattle.vx_cover.specs.Blocks.{AreBlocks, flat};
 ghost use Rattle.vx_cover.specs.Covers.{IsCover};
-ghost use Rattle.vx_cover.specs.Targets.{AreOpen, IsOneMore, IsPart, IsStart, covered, first_set, left_open};
+ghost use Rattle.vx_cover.specs.Steps.{IsOneMore, IsStart, IsTaken};
+ghost use Rattle.vx_cover.specs.Targets.{first_set};
 
+use crate::blocks::{blocks_of, first_of, meet};
 use crate::scope::ended;
-use crate::target::{Target, push_ends, push_pieces};
+use crate::target::{push_ends, push_pieces};
 use crate::tries::{Covering, Try};
+use crate::trying::{Patience, configuration, full_patience};
 use std::alloc::{AllocError, Global};
-use vx_bdd_tools::{one_of, sets_of};
+use vx_bdd_tools::sets_of;
 use vx_list::Items;
 use vx_report::Report;
 use vx_space::{Config, Space, SpaceFault};
 
-/// How many sets the lines may make together while more targets are looked for that a line can meet; behind that each line takes
-/// a configuration of its first target alone.
-const MOST_SETS: u64 = 1_000_000;
-
 /// The set of the first target, ends before pieces.
 fn first_set<I: Copy>(covering: &Covering<I>) -> Option<I>
-    ensures { result ≡ first_set covering.now.ends.items covering.now.pieces.items }
+    ensures { result ≡ first_set (flat covering.now.ends.items) (flat covering.now.pieces.items) }
 {
-    match covering.ends.first() {
-        Some(target) => Some(target.set),
-        None => match covering.pieces.first() {
-            Some(target) => Some(target.set),
-            None => None,
-        },
+    let end = first_of(covering.ends.as_slice());
+    if end.is_some() {
+        return end;
     }
+    first_of(covering.pieces.as_slice())
 }
 
-/// A part of a set, in which targets hold: each in order that still can, while the space has no more sets than a limit.
-fn met_with<S: Space>(
-    space: &mut S,
-    first: S::Id,
-    targets: &[Target<S::Id>],
-    limit: u64,
-) -> Result<S::Id, SpaceFault>
-    requires known { IsKnown (S.sets space.old) first }
-    requires some { first ≢ (S.sets space.old).never }
-    requires targets { AreOpen (S.sets space.old) targets.now }
-    ensures extends { Extends (S.sets space.old) (S.sets space.new) }
-    ensures part { IfOk result (IsPart (S.sets space.old) (S.sets space.new) first) }
+/// A line.
+fn line_of(configuration: Config, ends: Vec<u64>, pieces: Vec<u64>) -> Try
+    ensures configuration { result.configuration ≡ configuration }
+    ensures ends { result.ends ≡ ends.items }
+    ensures pieces { result.pieces ≡ pieces.items }
 {
-    let mut met = first;
-    for target in targets {
-        if space.count() > limit {
-            return Ok(met);
-        }
-        let both = space.and(met, target.set)?;
-        if !space.is_never(both) {
-            met = both;
-        }
-    }
-    Ok(met)
-}
-
-/// A configuration of a set that isn't never.
-fn member<S: Space>(alloc: Global, space: &S, set: S::Id) -> Result<Config, AllocError>
-    requires known { IsKnown (S.sets space.now) set }
-    requires some { set ≢ (S.sets space.now).never }
-    ensures { IfOk result (IsMember (S.sets space.now) set) }
-{
-    let Some(c) = one_of(alloc, space, set)? else {
-        unreachable!()
-    };
-    Ok(c)
-}
-
-/// Puts the number of a target that a configuration meets.
-fn push_covered<S: Space>(
-    space: &S,
-    numbers: &mut Vec<u64>,
-    target: Target<S::Id>,
-    c: &Config,
-) -> Result<(), AllocError>
-    requires { IsKnown (S.sets space.now) target.set }
-    ensures { OnOk result (numbers.new.items ≡ numbers.old.items ++ (if (S.sets space.now).test target.set c.now then target.index ∷ [] else [])) }
-{
-    if space.holds(target.set, c) {
-        numbers.push(target.index)?;
-    }
-    Ok(())
-}
-
-/// The numbers of the targets that a configuration meets.
-fn covered<S: Space>(
-    alloc: Global,
-    space: &S,
-    targets: &[Target<S::Id>],
-    c: &Config,
-) -> Result<Vec<u64>, AllocError>
-    requires { AreOpen (S.sets space.now) targets.now }
-    ensures { IfOk result (λ numbers. numbers.items ≡ covered (S.sets space.now) c.now targets.now) }
-{
-    let mut numbers = Vec::new(alloc);
-    for target in targets {
-        push_covered(space, &mut numbers, *target, c)?;
-    }
-    Ok(numbers)
-}
-
-/// Puts a target that a configuration doesn't meet.
-fn push_left<S: Space>(
-    space: &S,
-    rest: &mut Vec<Target<S::Id>>,
-    target: Target<S::Id>,
-    c: &Config,
-) -> Result<(), AllocError>
-    requires { IsKnown (S.sets space.now) target.set }
-    ensures { OnOk result (rest.new.items ≡ rest.old.items ++ (if (S.sets space.now).test target.set c.now then [] else target ∷ [])) }
-{
-    if !space.holds(target.set, c) {
-        rest.push(target)?;
-    }
-    Ok(())
-}
-
-/// The targets that a configuration doesn't meet.
-fn left_open<S: Space>(
-    alloc: Global,
-    space: &S,
-    targets: &[Target<S::Id>],
-    c: &Config,
-) -> Result<Vec<Target<S::Id>>, AllocError>
-    requires { AreOpen (S.sets space.now) targets.now }
-    ensures { IfOk result (λ rest. rest.items ≡ left_open (S.sets space.now) c.now targets.now) }
-{
-    let mut rest = Vec::new(alloc);
-    for target in targets {
-        push_left(space, &mut rest, *target, c)?;
-    }
-    Ok(rest)
-}
-
-/// The line of a configuration.
-fn line_of<S: Space>(
-    alloc: Global,
-    space: &S,
-    covering: &Covering<S::Id>,
-    configuration: Config,
-) -> Result<Try, AllocError>
-    requires ends { AreOpen (S.sets space.now) covering.now.ends.items }
-    requires pieces { AreOpen (S.sets space.now) covering.now.pieces.items }
-    ensures configuration { IfOk result (λ line. line.configuration ≡ configuration) }
-    ensures ends { IfOk result (λ line. line.ends ≡ covered (S.sets space.now) configuration covering.now.ends.items) }
-    ensures pieces { IfOk result (λ line. line.pieces ≡ covered (S.sets space.now) configuration covering.now.pieces.items) }
-{
-    let ends = covered(alloc, space, covering.ends.as_slice(), &configuration)?;
-    let pieces = covered(alloc, space, covering.pieces.as_slice(), &configuration)?;
-    Ok(Try {
+    Try {
         configuration,
         ends: Items::of(ends),
         pieces: Items::of(pieces),
-    })
+    }
 }
 
-/// Leaves open what a configuration doesn't meet.
-fn leave_open<S: Space>(
+/// Takes what a configuration meets out of what is still to be covered; the answer is its line.
+fn take_line<S: Space>(
     alloc: Global,
     space: &S,
     covering: &mut Covering<S::Id>,
-    c: &Config,
-) -> Result<(), AllocError>
-    requires ends { AreOpen (S.sets space.now) covering.old.ends.items }
-    requires pieces { AreOpen (S.sets space.now) covering.old.pieces.items }
-    ensures ends { OnOk result (covering.new.ends.items ≡ left_open (S.sets space.now) c.now covering.old.ends.items) }
-    ensures pieces { OnOk result (covering.new.pieces.items ≡ left_open (S.sets space.now) c.now covering.old.pieces.items) }
-    ensures tries { covering.new.tries ≡ covering.old.tries }
+    configuration: Config,
+) -> Result<Try, AllocError>
+    requires ends { AreBlocks (S.sets space.now) covering.old.ends.items }
+    requires pieces { AreBlocks (S.sets space.now) covering.old.pieces.items }
+    ensures line { IfOk result (λ line. IsTaken (S.sets space.now) configuration line covering.old covering.new) }
 {
-    let ends = left_open(alloc, space, covering.ends.as_slice(), c)?;
-    let pieces = left_open(alloc, space, covering.pieces.as_slice(), c)?;
-    covering.ends = ends;
-    covering.pieces = pieces;
-    Ok(())
+    let ends = meet(alloc, space, &mut covering.ends, &configuration)?;
+    let pieces = meet(alloc, space, &mut covering.pieces, &configuration)?;
+    Ok(line_of(configuration, ends, pieces))
 }
 
-/// One more line: a configuration of the set of the first target, in which as many others hold as can.
+/// One more line: a configuration of the set of the first target, in which as many others hold as are found. No two ends have a
+/// configuration in common, so pieces alone are looked for.
 fn cover_more<S: Space>(
     alloc: Global,
     space: &mut S,
     covering: &mut Covering<S::Id>,
     first: S::Id,
-    limit: u64,
+    patience: &mut Patience,
 ) -> Result<(), SpaceFault>
     requires known { IsKnown (S.sets space.old) first }
     requires some { first ≢ (S.sets space.old).never }
-    requires ends { AreOpen (S.sets space.old) covering.old.ends.items }
-    requires pieces { AreOpen (S.sets space.old) covering.old.pieces.items }
+    requires ends { AreBlocks (S.sets space.old) covering.old.ends.items }
+    requires pieces { AreBlocks (S.sets space.old) covering.old.pieces.items }
     ensures extends { Extends (S.sets space.old) (S.sets space.new) }
-    ensures more { OnOk result (IsOneMore (S.sets space.old) first covering.old covering.new) }
+    ensures more { OnOk result (IsOneMore (S.sets space.old) (S.sets space.new) first covering.old covering.new) }
 {
-    let met = met_with(space, first, covering.ends.as_slice(), limit)?;
-    let met = met_with(space, met, covering.pieces.as_slice(), limit)?;
-    let configuration = member(alloc, space, met)?;
-    let line = line_of(alloc, space, covering, configuration)?;
-    leave_open(alloc, space, covering, &line.configuration)?;
+    let configuration = configuration(alloc, space, first, covering.pieces.as_slice(), patience)?;
+    let line = take_line(alloc, space, covering, configuration)?;
     covering.tries.push(line)?;
     Ok(())
 }
@@ -221,6 +99,8 @@ fn start<S: Space>(
     push_ends(space, &mut ends, report, sets)?;
     let mut pieces = Vec::new(alloc);
     push_pieces(space, &mut pieces, report, sets, ended)?;
+    let ends = blocks_of(alloc, space, ends.as_slice())?;
+    let pieces = blocks_of(alloc, space, pieces.as_slice())?;
     Ok(Covering {
         ends,
         pieces,
@@ -234,15 +114,15 @@ fn all_lines<S: Space>(
     space: &mut S,
     covering: Covering<S::Id>,
 ) -> Result<Vec<Try>, SpaceFault>
-    requires ends { AreOpen (S.sets space.old) covering.ends.items }
-    requires pieces { AreOpen (S.sets space.old) covering.pieces.items }
+    requires ends { AreBlocks (S.sets space.old) covering.ends.items }
+    requires pieces { AreBlocks (S.sets space.old) covering.pieces.items }
     ensures extends { Extends (S.sets space.old) (S.sets space.new) }
     ensures cover { IfOk result (λ tries. (r : Report) → length r.options ≡ (S.sets space.old).options → IsStart (S.sets space.old) r covering → IsCover r tries.items) }
 {
-    let limit = space.count().saturating_add(MOST_SETS);
+    let mut patience = full_patience(space);
     let mut covering = covering;
     while let Some(first) = first_set(&covering) {
-        cover_more(alloc, space, &mut covering, first, limit)?;
+        cover_more(alloc, space, &mut covering, first, &mut patience)?;
     }
     let Covering {
         ends: _,
@@ -254,7 +134,8 @@ fn all_lines<S: Space>(
 
 /// A few configurations that cover a report: it has an end at each of them, and each end and each piece that any configuration
 /// with an end has stands in one of the lines, once. So there are at most as many lines as ends and pieces. From what isn't covered yet
-/// the first is taken, ends before pieces, and met with each of the rest in order that still can be.
+/// the first is taken, ends before pieces, and met with each of the rest in order that still can be, until that was tried in vain too
+/// often.
 pub fn cover<S: Space>(
     alloc: Global,
     space: &mut S,

@@ -1,11 +1,13 @@
 //! Covers: a few configurations in which each piece and each end of a report stands.
 #![tactic(auto)]
 
+pub mod blocks;
 pub mod covering;
 pub mod scope;
 pub mod target;
 pub mod text;
 pub mod tries;
+pub mod trying;
 
 pub use covering::cover;
 pub use scope::ended;

@@ -1,6 +1,6 @@
 //! The lines of a cover.
 
-use crate::target::Target;
+use crate::blocks::Block;
 use vx_list::Items;
 use vx_space::Config;
 
@@ -19,7 +19,7 @@ pub struct Try {
 /// The lines so far, and what is still to be covered.
 #[derive(Drop)]
 pub struct Covering<I> {
-    pub ends: Vec<Target<I>>,
-    pub pieces: Vec<Target<I>>,
+    pub ends: Vec<Block<I>>,
+    pub pieces: Vec<Block<I>>,
     pub tries: Vec<Try>,
 }

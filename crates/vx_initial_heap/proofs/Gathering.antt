@@ -13,7 +13,7 @@ use Rattle.vx_pool.specs.declared.pool.Pool.{Pool}
 
 -- ---- each once
 
-any-append : (p : First → Bool) (xs ys : List First) → list_any p (xs ++ ys) ≡ (list_any p xs || list_any p ys)
+pub any-append : (p : First → Bool) (xs ys : List First) → list_any p (xs ++ ys) ≡ (list_any p xs || list_any p ys)
 any-append p [] ys = refl
 any-append p (x ∷ xs) ys = ap (λ b. p x || b) (any-append p xs ys) ∙ or-assoc (p x) (list_any p xs) (list_any p ys)
   where

@@ -1,4 +1,5 @@
 pub mod Literals
+pub mod Remembered
 pub mod Defaults
 pub mod Classes
 pub mod First

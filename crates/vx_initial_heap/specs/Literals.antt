@@ -1,5 +1,5 @@
 -- The literals of a program as they are gathered, and the numbers of their objects.
-use Rattle.std.specs.Prelude.{List, None, Option, Some, [], fold, if◌then◌else◌, position, unwrap_or, ℕ, ◌++◌, ◌+◌, ◌∷◌}
+use Rattle.std.specs.Prelude.{Bool, List, None, Option, Some, [], fold, if◌then◌else◌, position, true, unwrap_or, ℕ, ◌++◌, ◌+◌, ◌∷◌, ◌≡◌}
 use Rattle.std.specs.List.{list_any}
 use Rattle.vx_initial_heap.specs.declared.literal.Literal.{Literal}
 use Rattle.vx_initial_heap.specs.declared.literal.Literal.TheVariants.{Class, Text}
@@ -38,3 +38,15 @@ number_among listed x = 260 + unwrap_or (position (same_first x) listed) 0
 -- the number of the object of a pool entry
 abbrev pub object_among : List First → Pool → Entry → ℕ
 object_among listed pool e = number_among listed (unwrap_or (first_of_entry pool e) for_main)
+
+-- an entry adds nothing to these, whatever its number
+abbrev pub has_one : List First → Option First → Bool
+has_one listed (Some x) = list_any (same_first x) listed
+has_one listed None = true
+
+abbrev pub IsListed : List First → Pool → Entry → ℕ → Type 0
+IsListed listed pool e n = has_one listed (first_of_entry pool e) ≡ true
+
+-- the number of an entry is that of its object
+abbrev pub IsObject : List First → Pool → Entry → ℕ → Type 0
+IsObject listed pool e n = n ≡ object_among listed pool e

@@ -79,8 +79,8 @@ fn first_by(alloc: Global, program: &Program, listed: &Literals) -> Result<First
     requires listed { listed.now ≡ literals program.now }
     ensures { IfOk result (IsFirst program.now) }
 {
-    let statics = first_statics(alloc, program, listed)?;
     let (inits, literals) = inits_and_literals(alloc, program, listed)?;
+    let statics = first_statics(alloc, program, &literals)?;
     let (objects, texts) = objects_and_texts(alloc, program, listed)?;
     Ok(First {
         objects,

@@ -9,6 +9,7 @@ mod inits;
 pub mod literal;
 mod literals;
 pub mod objects;
+mod remembered;
 pub mod statics;
 mod units;
 

@@ -1,10 +1,12 @@
 //! The literals of a program, each once, and the numbers of their objects (JVMS 5.1, 5.3).
 
 ghost use Rattle.std.specs.Prelude.{◌≡◌, ◌+◌, [], length, map, fold, IfOk, OnOk};
-ghost use Rattle.vx_initial_heap.specs.Literals.{first_of, number_among, object_among, with_class, with_entry, with_first, with_pool};
+ghost use Rattle.vx_initial_heap.specs.Literals.{first_of, IsListed, IsObject, number_among, object_among, with_class, with_entry, with_first, with_pool};
+ghost use Rattle.vx_initial_heap.specs.Remembered.{IsRight};
 ghost use Rattle.vx_java.specs.FirstObjects.{literal_object, literals};
 
 use crate::literal::{Literal, literal_of};
+use crate::remembered::Remembered;
 use indexmap::IndexSet;
 use std::alloc::{AllocError, Global};
 use std::marker::Model;
@@ -57,13 +59,46 @@ impl Literals {
         }
     }
 
-    fn add_pool(&mut self, alloc: Global, pool: &Pool) -> Result<(), AllocError>
+    /// Puts the literal of an entry behind the others, unless this remembers that it is there.
+    fn add_new_entry(
+        &mut self,
+        alloc: Global,
+        pool: &Pool,
+        entry: &Entry,
+        added: &mut Remembered,
+    ) -> Result<(), AllocError>
+        requires { IsRight (IsListed self.old pool.now) added.old }
+        ensures listed { OnOk result (self.new ≡ with_entry pool.now self.old entry.now) }
+        ensures added { OnOk result (IsRight (IsListed self.new pool.now) added.new) }
+    {
+        if added.number(entry) == 0 {
+            self.add_entry(alloc, pool, entry)?;
+            added.put(entry, 1);
+        }
+        Ok(())
+    }
+
+    /// Puts the literals of a pool behind the others, but for those that this remembers.
+    fn add_new_entries(
+        &mut self,
+        alloc: Global,
+        pool: &Pool,
+        added: &mut Remembered,
+    ) -> Result<(), AllocError>
+        requires { IsRight (IsListed self.old pool.now) added.old }
         ensures { OnOk result (self.new ≡ with_pool self.old pool.now) }
     {
         for entry in pool.entries.as_slice() {
-            self.add_entry(alloc, pool, entry)?;
+            self.add_new_entry(alloc, pool, entry, added)?;
         }
         Ok(())
+    }
+
+    fn add_pool(&mut self, alloc: Global, pool: &Pool) -> Result<(), AllocError>
+        ensures { OnOk result (self.new ≡ with_pool self.old pool.now) }
+    {
+        let mut added = Remembered::new(alloc, pool)?;
+        self.add_new_entries(alloc, pool, &mut added)
     }
 
     /// The number of a literal's object, or of the first one's where the literal isn't there.
@@ -91,7 +126,7 @@ impl Literals {
     }
 
     /// The number of the object of a pool entry. An entry that is no literal has that of the first one.
-    pub fn object_of(&self, alloc: Global, pool: &Pool, entry: &Entry) -> Result<u64, AllocError>
+    fn object_of(&self, alloc: Global, pool: &Pool, entry: &Entry) -> Result<u64, AllocError>
         ensures { IfOk result (λ object. object ≡ object_among self.now pool.now entry.now) }
     {
         match literal_of(alloc, pool, entry)? {
@@ -119,14 +154,49 @@ pub fn literals_of(alloc: Global, program: &Program) -> Result<Literals, AllocEr
     Ok(literals)
 }
 
-fn objects_of_pool(alloc: Global, listed: &Literals, pool: &Pool) -> Result<Items<u64>, AllocError>
+/// The number of the object of a pool entry, which is found once for the entries of one kind that name the same text.
+fn object_of_entry(
+    alloc: Global,
+    listed: &Literals,
+    pool: &Pool,
+    entry: &Entry,
+    known: &mut Remembered,
+) -> Result<u64, AllocError>
+    requires { IsRight (IsObject listed.now pool.now) known.old }
+    ensures object { IfOk result (λ object. object ≡ object_among listed.now pool.now entry.now) }
+    ensures known { OnOk result (IsRight (IsObject listed.now pool.now) known.new) }
+{
+    let found = known.number(entry);
+    if found != 0 {
+        return Ok(found);
+    }
+    let object = listed.object_of(alloc, pool, entry)?;
+    known.put(entry, object);
+    Ok(object)
+}
+
+fn objects_of_entries(
+    alloc: Global,
+    listed: &Literals,
+    pool: &Pool,
+    known: &mut Remembered,
+) -> Result<Items<u64>, AllocError>
+    requires { IsRight (IsObject listed.now pool.now) known.old }
     ensures { IfOk result (λ objects. objects ≡ map (object_among listed.now pool.now) pool.now.entries) }
 {
     let mut objects = Vec::new(alloc);
     for entry in pool.entries.as_slice() {
-        objects.push(listed.object_of(alloc, pool, entry)?)?;
+        objects.push(object_of_entry(alloc, listed, pool, entry, known)?)?;
     }
     Ok(Items::of(objects))
+}
+
+fn objects_of_pool(alloc: Global, listed: &Literals, pool: &Pool) -> Result<Items<u64>, AllocError>
+    ensures { IfOk result (λ objects. objects ≡ map (object_among listed.now pool.now) pool.now.entries) }
+{
+    let mut known = Remembered::new(alloc, pool)?;
+    let objects = objects_of_entries(alloc, listed, pool, &mut known)?;
+    Ok(objects)
 }
 
 /// For each class and each entry of its pool the number of the literal's object.

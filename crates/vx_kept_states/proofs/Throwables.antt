@@ -59,7 +59,7 @@ pub record AreRows (p : Program) (classes : List ClassFile) (rows : List Written
 
 -- ---- places of names
 
-linked_place : (names : List (List ℕ)) (files : List ClassFile) (methods fields : ℕ) (name : List ℕ)
+pub linked_place : (names : List (List ℕ)) (files : List ClassFile) (methods fields : ℕ) (name : List ℕ)
     → position (λ c. bytes_eq c.name name) (linked_classes names files methods fields) ≡ position (λ c. bytes_eq (name_of c) name) files
 linked_place names [] methods fields name = refl
 linked_place names (c ∷ files) methods fields name =
@@ -67,7 +67,7 @@ linked_place names (c ∷ files) methods fields name =
     ∙ ap (λ o. cond (bytes_eq (name_of c) name) (Some 0) (option_map suc o)) (linked_place names files (methods + method_count c) (fields + length c.fields) name)
     ∙ sym (position-cons (λ c. bytes_eq (name_of c) name) c files)
 
-row_place : (rows : List WrittenClass) (name : List ℕ) → position (λ c. bytes_eq (name_of c) name) (map class_file rows) ≡ place_in rows name
+pub row_place : (rows : List WrittenClass) (name : List ℕ) → position (λ c. bytes_eq (name_of c) name) (map class_file rows) ≡ place_in rows name
 row_place [] name = refl
 row_place (row ∷ rows) name =
     position-cons (λ c. bytes_eq (name_of c) name) (class_file row) (map class_file rows)
@@ -75,14 +75,14 @@ row_place (row ∷ rows) name =
     ∙ sym (position-cons (λ row. bytes_eq (codes row.name) name) row rows)
 
 -- a core class stands behind the folder's classes
-place_behind : (p : Program) (classes : List ClassFile) (rows : List WrittenClass) → AreRows p classes rows → (name : List ℕ) (k : ℕ) → place_in rows name ≡ Some k
+pub place_behind : (p : Program) (classes : List ClassFile) (rows : List WrittenClass) → AreRows p classes rows → (name : List ℕ) (k : ℕ) → place_in rows name ≡ Some k
     → position (λ c. bytes_eq (name_of c) name) (classes ++ map class_file rows) ≡ Some (length classes + k)
 place_behind p classes rows are name k is =
     position-append (λ c. bytes_eq (name_of c) name) classes (map class_file rows)
     ∙ ap (λ o. option_or o (option_map (λ n. length classes + n) (position (λ c. bytes_eq (name_of c) name) (map class_file rows)))) (are.new name (ap is_some is))
     ∙ ap (option_map (λ n. length classes + n)) (row_place rows name ∙ is)
 
-core_is : (p : Program) (classes : List ClassFile) (rows : List WrittenClass) → AreRows p classes rows → (name : String) (k : ℕ) → place_in rows (codes name) ≡ Some k
+pub core_is : (p : Program) (classes : List ClassFile) (rows : List WrittenClass) → AreRows p classes rows → (name : String) (k : ℕ) → place_in rows (codes name) ≡ Some k
     → core_class p name ≡ length classes + k
 core_is p classes rows are name k is =
     ap (λ o. unwrap_or o 0)
@@ -98,7 +98,7 @@ linked_at names [] methods fields k c is = cc
 linked_at names (d ∷ files) methods fields zero c is = (methods, fields, ap (option_map (λ c. linked_class names c methods fields)) is)
 linked_at names (d ∷ files) methods fields (suc k) c is = linked_at names files (methods + method_count d) (fields + length d.fields) k c is
 
-behind : {A : Type 0} (xs ys : List A) (i k : ℕ) → i ≡ length xs + k → slice_get (xs ++ ys) i ≡ slice_get ys k
+pub behind : {A : Type 0} (xs ys : List A) (i k : ℕ) → i ≡ length xs + k → slice_get (xs ++ ys) i ≡ slice_get ys k
 behind [] ys i k is =
     let same : i ≡ k = omega (arith, is) in
     ap (slice_get ys) same
@@ -120,7 +120,7 @@ number_of : (names : List (List ℕ)) (o : Option String) → option_map (λ s. 
 number_of names None = refl
 number_of names (Some name) = refl
 
-super_of_row : (p : Program) (classes : List ClassFile) (rows : List WrittenClass) → AreRows p classes rows → (k : ℕ) (row : WrittenClass) → slice_get rows k ≡ Some row
+pub super_of_row : (p : Program) (classes : List ClassFile) (rows : List WrittenClass) → AreRows p classes rows → (k : ℕ) (row : WrittenClass) → slice_get rows k ≡ Some row
     → superclass_of p (length classes + k) ≡ option_map (λ name. (class_id (names_of (classes ++ map class_file rows)) (codes name)).0) row.superclass
 super_of_row p classes rows are k row is =
     let all : List ClassFile = classes ++ map class_file rows in
@@ -132,7 +132,7 @@ super_of_row p classes rows are k row is =
     ∙ number_of (names_of all) row.superclass
 
 -- one step up
-goes_up : (p : Program) (classes : List ClassFile) (rows : List WrittenClass) → AreRows p classes rows → (k above : ℕ) → super_place rows k ≡ Some above
+pub goes_up : (p : Program) (classes : List ClassFile) (rows : List WrittenClass) → AreRows p classes rows → (k above : ℕ) → super_place rows k ≡ Some above
     → superclass_of p (length classes + k) ≡ Some (length classes + above)
 goes_up p classes rows are k above is = by (slice_get rows k) refl is
   where
@@ -154,7 +154,7 @@ reaches_none : (rows : List WrittenClass) (steps top : ℕ) → reaches_by rows 
 reaches_none rows zero top = refl
 reaches_none rows (suc n) top = refl
 
-climbs : (p : Program) (classes : List ClassFile) (rows : List WrittenClass) → AreRows p classes rows → (steps m top : ℕ) (place : Option ℕ) → steps ≤ m → reaches_by rows steps top place ≡ true
+pub climbs : (p : Program) (classes : List ClassFile) (rows : List WrittenClass) → AreRows p classes rows → (steps m top : ℕ) (place : Option ℕ) → steps ≤ m → reaches_by rows steps top place ≡ true
     → is_among (length classes + top) (chain_within p m (option_map (λ k. length classes + k) place)) ≡ true
 climbs p classes rows are zero m top place enough reaches = cc
 climbs p classes rows are (suc n) m top None enough reaches = cc

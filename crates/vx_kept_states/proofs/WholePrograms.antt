@@ -34,7 +34,7 @@ use Rattle.vx_program_bounds.proofs.ShortParts.{count_classes}
 
 -- ---- no fault
 
-first_none : {A : Type 0} (first last : Option A) → option_or first last ≡ None → first ≡ None
+pub first_none : {A : Type 0} (first last : Option A) → option_or first last ≡ None → first ≡ None
 first_none None last is = refl
 first_none (Some x) last is = cc
 

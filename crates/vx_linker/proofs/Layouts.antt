@@ -70,7 +70,7 @@ count-both-at : {A : Type 0} (q : ℕ → Bool) (number : A → ℕ) (x : A) (bo
 count-both-at q number x both kept false h = h
 count-both-at q number x both kept true h = count-kept q number x both kept (q (number x)) refl h
 
-count-both : {A : Type 0} (p q : ℕ → Bool) (number : A → ℕ) (xs : List A) → length (filter (λ x. p (number x) && q (number x)) xs) ≡ length (filter q (filter p (map number xs)))
+pub count-both : {A : Type 0} (p q : ℕ → Bool) (number : A → ℕ) (xs : List A) → length (filter (λ x. p (number x) && q (number x)) xs) ≡ length (filter q (filter p (map number xs)))
 count-both p q number [] = refl
 count-both p q number (x ∷ xs) = count-both-at q number x (filter (λ x. p (number x) && q (number x)) xs) (filter p (map number xs)) (p (number x)) (count-both p q number xs)
 

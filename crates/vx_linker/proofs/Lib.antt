@@ -5,3 +5,4 @@ pub mod Judged
 pub mod Found
 pub mod Layouts
 pub mod Numbering
+pub mod FieldRuns

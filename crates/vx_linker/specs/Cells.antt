@@ -1,6 +1,6 @@
 -- Words of the inner contracts of linking: what tables hold for each class and each field of a program.
 use Rattle.std.specs.List.{range_with_len}
-use Rattle.std.specs.Prelude.{List, None, Option, [], bytes_eq, drop, filter, find, if◌then◌else◌, length, map, nat_lt, not, option_map, slice_get, ℕ, ◌-◌, ◌∷◌}
+use Rattle.std.specs.Prelude.{Bool, List, None, Option, [], bytes_eq, drop, filter, find, if◌then◌else◌, length, map, nat_eq, nat_lt, not, option_map, slice_get, suc, true, zero, ℕ, ◌&&◌, ◌+◌, ◌-◌, ◌∷◌}
 use Rattle.vx_link.specs.Hierarchy.{chain_within}
 use Rattle.vx_link.specs.Linked.{cell_count, instance_fields, is_main_method, layout}
 use Rattle.vx_link.specs.Parts.{class_count, is_static_field}
@@ -9,6 +9,7 @@ use Rattle.vx_link.specs.declared.program.LinkedField.{LinkedField}
 use Rattle.vx_link.specs.declared.program.LinkedMethod.{LinkedMethod}
 use Rattle.vx_link.specs.declared.program.Program.{Program}
 use Rattle.vx_list.specs.Places.{item_or}
+use Rattle.vx_value.specs.declared.ids.FieldId.{FieldId}
 
 -- the instance fields that a class declares
 abbrev pub instance_fields_in : Program → LinkedClass → List ℕ
@@ -26,6 +27,28 @@ cells_above p =
 -- how many instance fields of a class stand before a field
 abbrev pub fields_before : Program → (class field : ℕ) → ℕ
 fields_before p class field = length (filter (λ g. nat_lt g field) (instance_fields p class))
+
+-- how many instance fields stand among the first so many fields of a program
+abbrev pub instances_before : Program → ℕ → ℕ
+instances_before p zero = 0
+instances_before p (suc n) = instances_before p n + (if not (is_static_field p n) then 1 else 0)
+
+-- the same for each number of fields
+abbrev pub running_counts : Program → List ℕ
+running_counts p = map (instances_before p) (range_with_len 0 (length p.fields + 1))
+
+-- numbers that follow one another from a number on
+abbrev pub are_run : ℕ → List ℕ → Bool
+are_run first [] = true
+are_run first (n ∷ ns) = nat_eq n first && are_run (suc first) ns
+
+-- numbers that follow one another from the first on
+abbrev pub is_run : List FieldId → Bool
+is_run fields = are_run (item_or (map (λ f. f.0) fields) 0 0) (map (λ f. f.0) fields)
+
+-- for each class whether its fields' numbers follow one another
+abbrev pub runs : Program → List Bool
+runs p = map (λ c. is_run c.fields) p.classes
 
 -- the cells of all fields
 abbrev pub all_cells : Program → List ℕ

@@ -1,13 +1,14 @@
 //! The cells of instance fields: their places in an object, those of the superclasses first.
 
-ghost use Rattle.std.specs.Prelude.{◌≡◌, ◌*◌, ◌<◌, ◌≤◌, ◌^◌, ◌&&◌, length, option_map, nat_lt, not, filter, IfOk, All};
+ghost use Rattle.std.specs.Prelude.{◌≡◌, ◌*◌, ◌<◌, ◌≤◌, ◌^◌, ◌&&◌, length, option_map, nat_lt, not, filter, false, IfOk, All};
 ghost use Rattle.vx_list.specs.Places.{item_or};
 ghost use Rattle.vx_linker.specs.Few.{HasFewFields};
 ghost use Rattle.vx_link.specs.Parts.{is_static_field, field_at};
 ghost use Rattle.vx_link.specs.Hierarchy.{chain_within, superclass_of};
-ghost use Rattle.vx_linker.specs.Cells.{instance_fields_in, instance_counts, cells_above, fields_before, all_cells, with_cells};
+ghost use Rattle.vx_linker.specs.Cells.{instance_fields_in, instance_counts, cells_above, fields_before, all_cells, with_cells, is_run, running_counts, runs};
 ghost use Rattle.vx_link.specs.Linked.{cell_count, layout, with_layout};
 
+use crate::counting::{count_in_run, running_counts, runs};
 use crate::methods::{behind_first, first_number};
 use bitflags::Flags;
 use std::alloc::{AllocError, Global};
@@ -24,7 +25,8 @@ fn is_static(program: &Program, field: FieldId) -> bool
     }
 }
 
-fn is_instance(program: &Program, field: FieldId) -> bool
+/// Whether a field is an instance field.
+pub fn is_instance(program: &Program, field: FieldId) -> bool
     ensures { result ≡ not (is_static_field program.now field.0) }
 {
     !is_static(program, field)
@@ -127,15 +129,52 @@ fn cells_above(alloc: Global, program: &Program, counts: &[u32]) -> Result<Vec<u
     Ok(above)
 }
 
+/// How many of the instance fields of a class stand before a field, where it is known whether the numbers of its fields follow one
+/// another.
+fn count_instances_before(
+    program: &Program,
+    counts: &[u32],
+    run: bool,
+    fields: &[FieldId],
+    before: FieldId,
+) -> usize
+    requires counts { counts.now ≡ running_counts program.now }
+    requires run { run ≡ is_run fields.now }
+    ensures { result ≡ length (filter (λ f. (not (is_static_field program.now f.0) && nat_lt f.0 before.0)) fields.now) }
+{
+    if run {
+        if let Some(count) = count_in_run(program, counts, fields, before) {
+            return count;
+        }
+    }
+    count_before(program, fields, before)
+}
+
+fn flag_at(flags: &[bool], place: u32) -> bool
+    ensures { result ≡ item_or flags.now place false }
+{
+    flags.get(place as usize).copied().unwrap_or(false)
+}
+
 /// How many instance fields of a class stand before a field.
-fn fields_before(program: &Program, class: ClassId, before: FieldId) -> u32
-    requires { All HasFewFields program.now.classes }
+fn fields_before(
+    program: &Program,
+    counts: &[u32],
+    flags: &[bool],
+    class: ClassId,
+    before: FieldId,
+) -> u32
+    requires counts { counts.now ≡ running_counts program.now }
+    requires runs { flags.now ≡ runs program.now }
+    requires few { All HasFewFields program.now.classes }
     ensures count { result ≡ fields_before program.now class.0 before.0 }
     ensures few { result < 65536 }
 {
     match program.class(class) {
-        Some(class) => {
-            let count = count_before(program, class.fields.as_slice(), before);
+        Some(row) => {
+            let run = flag_at(flags, class.0);
+            let fields = row.fields.as_slice();
+            let count = count_instances_before(program, counts, run, fields, before);
             count as u32
         }
         None => 0,
@@ -143,7 +182,16 @@ fn fields_before(program: &Program, class: ClassId, before: FieldId) -> u32
 }
 
 /// The cell of a field, from the numbers of instance fields above each class.
-fn cell_of(program: &Program, above: &[u32], field: &LinkedField, number: FieldId) -> u32
+fn cell_of(
+    program: &Program,
+    above: &[u32],
+    counts: &[u32],
+    flags: &[bool],
+    field: &LinkedField,
+    number: FieldId,
+) -> u32
+    requires counts { counts.now ≡ running_counts program.now }
+    requires runs { flags.now ≡ runs program.now }
     requires field { field.now ≡ field_at program.now number.0 }
     requires above { above.now ≡ cells_above program.now }
     requires few { All HasFewFields program.now.classes }
@@ -153,7 +201,7 @@ fn cell_of(program: &Program, above: &[u32], field: &LinkedField, number: FieldI
     if is_static(program, number) {
         return 0;
     }
-    number_at(above, field.class.0) + fields_before(program, field.class, number)
+    number_at(above, field.class.0) + fields_before(program, counts, flags, field.class, number)
 }
 
 fn all_cells(alloc: Global, program: &Program, above: &[u32]) -> Result<Vec<u32>, AllocError>
@@ -163,9 +211,12 @@ fn all_cells(alloc: Global, program: &Program, above: &[u32]) -> Result<Vec<u32>
     requires fields { length program.now.fields < 2 ^ 32 }
     ensures { IfOk result (λ cells. cells.items ≡ all_cells program.now) }
 {
+    let counts = running_counts(alloc, program)?;
+    let flags = runs(alloc, program)?;
     let mut cells = Vec::new(alloc);
     for (place, field) in program.fields.as_slice().iter().enumerate() {
-        cells.push(cell_of(program, above, field, FieldId(place as u32)))?;
+        let number = FieldId(place as u32);
+        cells.push(cell_of(program, above, &counts, &flags, field, number))?;
     }
     Ok(cells)
 }

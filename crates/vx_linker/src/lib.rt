@@ -3,6 +3,7 @@
 
 mod class_numbers;
 mod classes;
+mod counting;
 mod entries;
 mod fields;
 mod files;

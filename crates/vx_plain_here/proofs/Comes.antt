@@ -14,10 +14,10 @@ comes_as r told said old new e comes = subst (λ o. IfOk r (ComesTo o old new)) 
 stands_from : (old moved new : machine.State) (o : Outcome) → places_of moved ≡ places_of old → Stands moved new o → Stands old new o
 stands_from old moved new (Ended end) e stands = stands ∙ e
 stands_from old moved new Go e stands = stands
-stands_from old moved new (Raise class message) e stands = stands
-stands_from old moved new (Throw object) e stands = stands
-stands_from old moved new (Begin class) e stands = stands
-stands_from old moved new (Native method) e stands = stands
+stands_from old moved new (Raise class message) e stands = stands ∙ e
+stands_from old moved new (Throw object) e stands = stands ∙ e
+stands_from old moved new (Begin class) e stands = stands ∙ e
+stands_from old moved new (Native method) e stands = stands ∙ e
 stands_from old moved new (Write stream units) e stands = stands
 
 -- from a state whose frames stand where those of the first one do

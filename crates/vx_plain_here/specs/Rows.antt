@@ -25,10 +25,11 @@ outcome_over s (Ended end) = EndedOutcome end
 abbrev pub places_of : machine.State → List (ℕ × ℕ)
 places_of s = map (λ f. (f.method, f.position)) (frames_of s)
 
--- where a run ends, its frames stand as they stood
+-- unless the run goes on, the frames stand as they stood
 abbrev pub Stands : machine.State → machine.State → Outcome → Type 0
-Stands old new (Ended end) = places_of new ≡ places_of old
-Stands old new _ = Unit {0}
+Stands old new Go = Unit {0}
+Stands old new (Write stream units) = Unit {0}
+Stands old new _ = places_of new ≡ places_of old
 
 -- what an attempt comes to is what the ordinary machine says
 pub record ComesTo (said : machine.Outcome) (old new : machine.State) (outcome : Outcome) : Type 0 where

@@ -9,9 +9,9 @@ use crate::here::Here;
 use crate::outcome::{Made, Outcome};
 use vx_plain::{Object, State, Value};
 
-/// Whether so many words have room over others.
+/// Whether so many words have room over others, where there is room for a number of words.
 #[tactic(auto, using(crate::proofs::Rooms::left_over, crate::proofs::Rooms::over_full))]
-fn fits(words: usize, width: usize, most: usize) -> bool
+pub fn words_fit(words: usize, width: usize, most: usize) -> bool
     ensures { result ≡ nat_le (width + words) most }
 {
     if words > most {
@@ -42,7 +42,7 @@ impl<'a> Here<'a> {
     pub fn has_room(&self, state: &State, width: usize, taken: usize) -> bool
         ensures { let s = state_of state.now in result ≡ has_room (here_in self.now s) width (drop taken s.top.operands) }
     {
-        fits(
+        words_fit(
             state.words_under(taken),
             width,
             self.code.max_stack as usize,

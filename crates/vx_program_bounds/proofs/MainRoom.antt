@@ -1,4 +1,4 @@
--- Main of a linked program has room for its argument.
+-- Main of a linked program has room for its argument, and is static.
 use Rattle.std.proofs.Common.{All, Bool, List, None, Option, Some, [], ap, append_assoc, arith, bytes_eq, codes, cond, false, filter, find, flat_map, if◌then◌else◌, is_some, length, length-append, map, not, refl, slice_get, subst, suc, sym, true, true≢false, unwrap_or, ℕ, ◌&&◌, ◌++◌, ◌+◌, ◌<◌, ◌∙◌, ◌∷◌, ◌≡◌, ◌||◌}
 use Rattle.std.proofs.lemmas.List.Folds.{find-append, list_any-append}
 use Rattle.std.proofs.lemmas.Slice.Eq.{bytes_eq-Decides}
@@ -14,7 +14,7 @@ use Rattle.vx_desc.specs.Descriptors.{element_at, field_of, method_of, method_sl
 use Rattle.vx_desc.specs.Names.{is_class_name}
 use Rattle.vx_java.specs.Initialisation.{max_locals}
 use Rattle.vx_link.specs.Faults.{file_named, is_main, name_of, passes}
-use Rattle.vx_link.specs.Linked.{empty_clinit, is_main_method, linked_class, linked_classes, linked_method, linked_methods, method_count, method_ids, methods_from, methods_named, methods_of_class, own_clinit}
+use Rattle.vx_link.specs.Linked.{empty_clinit, is_main_method, linked_class, linked_classes, linked_method, linked_methods, method_count, method_flags, method_ids, methods_from, methods_named, methods_of_class, own_clinit}
 use Rattle.vx_link.specs.Names.{utf8}
 use Rattle.vx_link.specs.Parts.{PUBLIC, no_method}
 use Rattle.vx_link.specs.declared.program.LinkedClass.{LinkedClass}
@@ -24,21 +24,23 @@ use Rattle.vx_program_bounds.proofs.ListLaws.{behind_front, fails_more, fifth_ho
 use Rattle.vx_list.specs.Places.{item_or}
 use Rattle.vx_pool.specs.declared.pool.Pool.{Pool}
 
--- ---- the first main of some numbers has room for its argument
+-- ---- the first main of some numbers has room for its argument, and is static
 
 pub record HasMain (methods : List LinkedMethod) (numbers : List ℕ) : Type 0 where
   pub number : ℕ
   pub found : find (λ m. is_main_method (slice_get methods m)) numbers ≡ Some number
   pub room : 0 < max_locals (item_or methods number no_method).code
+  pub static : has_flag (item_or methods number no_method).flags.0 STATIC ≡ true
 
 HasMain-first : (methods : List LinkedMethod) (n : ℕ) (numbers : List ℕ) (m : LinkedMethod) → slice_get methods n ≡ Some m
-    → is_main_method (Some m) ≡ true → 0 < max_locals m.code → HasMain methods (n ∷ numbers)
-HasMain-first methods n numbers m at is room =
+    → is_main_method (Some m) ≡ true → 0 < max_locals m.code → has_flag m.flags.0 STATIC ≡ true → HasMain methods (n ∷ numbers)
+HasMain-first methods n numbers m at is room static =
     let P : Option LinkedMethod → Type 0 = λ o. 0 < max_locals (unwrap_or o no_method).code in
     record {
       number = n;
       found = ap (λ b. cond b (Some n) (find (λ m. is_main_method (slice_get methods m)) numbers)) (ap is_main_method at ∙ is);
       room = subst P (sym at) room;
+      static = ap (λ o. has_flag (unwrap_or o no_method).flags.0 STATIC) at ∙ static;
     }
 
 HasMain-later : (methods : List LinkedMethod) (n : ℕ) (numbers : List ℕ) (m : LinkedMethod) → slice_get methods n ≡ Some m
@@ -47,6 +49,7 @@ HasMain-later methods n numbers m at is later = record {
   number = later.number;
   found = ap (λ b. cond b (Some n) (find (λ m. is_main_method (slice_get methods m)) numbers)) (ap is_main_method at ∙ is) ∙ later.found;
   room = later.room;
+  static = later.static;
 }
 
 HasMain-front : (methods : List LinkedMethod) (front rest : List ℕ) → HasMain methods front → HasMain methods (front ++ rest)
@@ -55,6 +58,7 @@ HasMain-front methods front rest has = record {
   found = find-append (λ m. is_main_method (slice_get methods m)) front rest
       ∙ ap (λ o. option_or o (find (λ m. is_main_method (slice_get methods m)) rest)) has.found;
   room = has.room;
+  static = has.static;
 }
 
 -- ---- a class has one main
@@ -127,10 +131,10 @@ by_cases true P so other = so refl
 by_cases false P so other = other refl
 
 -- a method of main's name and descriptor is main, where the class declares main from there on
-first_main_room : (class : ℕ) (c : ClassFile) (front : List Method) (m : Method) (methods : List Method)
+first_is_main : (class : ℕ) (c : ClassFile) (front : List Method) (m : Method) (methods : List Method)
     → EachBehind (MethodHolds c.pool c.major) front (m ∷ methods) → is_main_method (Some (linked_method class c.pool m 0)) ≡ true
-    → list_any (is_main c) (m ∷ methods) ≡ true → 0 < max_locals m.code
-first_main_room class c front m methods holds is has =
+    → list_any (is_main c) (m ∷ methods) ≡ true → is_main c m ≡ true
+first_is_main class c front m methods holds is has =
     let named : is_main_name c.pool m ≡ true =
     λ i. text_given (text c.pool m.name) holds.0.name (codes "main") holds.0.is_name (first_holds _ _ is) i
     && text_given (text c.pool m.descriptor) holds.0.descriptor (codes "([Ljava/lang/String;)V") holds.0.is_descriptor (second_holds _ _ is) i in
@@ -138,7 +142,15 @@ first_main_room class c front m methods holds is has =
     none_later c (front ++ m ∷ []) methods holds.1
     (list_any-append (is_main_name c.pool) front (m ∷ [])
     ∙ or_right (list_any (is_main_name c.pool) front) (is_main_name c.pool m || false) (or_left (is_main_name c.pool m) false named)) in
-    by_cases (is_main c m) (0 < max_locals m.code) (main_room c front m holds.0) (λ other. elim (true≢false (sym (in_rest _ _ other has) ∙ none)) [ ])
+    by_cases (is_main c m) (is_main c m ≡ true) (λ so. so) (λ other. elim (true≢false (sym (in_rest _ _ other has) ∙ none)) [ ])
+
+-- it is no <clinit>, so its flags are those of its file
+main_static : (class : ℕ) (c : ClassFile) (m : Method) → is_main_method (Some (linked_method class c.pool m 0)) ≡ true → is_main c m ≡ true
+    → has_flag (method_flags (utf8 c.pool m.name) m.flags) STATIC ≡ true
+main_static class c m is main =
+    let name : utf8 c.pool m.name ≡ codes "main" = (bytes_eq-Decides (utf8 c.pool m.name) (codes "main")).0 (first_holds _ _ is) in
+    ap (λ n. has_flag (method_flags n m.flags) STATIC) name
+    ∙ first_holds _ _ (second_holds (has_flag m.flags PUBLIC) _ (second_holds (bytes_eq (utf8 c.pool m.descriptor) (codes "([Ljava/lang/String;)V")) _ (second_holds _ _ main)))
 
 -- ---- the methods of one class
 
@@ -156,8 +168,8 @@ own_main methods class c front (m ∷ declared) before after from is count holds
     (is_main_method (Some linked))
     (HasMain methods (from ∷ map (λ m. m.0) (method_ids (from + 1) (length declared))))
     (λ so.
-    HasMain-first methods from (map (λ m. m.0) (method_ids (from + 1) (length declared))) linked at so
-    (first_main_room class c front m declared holds so has))
+    let main = first_is_main class c front m declared holds so has in
+    HasMain-first methods from (map (λ m. m.0) (method_ids (from + 1) (length declared))) linked at so (main_room c front m holds.0 main) (main_static class c m so main))
     (λ other.
     HasMain-later methods from (map (λ m. m.0) (method_ids (from + 1) (length declared))) linked at other
     (own_main methods class c (front ++ m ∷ []) declared (before ++ linked ∷ []) after (from + 1)

@@ -96,7 +96,7 @@ array_dimensions p c array =
     omega (arith, is)
 
 -- a class fits its superclasses and Object
-among_above : (p : Program) → HasHierarchy p → (c d : ℕ) → is_array p c ≡ false → fits p (class_type p c) (is.Ref 0 (element.Class (as_class d))) ≡ true → is_among d (superclasses p c) ≡ true
+pub among_above : (p : Program) → HasHierarchy p → (c d : ℕ) → is_array p c ≡ false → fits p (class_type p c) (is.Ref 0 (element.Class (as_class d))) ≡ true → is_among d (superclasses p c) ≡ true
 among_above p h c d plain = by (is_interface p c)
   where
     within : nat_lt c (class_count p) ≡ true
@@ -120,6 +120,12 @@ among_above p h c d plain = by (is_interface p c)
     by true k =
         of_element (object_class p) (λ above. root_above (h.ranked.object d above)) (ref_tells p 0 (element.Class (as_class (object_class p))) 0 (element.Class (as_class d)) k)
     by false k = of_element c (λ above. above) (ref_tells p 0 (element.Class (as_class c)) 0 (element.Class (as_class d)) k)
+
+-- what an array fits that is a class is Object
+pub array_root_fits : (p : Program) (c d : ℕ) → is_array p c ≡ true → fits p (type_of_class p c) (is.Ref 0 (element.Class (as_class d))) ≡ true → d ≡ object_class p
+array_root_fits p c d array fit =
+    array_fits p (dimensions_of p c) (element_of p c) d (array_dimensions p c array)
+    (subst (λ (t : VerType). fits p t (is.Ref 0 (element.Class (as_class d))) ≡ true) (ap (λ b. if b then array_type p (dimensions_of p c) (element_of p c) else class_type p c) array) fit)
 
 pub class_there : (p : Program) → HasHierarchy p → (c d : ℕ) → fits p (type_of_class p c) (is.Ref 0 (element.Class (as_class d))) ≡ true → assignable p c d ≡ true
 class_there p h c d = by (is_array p c) refl

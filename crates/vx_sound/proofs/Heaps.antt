@@ -26,6 +26,15 @@ pub record IsLaterHeap (heap later : List Object) : Type 0 where
   pub more : length heap ≤ length later
   pub same : (r : ℕ) → r < length heap → (item_or later r no_object).class ≡ (item_or heap r no_object).class
 
+pub later_itself : (heap : List Object) → IsLaterHeap heap heap
+later_itself heap = record { more = omega arith; same = λ r less. refl }
+
+pub later_through : (heap next later : List Object) → IsLaterHeap heap next → IsLaterHeap next later → IsLaterHeap heap later
+later_through heap next later one other =
+    let first = one.more in
+    let second = other.more in
+    record { more = omega (arith, first, second); same = λ r less. other.same r (omega (arith, less, first)) ∙ one.same r less }
+
 module _ (p : Program) (ranked : IsRanked p) (heap later : List Object) (grows : IsLaterHeap heap later) where
   -- ---- values
 
@@ -117,6 +126,7 @@ pub state_later : (p : Program) → IsRanked p → (typings : Typings) (s : Stat
 state_later p ranked typings s later grows heap is = record {
   heap = heap;
   statics = λ f static. still p ranked s.heap later grows (item_or s.statics f Top) (type_of_field p f) (is.statics f static);
+  inits = is.inits;
   top = typed_frame_later p ranked s.heap later grows typings s.top is.top;
   callers = callers_later p ranked s.heap later grows typings s.top.kind s.top.method s.callers is.callers;
 }

@@ -13,8 +13,9 @@ use Rattle.vx_sound.proofs.Values.{size_within, some_same}
 use Rattle.vx_sound.specs.Sound.{IsSound}
 use Rattle.vx_sound.specs.Typed.{AreTypings, IsTypedOutcome, IsTypedState, Typings}
 use Rattle.vx_sound.specs.Values.{type_of_value, types_of_frame, types_of_values}
-use Rattle.vx_types.proofs.FitLaws.{state_itself}
-use Rattle.vx_types.specs.Fits.{StateFits}
+use Rattle.vx_types.proofs.FitLaws.{all_itself, state_itself}
+use Rattle.vx_types.proofs.Lists.{list_fits, size_below}
+use Rattle.vx_types.specs.Fits.{StateFits, all_fit, fits}
 use Rattle.vx_types.specs.Flow as flow
 use Rattle.vx_types.specs.Ranked.{IsRanked}
 use Rattle.vx_types.specs.Rows.{pool_of}
@@ -63,9 +64,17 @@ module _ (typings : Typings) (h : Here) (site : AtSite typings h) where
   moves position locals operands made reached fits = record {
     heap = site.state.heap;
     statics = site.state.statics;
+    inits = site.state.inits;
     top = reached_below h.program ranked (typings h.state.top.method) position (record { locals = types_in h locals; operands = types_in h operands }) made fits reached;
     callers = site.state.callers;
   }
+
+  -- with other operands, whose types fit these
+  pub moves_fitting : (position : ℕ) (operands : List Value) (rest : List VerType) → all_fit h.program (types_in h operands) rest ≡ true
+      → IsReached h.program (typings h.state.top.method) position (types_with h rest)
+      → IsTypedState h.program typings (record (h.state) { top = record (h.state.top) { position = position; operands = operands } })
+  moves_fitting position operands rest fit reached =
+      moves position h.state.top.locals operands (types_with h rest) reached (record { locals = all_itself h.program ranked (types_in h h.state.top.locals); operands = fit })
 
   -- with other operands, whose types are these
   pub moves_with : (position : ℕ) (operands : List Value) → IsReached h.program (typings h.state.top.method) position (types_with h (types_in h operands))
@@ -81,11 +90,41 @@ module _ (typings : Typings) (h : Here) (site : AtSite typings h) where
       moves_with (behind h) operands
       (All-head (λ position. IsReached h.program (typings h.state.top.method) position (types_with h (types_in h operands))) (behind h) [] leads.reached)
 
+  -- operands that fit those with which it is reached
+  pub goes_fitting : (operands : List Value) (rest : List VerType) → all_fit h.program (types_in h operands) rest ≡ true → LeadsTo typings h (behind h ∷ []) (types_with h rest)
+      → Typed typings h (go h operands)
+  goes_fitting operands rest fit leads =
+      moves_fitting (behind h) operands rest fit
+      (All-head (λ position. IsReached h.program (typings h.state.top.method) position (types_with h rest)) (behind h) [] leads.reached)
+
   -- operands whose types fit in the greatest stack fit there
   pub room_there : (operands : List Value) → flow.stack_size (types_in h operands) ≤ h.code.max_stack → nat_le (stack_size operands) h.code.max_stack ≡ true
   room_there operands room =
       let size = size_within h.program h.state.heap operands in
       le-leb (stack_size operands) h.code.max_stack (omega (arith, size, room))
+
+  pub settles_fitting : (operands : List Value) (rest : List VerType) → all_fit h.program (types_in h operands) rest ≡ true → LeadsTo typings h (behind h ∷ []) (types_with h rest)
+      → Typed typings h (settle h operands)
+  settles_fitting operands rest fit leads =
+      let small = size_below h.program (types_in h operands) rest fit in
+      let room = leads.room in
+      subst (λ b. Typed typings h (when b (go h operands) (illegal h))) (sym (room_there operands (omega (arith, small, room)))) (goes_fitting operands rest fit leads)
+
+  -- operands whose types are these still are
+  pub under_fits : (under : List Value) (rest : List VerType) → Some (types_in h under) ≡ Some rest → all_fit h.program (types_in h under) rest ≡ true
+  under_fits under rest same =
+      subst (λ (ts : List VerType). all_fit h.program (types_in h under) ts ≡ true) (some_same same) (all_itself h.program ranked (types_in h under))
+
+  -- a value that fits a type, on such operands
+  pub pushes_fitting : (v : Value) (under : List Value) (t : VerType) (rest : List VerType) → fits h.program (type_of_value h.program h.state.heap v) t ≡ true → Some (types_in h under) ≡ Some rest
+      → LeadsTo typings h (behind h ∷ []) (types_with h (t ∷ rest)) → Typed typings h (push h v under)
+  pushes_fitting v under t rest fit same leads =
+      settles_fitting (v ∷ under) (t ∷ rest) (list_fits h.program (type_of_value h.program h.state.heap v) t (types_in h under) rest fit (under_fits under rest same)) leads
+
+  pub goes_with : (v : Value) (under : List Value) (t : VerType) (rest : List VerType) → fits h.program (type_of_value h.program h.state.heap v) t ≡ true → Some (types_in h under) ≡ Some rest
+      → LeadsTo typings h (behind h ∷ []) (types_with h (t ∷ rest)) → Typed typings h (go h (v ∷ under))
+  goes_with v under t rest fit same leads =
+      goes_fitting (v ∷ under) (t ∷ rest) (list_fits h.program (type_of_value h.program h.state.heap v) t (types_in h under) rest fit (under_fits under rest same)) leads
 
   pub settles : (operands : List Value) → LeadsTo typings h (behind h ∷ []) (types_with h (types_in h operands)) → Typed typings h (settle h operands)
   settles operands leads =

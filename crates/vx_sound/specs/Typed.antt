@@ -1,20 +1,25 @@
 -- What every state of a run keeps where each method has a typing: values are of the types that are known where they stand.
-use Rattle.std.specs.Prelude.{Bool, List, None, Option, Some, [], false, length, map, not, option_map, true, ℕ, ◌&&◌, ◌+◌, ◌<◌, ◌∷◌, ◌≡◌, ◌≤◌}
+use Rattle.std.specs.Prelude.{Bool, List, None, Option, Some, [], false, length, map, not, option_map, true, ℕ, ◌&&◌, ◌+◌, ◌<◌, ◌==◌, ◌∷◌, ◌≡◌, ◌≤◌}
+use Rattle.vx_class.specs.Members.{STATIC}
 use Rattle.vx_class.specs.declared.class_file.Code.{Code}
+use Rattle.vx_desc.specs.declared.java_type.JavaType.{JavaType}
+use Rattle.vx_java.specs.Calls.{arguments_off}
 use Rattle.vx_java.specs.FirstObjects.{first_objects, object_of_first}
-use Rattle.vx_java.specs.Machine.{Ended, Frame, Go, Begin, Native, Object, Outcome, Raise, State, Throw, Top, Write, no_object, object_at}
+use Rattle.vx_java.specs.Machine.{Begin, Ended, Ends, Frame, Go, Goes, Native, Next, Object, Outcome, Raise, Ref, State, Throw, Top, Value, Write, no_object, object_at}
 use Rattle.vx_java.specs.Returns.{bytes_of, instruction_size}
+use Rattle.vx_java.specs.Step.{Live, Over, Run}
 use Rattle.vx_kept_facts.specs.Kept.{is_throwable}
 use Rattle.vx_link.specs.ClassNames.{is_array}
 use Rattle.vx_link.specs.Hierarchy.{is_among, superclasses}
-use Rattle.vx_link.specs.Parts.{field_at, is_static_field, method_at}
+use Rattle.vx_link.specs.Parts.{class_count, field_at, has, is_static_field, method_at}
 use Rattle.vx_link.specs.Signature.{signature}
 use Rattle.vx_link.specs.declared.program.Program.{Program}
 use Rattle.vx_list.specs.Places.{item_or}
 use Rattle.vx_opcode.specs.Decode.{instruction_at}
-use Rattle.vx_sound.specs.Values.{cell_type, type_of_field, type_of_value, types_of_frame, types_of_values}
+use Rattle.vx_sound.specs.Values.{cell_type, type_of_field, type_of_reference, type_of_value, types_of_frame, types_of_values}
 use Rattle.vx_types.specs.Fits.{all_fit, fits}
-use Rattle.vx_types.specs.Types.{VerState, type_of}
+use Rattle.vx_types.specs.Rows.{current_class}
+use Rattle.vx_types.specs.Types.{VerState, class_type, type_of}
 use Rattle.vx_types.specs.declared.types.VerType.{VerType}
 use Rattle.vx_value.specs.declared.end.End.{End}
 use Rattle.vx_value.specs.declared.end.End.TheVariants.{Illegal}
@@ -94,6 +99,40 @@ abbrev pub AreTypedUnder : Program → Typings → List Object → (kind : Kind)
 AreTypedUnder p typings heap kind m [] = Unit {0}
 AreTypedUnder p typings heap kind m (f ∷ below) = IsTypedUnder p typings heap kind m f × AreTypedUnder p typings heap f.kind f.method below
 
+-- ---- native methods at their calls
+
+abbrev pub IsOfType : Program → List Object → Option VerType → Value → Type 0
+IsOfType p heap None v = ⊥
+IsOfType p heap (Some t) v = fits p (type_of_value p heap v) t ≡ true
+
+-- values are of the types of a descriptor, one by one
+abbrev pub AreOfTypes : Program → List Object → (descriptor : List ℕ) → List JavaType → List Value → Type 0
+AreOfTypes p heap d [] [] = Unit {0}
+AreOfTypes p heap d (t ∷ ts) (v ∷ vs) = IsOfType p heap (type_of p d t) v × AreOfTypes p heap d ts vs
+AreOfTypes p heap d _ _ = ⊥
+
+-- an object of the method's class stands on the caller's operands
+pub record IsOnReceiver (p : Program) (heap : List Object) (method : ℕ) (below rest : List Value) : Type 0 where
+  pub object : ℕ
+  pub is : below ≡ Ref object ∷ rest
+  pub class : fits p (type_of_reference p heap object) (class_type p (current_class p method)) ≡ true
+
+-- what stands under the arguments
+abbrev pub IsUnderArguments : Program → List Object → (method : ℕ) → (static : Bool) → (below rest : List Value) → Type 0
+IsUnderArguments p heap m true below rest = below ≡ rest
+IsUnderArguments p heap m false below rest = IsOnReceiver p heap m below rest
+
+-- the arguments stand on the operands, the receiver under them, and under that what the caller goes on with
+pub record IsTypedNative (p : Program) (typings : Typings) (m : ℕ) (s : State) : Type 0 where
+  pub numbered : ((method_at p m).native == 0) ≡ false
+  pub values : List Value
+  pub below : List Value
+  pub rest : List Value
+  pub taken : arguments_off (signature (method_at p m).descriptor).arguments s.top.operands ≡ Some (values, below)
+  pub arguments : AreOfTypes p s.heap (method_at p m).descriptor (signature (method_at p m).descriptor).arguments values
+  pub under : IsUnderArguments p s.heap m (has STATIC (method_at p m).flags) below rest
+  pub waits : IsTypedCaller p typings s.heap m (record (s.top) { operands = rest })
+
 -- ---- states
 
 abbrev pub AreTypedStatics : Program → State → Type 0
@@ -102,6 +141,7 @@ AreTypedStatics p s = (f : ℕ) → is_static_field p f ≡ true → fits p (typ
 pub record IsTypedState (p : Program) (typings : Typings) (s : State) : Type 0 where
   pub heap : IsTypedHeap p s.heap
   pub statics : AreTypedStatics p s
+  pub inits : length s.inits ≡ class_count p
   pub top : IsTypedFrame p typings s.heap s.top
   pub callers : AreTypedUnder p typings s.heap s.top.kind s.top.method s.callers
 
@@ -111,12 +151,22 @@ abbrev pub is_illegal : End → Bool
 is_illegal (Illegal place) = true
 is_illegal _ = false
 
--- an outcome goes on in such a state, raises and throws what is Throwable, and ends no run as illegal
+-- an outcome goes on in such a state, raises and throws what is Throwable, has what a native method takes, and ends no run as illegal
 abbrev pub IsTypedOutcome : Program → Typings → Outcome → Type 0
 IsTypedOutcome p typings (Go s) = IsTypedState p typings s
 IsTypedOutcome p typings (Raise class message s) = (is_throwable p class ≡ true) × IsTypedState p typings s
 IsTypedOutcome p typings (Throw object s) = (object < length s.heap) × (is_throwable p (object_at s object).class ≡ true) × IsTypedState p typings s
 IsTypedOutcome p typings (Begin class s) = IsTypedState p typings s
-IsTypedOutcome p typings (Native m s) = IsTypedState p typings s
+IsTypedOutcome p typings (Native m s) = IsTypedState p typings s × IsTypedNative p typings m s
 IsTypedOutcome p typings (Write stream units s) = IsTypedState p typings s
 IsTypedOutcome p typings (Ended end) = is_illegal end ≡ false
+
+-- so does what follows it
+abbrev pub IsTypedNext : Program → Typings → Next → Type 0
+IsTypedNext p typings (Goes s) = IsTypedState p typings s
+IsTypedNext p typings (Ends end) = is_illegal end ≡ false
+
+-- and a run
+abbrev pub IsTypedRun : Program → Typings → Run → Type 0
+IsTypedRun p typings (Live g) = IsTypedState p typings g.state
+IsTypedRun p typings (Over end g) = is_illegal end ≡ false

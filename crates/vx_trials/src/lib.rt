@@ -148,7 +148,7 @@ mod tests {
     ];
 
     /// Words, and what has to come: the code, `out`, and `err`.
-    const CASES: [(&str, u8, &str, &str); 65] = [
+    const CASES: [(&str, u8, &str, &str); 74] = [
         (
             "run a m Main 100 1",
             0,
@@ -372,6 +372,30 @@ mod tests {
         ("verify n m Main", 8, "", "no option A\n"),
         ("verify c e Main", 8, "", "cycle P\n"),
         ("verify n e", 2, "", "usage\n"),
+        (
+            "replay a m Main 100 A",
+            0,
+            "varexj replay 1\nout 1\\0a\nend return\nattempts 4\nat Main.main([Ljava/lang/String;)V@9 -\ndone\n",
+            "",
+        ),
+        (
+            "replay a m Main 3 -",
+            0,
+            "varexj replay 1\nout 0\\0a\nend unfinished\nattempts 3\nat Main.main([Ljava/lang/String;)V@9 -\ndone\n",
+            "",
+        ),
+        ("replay a none Main 100 A", 11, "", "not allowed\n"),
+        ("replay absent m Main 100 A,A", 11, "", "not allowed\n"),
+        ("replay a on Main 100 -", 11, "", "not allowed\n"),
+        (
+            "replay b e Main 100 -",
+            7,
+            "",
+            "bad class 1\\201.class at 3 reason 3\n",
+        ),
+        ("replay n m Main 100 A", 8, "", "no option A\n"),
+        ("replay a m Main 0 A", 2, "", "usage\n"),
+        ("replay a m Main 100", 2, "", "usage\n"),
         ("asm word", 12, "", "bad source line 1 reason 1\n"),
         ("asm", 2, "", "usage\n"),
     ];

@@ -37,7 +37,9 @@ fn is_much(fresh: u64, left: u64, most: u64) -> bool
 
 impl Upkeep {
     /// That of a state with which runs begin.
-    pub fn new() -> Upkeep {
+    pub fn new() -> Upkeep
+        ensures { result ≡ record { held = 0; most_sets = 0; callers = 0; most_callers = 0 } }
+    {
         Upkeep {
             held: 0,
             most_sets: 0,

@@ -20,4 +20,6 @@ pub mod StartLaws
 pub mod Joints
 pub mod Steps
 pub mod Sweeps
+pub mod SpanLaws
+pub mod QuietLaws
 pub mod RankLaws

@@ -50,7 +50,7 @@ reaching_forced s i j positions n state is goes stands forced l =
     (All-get_or (λ q. IsForcedIn s q (state_at i.store s.frame state)) positions n 0 l forced)
 
 -- what was reached is reached still
-reached_later : (s : Subject) (j k : Inference) (q : ℕ) (x : VerState) → IsSubject s → Goes s j k → IsReached s.program.now (known_of s j) q x → IsReached s.program.now (known_of s k) q x
+pub reached_later : (s : Subject) (j k : Inference) (q : ℕ) (x : VerState) → IsSubject s → Goes s j k → IsReached s.program.now (known_of s j) q x → IsReached s.program.now (known_of s k) q x
 reached_later s j k q x subject goes reached = reached_raised s.program.now subject.ranked (known_of s j) (known_of s k) q x goes.raised reached
 
 pub reaching_step : (s : Subject) (i j k : Inference) (positions : List ℕ) (n : ℕ) (state : State) → IsSubject s → IsInference s i → Stands i.store s.frame state → n < length positions
@@ -301,7 +301,7 @@ handling_skip s i j at n before row other covered l e handling c passed = record
 }
 
 -- local variables are what they were
-caught_kept_on : (s : Subject) (i j : Inference) (row : Catch) (before : State) → IsInference s i → Goes s i j → Stands i.store s.frame before → caught_state s j row before ≡ caught_state s i row before
+pub caught_kept_on : (s : Subject) (i j : Inference) (row : Catch) (before : State) → IsInference s i → Goes s i j → Stands i.store s.frame before → caught_state s j row before ≡ caught_state s i row before
 caught_kept_on s i j row before is goes stands =
     ap (λ (x : VerState). handler_state s.program.now s.method.0 row x) (state_kept i.store j.store s.frame before is.store goes.later stands)
 

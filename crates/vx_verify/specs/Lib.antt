@@ -6,4 +6,6 @@ pub mod States
 pub mod Moving
 pub mod Joining
 pub mod Inference
+pub mod Spans
+pub mod Quieting
 pub mod Ranks

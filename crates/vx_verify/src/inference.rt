@@ -8,9 +8,11 @@ ghost use Rattle.vx_java.specs.Ids.{HasClassNumbers};
 ghost use Rattle.vx_types.specs.Flow.{stack_size, targets_of};
 ghost use Rattle.vx_types.specs.Ranked.{IsRanked};
 ghost use Rattle.vx_verify.specs.Inference.{AreCaught, AreForced, AreHandled, AreReached, Goes, HasMerged, HasNoTyping, IsCaught, IsClosedIn, IsDecoded, IsFollowed, IsForcedIn, IsHandled, IsInference, IsJoint, IsLooked, IsRaising, IsSubject, IsSwept, Leads, Reaches, caught_state, is_last, joint_of, known_of, state_of};
+ghost use Rattle.vx_verify.specs.Quieting.{IsQuiet, QuietGoes, QuietHandled, QuietLooked};
 ghost use Rattle.vx_verify.specs.States.{IsStack, IsStore, Stands, operands_at, state_at};
 ghost use Rattle.vx_verify.specs.Typing.{IsCodeTyped, is_known};
 
+use crate::quiet::{Quiet, around, is_quiet, none_quiet};
 use crate::rows::{Frame, State, after};
 use crate::start::{caught_by, levels_of, start_state};
 use crate::store::Store;
@@ -343,7 +345,7 @@ impl Inference {
     }
 
     /// The local variables before an instruction, merged into the handlers of the rows that cover it.
-    fn handle(
+    fn handle_rows(
         &mut self,
         alloc: Global,
         subject: &Subject,
@@ -371,6 +373,34 @@ impl Inference {
         Ok(true)
     }
 
+    /// The same, unless they have been merged into these handlers before. The positions behind are then known for which nothing more
+    /// has to be done.
+    fn handle(
+        &mut self,
+        alloc: Global,
+        subject: &Subject,
+        at: u32,
+        before: State,
+        quiet: &mut Quiet,
+    ) -> Result<bool, AllocError>
+        requires subject { IsSubject subject.now }
+        requires inference { IsInference subject.now self.old }
+        requires stands { Stands self.old.store subject.now.frame before }
+        requires forced { IsForcedIn subject.now at (state_at self.old.store subject.now.frame before) }
+        requires quiet { IsQuiet subject.now self.old quiet.old }
+        ensures { IfOk result (λ handled. MatchBool handled (QuietHandled subject.now self.old self.new at before quiet.new) (HasNoTyping subject.now)) }
+    {
+        if is_quiet(*quiet, at, before.locals) {
+            return Ok(true);
+        }
+        let handled = self.handle_rows(alloc, subject, at, before)?;
+        if !handled {
+            return Ok(false);
+        }
+        *quiet = around(subject.code.catches.as_slice(), at, before.locals);
+        Ok(true)
+    }
+
     /// Looks at the instruction of a position with the types before it. The answer is false where the method then has no typing.
     fn visit(
         &mut self,
@@ -378,12 +408,14 @@ impl Inference {
         subject: &Subject,
         at: u32,
         before: State,
+        quiet: &mut Quiet,
     ) -> Result<bool, AllocError>
         requires subject { IsSubject subject.now }
         requires inference { IsInference subject.now self.old }
         requires known { known_of subject.now self.old at ≡ Some (state_at self.old.store subject.now.frame before) }
         requires stands { Stands self.old.store subject.now.frame before }
-        ensures { IfOk result (λ looked. MatchBool looked (IsLooked subject.now self.old self.new at before) (HasNoTyping subject.now)) }
+        requires quiet { IsQuiet subject.now self.old quiet.old }
+        ensures { IfOk result (λ looked. MatchBool looked (QuietLooked subject.now self.old self.new at before quiet.new) (HasNoTyping subject.now)) }
     {
         let Ok(instruction) = decode(subject.code.bytes.as_slice(), at) else {
             return Ok(false);
@@ -394,7 +426,7 @@ impl Inference {
         if !followed {
             return Ok(false);
         }
-        self.handle(alloc, subject, at, before)
+        self.handle(alloc, subject, at, before, quiet)
     }
 
     /// A position loses its mark where its types are as they were when its instruction was looked at.
@@ -415,17 +447,24 @@ impl Inference {
     }
 
     /// Looks at a marked position, which loses its mark unless that raises its own types.
-    fn step(&mut self, alloc: Global, subject: &Subject, at: u32) -> Result<bool, AllocError>
+    fn step(
+        &mut self,
+        alloc: Global,
+        subject: &Subject,
+        at: u32,
+        quiet: &mut Quiet,
+    ) -> Result<bool, AllocError>
         requires subject { IsSubject subject.now }
         requires inference { IsInference subject.now self.old }
         requires position { at < length subject.now.code.now.bytes }
-        ensures { IfOk result (λ looked. MatchBool looked (Goes subject.now self.old self.new) (HasNoTyping subject.now)) }
+        requires quiet { IsQuiet subject.now self.old quiet.old }
+        ensures { IfOk result (λ looked. MatchBool looked (QuietGoes subject.now self.old self.new quiet.new) (HasNoTyping subject.now)) }
     {
         let Some(before) = self.states[at as usize] else {
             self.marked[at as usize] = false;
             return Ok(true);
         };
-        let looked = self.visit(alloc, subject, at, before)?;
+        let looked = self.visit(alloc, subject, at, before, quiet)?;
         if !looked {
             return Ok(false);
         }
@@ -440,12 +479,13 @@ impl Inference {
         ensures { IfOk result (λ found. IsSwept subject.now self.new found) }
     {
         let mut found = false;
+        let mut quiet = none_quiet();
         for at in 0..subject.code.bytes.len() {
             if !self.marked[at] {
                 continue;
             }
             found = true;
-            let looked = self.step(alloc, subject, at as u32)?;
+            let looked = self.step(alloc, subject, at as u32, &mut quiet)?;
             if !looked {
                 return Ok(None);
             }

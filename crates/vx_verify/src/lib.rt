@@ -2,6 +2,7 @@
 #![tactic(auto)]
 
 mod inference;
+mod quiet;
 mod ranks;
 mod rows;
 mod start;

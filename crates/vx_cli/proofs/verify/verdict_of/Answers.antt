@@ -10,4 +10,4 @@ judged-requires-clause-codes c =
     (can_be_judged c.args.main.now c.args.model.now c.args.classes.items c.in_ok-program.program c.linked_are_bounded.ensures c.requires.few c.requires.read c.in_ok-program.ensures).1
 
 pub returns : goal.returns
-returns c = of_judged c.args.main.now c.args.model.now c.args.classes.items c.in_ok-program.program c.judged.result c.in_ok-program.ensures c.judged.ensures
+returns c = of_judged c.args.main.now c.args.model.now c.args.classes.items c.in_ok-program.program c.judged.result c.requires.read c.in_ok-program.ensures c.judged.ensures

@@ -1,4 +1,5 @@
 use Rattle.std.proofs.lemmas.Result.{err_from_is_err_and}
+use Rattle.vx_class.specs.Class.{class_of}
 use Rattle.vx_cli.specs.Run.{read_folder}
 use Rattle.vx_cli.specs.Verify.{judge_classes, verify_plan}
 use Rattle.vx_cli.proofs.Judging.{verify_err, verify_ok}
@@ -9,14 +10,14 @@ pub returns-in_err-model-clause-err : goal.returns-in_err-model-clause-err
 returns-in_err-model-clause-err g c =
     let p = err_from_is_err_and c.from_residual.result c.from_residual.ensures.1 in
     let w = c.args.words in
-    rw (p.1, p.2) (c.in_err-model.ensures.err (λ model. read_folder w.folder.now (judge_classes w.main.now model)))
+    rw (p.1, p.2) (c.in_err-model.ensures.err (λ model. read_folder class_of w.folder.now (judge_classes w.main.now model)))
 
 pub returns-in_err-classes-clause-err : goal.returns-in_err-classes-clause-err
 returns-in_err-classes-clause-err g c =
     let p = err_from_is_err_and c.from_residual-in_err-classes.result c.from_residual-in_err-classes.ensures.1 in
     let w = c.args.words in
-    rw (p.1, p.2) (stops_behind (g.F.Files.seen c.args.files.now) (g.F.Files.seen c.read_any_model.new.files) (g.F.Files.seen c.read_folder.new.files) (verify_plan w.folder.now w.model.now w.main.now) (read_folder w.folder.now (judge_classes w.main.now c.in_ok-model.model)) _
-    c.in_ok-model.ensures.keeps (c.in_ok-model.ensures.ok (λ model. read_folder w.folder.now (judge_classes w.main.now model))) (c.in_err-classes.ensures.err (judge_classes w.main.now c.in_ok-model.model)))
+    rw (p.1, p.2) (stops_behind (g.F.Files.seen c.args.files.now) (g.F.Files.seen c.read_any_model.new.files) (g.F.Files.seen c.read_folder.new.files) (verify_plan w.folder.now w.model.now w.main.now) (read_folder class_of w.folder.now (judge_classes w.main.now c.in_ok-model.model)) _
+    c.in_ok-model.ensures.keeps (c.in_ok-model.ensures.ok (λ model. read_folder class_of w.folder.now (judge_classes w.main.now model))) (c.in_err-classes.ensures.err (judge_classes w.main.now c.in_ok-model.model)))
 
 pub returns-clause-ok : goal.returns-clause-ok
 returns-clause-ok g c =

@@ -10,10 +10,10 @@ pub start-requires : goal.start-requires
 start-requires g c = rw c.as_slice-2.ensures.value (rw c.as_slice.ensures at c.in_ok-sets.ensures.ok)
 
 pub all_lines-requires-clause-ends : goal.all_lines-requires-clause-ends
-all_lines-requires-clause-ends g c = c.in_ok-covering.ensures.start.ends.open_sets
+all_lines-requires-clause-ends g c = c.in_ok-covering.ensures.start.end_blocks
 
 pub all_lines-requires-clause-pieces : goal.all_lines-requires-clause-pieces
-all_lines-requires-clause-pieces g c = c.in_ok-covering.ensures.start.pieces.open_sets
+all_lines-requires-clause-pieces g c = c.in_ok-covering.ensures.start.piece_blocks
 
 pub returns-clause-extends : goal.returns-clause-extends
 returns-clause-extends g c = Extends-trans c.in_ok-sets.ensures.extends (Extends-trans c.in_ok-covering.ensures.extends c.all_lines.ensures.extends)

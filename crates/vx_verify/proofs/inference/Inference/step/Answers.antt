@@ -1,7 +1,8 @@
 use Rattle.std.proofs.Common.{None, arith, refl, sym, ◌∙◌}
 use Rattle.vx_verify.proofs.Joints.{goes_through, state_known}
 use Rattle.vx_verify.proofs.Known.{item_read}
-use Rattle.vx_verify.proofs.Sweeps.{closed_later, unknown_done, unmarked_goes}
+use Rattle.vx_verify.proofs.QuietLaws.{quiet_later, unmarked_quiet}
+use Rattle.vx_verify.proofs.Sweeps.{closed_later, unknown_done}
 use Rattle.vx_verify.proofs.inference.Inference.step.Goals as goal
 
 pub visit-requires-clause-known : goal.visit-requires-clause-known
@@ -20,7 +21,7 @@ pub returns-then-not-looked : goal.returns-then-not-looked
 returns-then-not-looked c = rw c.if-not-looked.true at c.in_ok-looked.ensures
 
 pub unmark-requires-clause-inference : goal.unmark-requires-clause-inference
-unmark-requires-clause-inference c = let l = rw c.if-not-looked.false at c.in_ok-looked.ensures in l.goes.inference
+unmark-requires-clause-inference c = let l = rw c.if-not-looked.false at c.in_ok-looked.ensures in l.0.goes.inference
 
 pub unmark-requires-clause-closed : goal.unmark-requires-clause-closed
 unmark-requires-clause-closed c =
@@ -28,16 +29,21 @@ unmark-requires-clause-closed c =
     λ there. closed_later c.args.subject.now i c.visit.new.self c.args.at c.in-Some.before c.requires.inference
     (c.requires.inference.stands c.args.at c.in-Some.before
     (sym (item_read i.states.items c.args.at c.index.result.now None (omega (arith, c.requires.position, c.requires.inference.states)) c.index.ensures) ∙ c.in-Some.is))
-    (rw c.if-not-looked.false at c.in_ok-looked.ensures)
+    (rw c.if-not-looked.false at c.in_ok-looked.ensures).0
 
 pub returns : goal.returns
 returns c =
-    let l = rw c.if-not-looked.false at c.in_ok-looked.ensures in
-    goes_through c.args.subject.now c.args.self.now c.visit.new.self c.unmark.new.self c.requires.subject l.goes c.unmark.ensures
+    let s = c.args.subject.now in
+    let l = rw c.if-not-looked.false at c.in_ok-looked.ensures in (
+      goes_through s c.args.self.now c.visit.new.self c.unmark.new.self c.requires.subject l.0.goes c.unmark.ensures,
+      quiet_later s c.visit.new.self c.unmark.new.self c.visit.new.quiet c.requires.subject l.0.goes.inference c.unmark.ensures l.1,
+    )
 
 pub returns-in_default : goal.returns-in_default
 returns-in_default c =
+    let s = c.args.subject.now in
     let i = c.args.self.now in
-    unmarked_goes c.args.subject.now i _ c.args.at c.requires.subject c.requires.inference refl refl refl refl
-    (unknown_done c.args.subject.now i c.args.at
+    unmarked_quiet s i _ c.args.at c.args.quiet.now c.requires.subject c.requires.inference refl refl refl refl
+    (unknown_done s i c.args.at
     (sym (item_read i.states.items c.args.at c.index.result.now None (omega (arith, c.requires.position, c.requires.inference.states)) c.index.ensures) ∙ c.in_default.is))
+    c.requires.quiet

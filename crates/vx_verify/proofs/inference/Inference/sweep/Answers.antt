@@ -1,18 +1,24 @@
 use Rattle.std.proofs.Common.{arith}
+use Rattle.vx_verify.proofs.QuietLaws.{quiet_none}
 use Rattle.vx_verify.proofs.Sweeps.{sweeping_start, sweeping_step, swept}
 use Rattle.vx_verify.proofs.inference.Inference.sweep.Goals as goal
 
 pub loop-at-init : goal.loop-at-init
-loop-at-init c = sweeping_start c.args.subject.now c.args.self.now c.requires.inference
+loop-at-init c = record {
+  sweeping = sweeping_start c.args.subject.now c.args.self.now c.requires.inference;
+  quiet = quiet_none c.args.subject.now c.args.self.now _ c.none_quiet-quiet.ensures;
+}
 
 pub step-requires-clause-inference : goal.step-requires-clause-inference
-step-requires-clause-inference c = c.loop-at.invariant.inference
+step-requires-clause-inference c = c.loop-at.invariant.sweeping.inference
 
 pub returns-then-not-looked : goal.returns-then-not-looked
 returns-then-not-looked c = rw c.if-not-looked.true at c.in_ok-looked.ensures
 
 pub loop-at-preserved : goal.loop-at-preserved
-loop-at-preserved c = sweeping_step c.args.subject.now c.loop-at.self c.step.new.self c.loop-at.at (rw c.if-not-looked.false at c.in_ok-looked.ensures)
+loop-at-preserved c =
+    let g = rw c.if-not-looked.false at c.in_ok-looked.ensures in
+    record { sweeping = sweeping_step c.args.subject.now c.loop-at.self c.step.new.self c.loop-at.at g.0; quiet = g.1 }
 
 pub returns : goal.returns
-returns c = swept c.args.subject.now c.loop-at.self c.loop-at.at c.loop-at.found c.loop-at.invariant (omega arith)
+returns c = swept c.args.subject.now c.loop-at.self c.loop-at.at c.loop-at.found c.loop-at.invariant.sweeping (omega arith)

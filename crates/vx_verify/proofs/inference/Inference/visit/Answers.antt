@@ -1,5 +1,6 @@
 use Rattle.std.proofs.Common.{List, ap, arith, sym, ℕ, ◌∙◌}
 use Rattle.std.proofs.lemmas.Result.{IfOk-weaker}
+use Rattle.vx_verify.proofs.QuietLaws.{quiet_later, quiet_looked}
 use Rattle.vx_verify.proofs.Sweeps.{decoded_is, known_later, looked, none_decoded, undecoded_has_none}
 use Rattle.vx_opcode.specs.Decode.{instruction_at}
 use Rattle.vx_verify.proofs.StoreLaws.{stands_kept}
@@ -35,9 +36,15 @@ handle-requires-clause-forced c =
     let f = rw c.if-not-followed.false at c.in_ok-followed.ensures in
     known_later c.args.subject.now c.args.self.now _ c.args.at c.args.before c.requires.inference f.goes c.requires.stands (c.requires.inference.inferred.forced c.args.at _ c.requires.known)
 
+pub handle-requires-clause-quiet : goal.handle-requires-clause-quiet
+handle-requires-clause-quiet c =
+    let f = rw c.if-not-followed.false at c.in_ok-followed.ensures in
+    quiet_later c.args.subject.now c.args.self.now _ c.args.quiet.now c.requires.subject c.requires.inference f.goes c.requires.quiet
+
 pub returns : goal.returns
 returns c =
     IfOk-weaker c.handle.result _ _
-    (λ handled h. looked c.args.subject.now c.args.self.now c.follow.new.self c.handle.new.self c.args.at c.args.before handled c.requires.subject c.requires.inference c.requires.stands
-    (rw c.if-not-followed.false at c.in_ok-followed.ensures) h)
+    (λ handled h. quiet_looked c.args.subject.now c.args.self.now c.follow.new.self c.handle.new.self c.args.at c.args.before c.handle.new.quiet handled
+    (looked c.args.subject.now c.args.self.now c.follow.new.self c.handle.new.self c.args.at c.args.before handled c.requires.subject c.requires.inference c.requires.stands
+    (rw c.if-not-followed.false at c.in_ok-followed.ensures)) h)
     c.handle.ensures

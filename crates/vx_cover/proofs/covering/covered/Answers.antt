@@ -1,5 +1,0 @@
-use Rattle.vx_cover.proofs.Opening.{open_at}
-use Rattle.vx_cover.proofs.covering.covered.Goals as goal
-
-pub push_covered-requires : goal.push_covered-requires
-push_covered-requires g c = (open_at (g.S.Space.sets c.args.space.now) c.args.targets.now c.loop-target.target-index c.target-item.result c.loop-target-test.true c.target-item.is c.requires).0

@@ -1,0 +1,3 @@
+mod CellCounts
+mod GridLaws
+mod Laws

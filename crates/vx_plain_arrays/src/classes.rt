@@ -1,0 +1,116 @@
+//! The classes of arrays by their elements, and what elements begin with (JVMS 2.3, 2.4, 6.5).
+
+ghost use Rattle.std.specs.Prelude.{◌≡◌, ◌==◌, ◌<◌, IfOk};
+ghost use Rattle.vx_java.specs.Arrays.{array_of, element_default, is_array_of};
+ghost use Rattle.vx_java.specs.Ids.{HasClassNumbers};
+ghost use Rattle.vx_link.specs.ClassNames.{array_class, array_over};
+ghost use Rattle.vx_plain.specs.Views.{object_of, value_of};
+ghost use Rattle.vx_plain_arrays.specs.Elements.{default_of_element};
+
+use std::alloc::{AllocError, Global};
+use vx_java::Element;
+use vx_java::arrays::{element_of, elements, has_reference_components};
+use vx_link::Program;
+use vx_plain::{Object, Value};
+use vx_value::ClassId;
+
+/// The elements that are primitive types.
+const BOOLEAN: u32 = 0;
+
+const BYTE: u32 = 1;
+
+const CHAR: u32 = 2;
+
+pub(crate) const DOUBLE: u32 = 3;
+
+pub(crate) const FLOAT: u32 = 4;
+
+const INT: u32 = 5;
+
+const LONG: u32 = 6;
+
+const SHORT: u32 = 7;
+
+/// Whether a class is that of arrays of one dimension with an element that is a primitive type.
+fn has_primitives(program: &Program, class: ClassId, element: u32) -> bool
+    ensures { result ≡ (class.0 == array_class program.now 1 element) }
+{
+    u64::from(class.0) == program.classes.as_slice().len() as u64 + u64::from(element)
+}
+
+/// Whether an instruction works on arrays of a class.
+pub(crate) fn is_array_of(program: &Program, element: Element, class: ClassId) -> bool
+    ensures { result ≡ is_array_of program.now element class.0 }
+{
+    match element {
+        Element::References => has_reference_components(program, class),
+        Element::Ints => has_primitives(program, class, INT),
+        Element::Longs => has_primitives(program, class, LONG),
+        Element::Bytes => {
+            has_primitives(program, class, BYTE) || has_primitives(program, class, BOOLEAN)
+        }
+        Element::Chars => has_primitives(program, class, CHAR),
+        Element::Shorts => has_primitives(program, class, SHORT),
+    }
+}
+
+/// What a primitive element begins with; a float or a double is never read.
+fn primitive_default(element: u64) -> Value
+    ensures { result ≡ default_of_element element }
+{
+    if element == u64::from(DOUBLE) || element == u64::from(FLOAT) {
+        return Value::Top;
+    }
+    if element == u64::from(LONG) {
+        return Value::Long(0);
+    }
+    Value::Int(0)
+}
+
+/// What the elements of arrays of a class begin with.
+fn element_default(program: &Program, class: ClassId) -> Value
+    ensures { value_of result ≡ element_default program.now class.0 }
+{
+    if has_reference_components(program, class) {
+        return Value::Null;
+    }
+    primitive_default(element_of(program, class))
+}
+
+/// The class of arrays of one dimension with the primitive elements of a number.
+pub(crate) fn array_of_primitives(program: &Program, element: u32) -> ClassId
+    requires numbers { HasClassNumbers program.now }
+    requires element { element < 8 }
+    ensures { result.0 ≡ array_class program.now 1 element }
+{
+    ClassId(program.classes.len() as u32 + element)
+}
+
+/// The class of arrays whose components are of a class: one dimension more is so many numbers further. One whose number doesn't
+/// fit is refused as want of memory.
+#[tactic(auto, using(crate::proofs::Laws::array_over_is))]
+pub(crate) fn array_over(program: &Program, class: ClassId) -> Result<ClassId, AllocError>
+    requires { HasClassNumbers program.now }
+    ensures { IfOk result (λ r. r.0 ≡ array_over program.now class.0) }
+{
+    let number = u64::from(class.0) + elements(program);
+    if number > 0xFFFF_FFFF {
+        return Err(AllocError);
+    }
+    Ok(ClassId(number as u32))
+}
+
+/// A new array of a class.
+#[tactic(auto, using(crate::proofs::Laws::filled))]
+pub(crate) fn array_of(
+    alloc: Global,
+    program: &Program,
+    class: ClassId,
+    length: usize,
+) -> Result<Object, AllocError>
+    ensures { IfOk result (λ object. object_of object ≡ array_of program.now class.0 length) }
+{
+    let value = element_default(program, class);
+    let cells = Vec::from_elem(alloc, value, length)?;
+    Ok(Object::array(class, cells))
+}

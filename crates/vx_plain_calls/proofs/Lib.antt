@@ -1,0 +1,3 @@
+mod ArgumentLaws
+mod Laws
+mod ReturnLaws

@@ -1,0 +1,4 @@
+mod Given
+mod Numbered
+mod Readings
+pub mod Copies

@@ -1,0 +1,5 @@
+pub mod Answers
+pub mod Arguments
+pub mod Copying
+pub mod Numbers
+pub mod Texts

@@ -1,0 +1,116 @@
+//! Texts, arrays of chars and numbers that native methods read off the state.
+
+ghost use Rattle.std.specs.Prelude.{◌≡◌, ◌&&◌, IfOk, length, map, pos};
+ghost use Rattle.vx_java.specs.Checks.{is_within};
+ghost use Rattle.vx_java.specs.Library.{number_in};
+ghost use Rattle.vx_java.specs.Machine.{cell_at};
+ghost use Rattle.vx_java.specs.Texts.{chars_of, text_of_object, unit_of};
+ghost use Rattle.vx_plain.specs.Views.{state_of, value_of};
+ghost use Rattle.vx_plain_here.specs.Rows.{here_in};
+ghost use Rattle.vx_plain_natives.specs.Texts.{char_value};
+ghost use Rattle.vx_units.specs.Places.{in_texts};
+
+use crate::call::Call;
+use std::alloc::{AllocError, Global};
+use vx_plain::{State, Value};
+
+/// A length as an int. One that doesn't fit is refused as want of memory.
+pub(crate) fn int_of(length: usize) -> Result<i32, AllocError>
+    ensures { IfOk result (λ n. n ≡ pos length) }
+{
+    if length > 2_147_483_647 {
+        return Err(AllocError);
+    }
+    Ok(length as i32)
+}
+
+/// A difference as an int. One that doesn't fit is refused as want of memory.
+pub(crate) fn as_int(n: i64) -> Result<i32, AllocError>
+    ensures { IfOk result (λ made. made ≡ n) }
+{
+    if n < -2_147_483_648 || n > 2_147_483_647 {
+        return Err(AllocError);
+    }
+    Ok(n as i32)
+}
+
+/// A place as methods answer it: -1 where there is none.
+pub(crate) fn place_as_int(place: Option<usize>) -> Result<i32, AllocError>
+    ensures { IfOk result (λ n. n ≡ in_texts place) }
+{
+    match place {
+        Some(place) => int_of(place),
+        None => Ok(-1),
+    }
+}
+
+/// Whether an index is within a length.
+pub(crate) fn is_within(index: i32, length: usize) -> bool
+    ensures { result ≡ is_within index length }
+{
+    index >= 0 && (index as usize) < length
+}
+
+/// A second vector of a text.
+pub(crate) fn text_of(call: &Call<'_>, state: &State, object: u64) -> Result<Vec<u16>, AllocError>
+    ensures { IfOk result (λ units. units.items ≡ text_of_object (here_in call.now.here.now (state_of state.now)) object) }
+{
+    Vec::from_slice(call.here.alloc, state.text(object))
+}
+
+/// The unit in a cell of an array of chars.
+fn unit_of(cell: Value) -> u16
+    ensures { result ≡ unit_of (value_of cell) }
+{
+    match cell {
+        Value::Int(n) => (n.cast_unsigned() % 65_536) as u16,
+        _ => 0,
+    }
+}
+
+/// The units in the cells of an array of chars.
+fn units_in(alloc: Global, cells: &[Value]) -> Result<Vec<u16>, AllocError>
+    ensures { IfOk result (λ units. units.items ≡ map (λ cell. unit_of (value_of cell)) cells.now) }
+{
+    let mut units = Vec::new(alloc);
+    for cell in cells {
+        units.push(unit_of(*cell))?;
+    }
+    Ok(units)
+}
+
+/// The units in an array of chars.
+#[tactic(auto, using(crate::proofs::Readings::units_there))]
+pub(crate) fn chars_of(call: &Call<'_>, state: &State, array: u64) -> Result<Vec<u16>, AllocError>
+    ensures { IfOk result (λ units. units.items ≡ chars_of (here_in call.now.here.now (state_of state.now)) array) }
+{
+    units_in(call.here.alloc, state.cells(array)?)
+}
+
+/// The elements of an array of the units of a text.
+pub(crate) fn elements_of(alloc: Global, units: &[u16]) -> Result<Vec<Value>, AllocError>
+    ensures { IfOk result (λ cells. cells.items ≡ map char_value units.now) }
+{
+    let mut cells = Vec::new(alloc);
+    for unit in units {
+        cells.push(Value::Int(i32::from(*unit)))?;
+    }
+    Ok(cells)
+}
+
+/// The number in a cell, and 0 where it holds none.
+fn number_in(cell: Value) -> i32
+    ensures { result ≡ number_in (value_of cell) }
+{
+    match cell {
+        Value::Int(n) => n,
+        _ => 0,
+    }
+}
+
+/// The number in a cell of an object.
+pub(crate) fn number_at(state: &State, object: u64, place: usize) -> Result<i32, AllocError>
+    ensures { IfOk result (λ n. n ≡ number_in (cell_at (state_of state.now) object place)) }
+{
+    Ok(number_in(state.cell(object, place)?))
+}

@@ -1,0 +1,4 @@
+mod TableLaws
+pub mod CellLaws
+pub mod Named
+pub mod Short

@@ -1,0 +1,127 @@
+//! The cells with which objects begin (JVMS 2.3, 2.4).
+
+ghost use Rattle.std.specs.Prelude.{◌≡◌, ◌++◌, IfOk, OnOk, map};
+ghost use Rattle.vx_initial_heap.specs.First.{empty_text};
+ghost use Rattle.vx_java.specs.FirstObjects.{field_default, new_cells, new_object, own_cells};
+ghost use Rattle.vx_java.specs.Ids.{as_class};
+ghost use Rattle.vx_link.specs.Hierarchy.{superclasses};
+ghost use Rattle.vx_link.specs.Parts.{field_at, is_static_field};
+ghost use Rattle.vx_plain.specs.Views.{object_of, values_of, cells_of};
+ghost use Rattle.vx_plain_tables.specs.Cells.{is_text, plain_of, values_in};
+
+use std::alloc::{AllocError, Global};
+use vx_initial_heap::default_of;
+use vx_java::parts::{descriptor_of_field, fields_of, superclass_of};
+use vx_link::Program;
+use vx_plain::{Body, Object, Value};
+use vx_references::fields::is_static_field;
+use vx_value::{ClassId, FieldId, Slot};
+
+/// The value of a slot; `None` where it names a text.
+pub fn value_in(slot: Slot) -> Option<Value>
+    ensures { result ≡ plain_of slot }
+{
+    match slot {
+        Slot::Top => Some(Value::Top),
+        Slot::Int(n) => Some(Value::Int(n)),
+        Slot::Long(n) => Some(Value::Long(n)),
+        Slot::Null => Some(Value::Null),
+        Slot::Ref(object) => Some(Value::Ref(object)),
+        Slot::Text(_) => None,
+    }
+}
+
+/// A class and its superclasses upward.
+fn superclasses(
+    alloc: Global,
+    program: &Program,
+    class: ClassId,
+) -> Result<Vec<ClassId>, AllocError>
+    ensures { IfOk result (λ chain. chain.items ≡ map as_class (superclasses program.now class.0)) }
+{
+    let mut chain = Vec::new(alloc);
+    let mut left = program.classes.len();
+    let mut next = Some(class);
+    while left > 0 {
+        let Some(class) = next else {
+            return Ok(chain);
+        };
+        chain.push(class)?;
+        next = superclass_of(program, class);
+        left -= 1;
+    }
+    Ok(chain)
+}
+
+/// Appends what the instance fields of a class itself begin with.
+fn own_slots_out(program: &Program, class: ClassId, slots: &mut Vec<Slot>) -> Result<(), AllocError>
+    ensures { OnOk result (values_in slots.new.items ≡ values_in slots.old.items ++ own_cells program.now class.0) }
+{
+    for field in fields_of(program, class) {
+        if !is_static_field(program, *field) {
+            slots.push(default_of(descriptor_of_field(program, *field)))?;
+        }
+    }
+    Ok(())
+}
+
+/// What the cells of an object of a class begin with, from those of Object down.
+fn new_slots(alloc: Global, program: &Program, class: ClassId) -> Result<Vec<Slot>, AllocError>
+    ensures { IfOk result (λ slots. values_in slots.items ≡ new_cells program.now class.0) }
+{
+    let chain = superclasses(alloc, program, class)?;
+    let mut slots = Vec::new(alloc);
+    let count = chain.len();
+    for below in 0..count {
+        own_slots_out(program, chain[count - 1 - below], &mut slots)?;
+    }
+    Ok(slots)
+}
+
+/// The cells of slots. One that names a text is refused as want of memory.
+pub fn cells_of(alloc: Global, slots: &[Slot]) -> Result<Vec<Value>, AllocError>
+    ensures { IfOk result (λ cells. values_of cells.items ≡ values_in slots.now) }
+{
+    let mut cells = Vec::new(alloc);
+    for slot in slots {
+        match value_in(*slot) {
+            Some(value) => cells.push(value)?,
+            None => return Err(AllocError),
+        }
+    }
+    Ok(cells)
+}
+
+/// Whether slots are that of a text alone.
+fn is_text(slots: &[Slot]) -> bool
+    ensures { result ≡ is_text slots.now }
+{
+    match slots {
+        [Slot::Text(_)] => true,
+        _ => false,
+    }
+}
+
+/// What an object of slots holds. A text among other cells is refused as want of memory.
+fn body_of(alloc: Global, slots: &[Slot]) -> Result<Body, AllocError>
+    ensures { IfOk result (λ body. cells_of body ≡ values_in slots.now) }
+{
+    if is_text(slots) {
+        return Ok(Body::Text(Vec::new(alloc)));
+    }
+    let cells = cells_of(alloc, slots)?;
+    Ok(Body::Cells(cells))
+}
+
+/// A new object of a class (JVMS 6.5 new).
+pub fn new_object(alloc: Global, program: &Program, class: ClassId) -> Result<Object, AllocError>
+    ensures { IfOk result (λ object. object_of object ≡ new_object program.now class.0) }
+{
+    let slots = new_slots(alloc, program, class)?;
+    let body = body_of(alloc, &slots)?;
+    Ok(Object {
+        class,
+        size: 0,
+        body,
+    })
+}

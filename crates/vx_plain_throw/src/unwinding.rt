@@ -1,0 +1,135 @@
+//! The unwinding of frames (JVMS 2.10, 5.5).
+
+ghost use Rattle.std.specs.Prelude.{◌≡◌, ◌∷◌, [], IfOk, None, OnOk};
+ghost use Rattle.vx_java.specs.Ids.{HasClassNumbers};
+ghost use Rattle.vx_java.specs.Machine.{Goes, current_class, with_inits};
+ghost use Rattle.vx_java.specs.Throwing.{handler_of, passed_object, passed_state, unwind};
+ghost use Rattle.vx_plain.specs.Views.{state_of};
+ghost use Rattle.vx_plain_throw.specs.Passing.{in_handler, wrapped_object, wrapped_state};
+ghost use Rattle.vx_value.specs.declared.slot.InitState.TheVariants.{Failed};
+
+use crate::handling::{handler_of, is_error};
+use crate::making::throwable;
+use std::alloc::{AllocError, Global};
+use vx_java::parts::class_of_method;
+use vx_link::Program;
+use vx_plain::{State, Value};
+use vx_plain_ready::core_class;
+use vx_value::{ClassId, InitState, Kind};
+
+/// The handler of the frame on top for an object.
+#[tactic(auto, unfolding(vx_plain::specs::Views::state_of))]
+fn handler_on_top(program: &Program, state: &State, object: u64) -> Option<u32>
+    requires { HasClassNumbers program.now }
+    ensures { result ≡ handler_of program.now (state_of state.now) (state_of state.now).top.kind object }
+{
+    handler_of(program, &state.top, state.class_of(object))
+}
+
+/// The frame on top goes on in its handler, with an object alone on its operands.
+#[tactic(auto, unfolding(vx_plain::specs::Views::state_of))]
+fn handle(state: &mut State, object: u64, handler: u32) -> Result<(), AllocError>
+    ensures { OnOk result (state_of state.new ≡ in_handler (state_of state.old) object handler) }
+{
+    state.top.position = handler;
+    state.top.operands.clear();
+    state.top.operands.push(Value::Ref(object))?;
+    Ok(())
+}
+
+/// What leaves an initialisation: an error stays, another object is wrapped.
+fn wrap(alloc: Global, program: &Program, state: &mut State, object: u64) -> Result<u64, AllocError>
+    requires { HasClassNumbers program.now }
+    ensures object { IfOk result (λ r. r ≡ wrapped_object program.now (state_of state.old) object) }
+    ensures state { OnOk result (state_of state.new ≡ wrapped_state program.now (state_of state.old) object) }
+{
+    if is_error(program, state.class_of(object)) {
+        return Ok(object);
+    }
+    let class = core_class(program, b"java/lang/ExceptionInInitializerError");
+    let made = throwable(alloc, program, class, Value::Null, Value::Ref(object))?;
+    state.add(made)
+}
+
+#[tactic(auto, unfolding(vx_plain::specs::Views::state_of))]
+fn current_class(program: &Program, state: &State) -> ClassId
+    ensures { result.0 ≡ current_class program.now (state_of state.now) }
+{
+    class_of_method(program, state.top.method)
+}
+
+#[tactic(auto, unfolding(vx_plain::specs::Views::state_of))]
+fn kind_on_top(state: &State) -> Kind
+    ensures { result ≡ (state_of state.now).top.kind }
+{
+    state.top.kind
+}
+
+/// An object leaves an initialisation, which has failed.
+fn pass_initialisation(
+    alloc: Global,
+    program: &Program,
+    state: &mut State,
+    object: u64,
+) -> Result<u64, AllocError>
+    requires { HasClassNumbers program.now }
+    ensures object { IfOk result (λ r. r ≡ wrapped_object program.now (state_of state.old) object) }
+    ensures state { OnOk result (state_of state.new ≡ with_inits (wrapped_state program.now (state_of state.old) object) Failed (current_class program.now (state_of state.old) ∷ [])) }
+{
+    let class = current_class(program, state);
+    let thrown = wrap(alloc, program, state, object)?;
+    state.mark_one(class, InitState::Failed);
+    Ok(thrown)
+}
+
+/// An object passes the frame on top, which stays there.
+fn pass(alloc: Global, program: &Program, state: &mut State, object: u64) -> Result<u64, AllocError>
+    requires { HasClassNumbers program.now }
+    ensures object { IfOk result (λ r. r ≡ passed_object program.now (state_of state.old) (state_of state.old).top.kind object) }
+    ensures state { OnOk result (state_of state.new ≡ passed_state program.now (state_of state.old) (state_of state.old).top.kind object) }
+{
+    match kind_on_top(state) {
+        Kind::Call => Ok(object),
+        Kind::Init => pass_initialisation(alloc, program, state, object),
+        Kind::Wait => pass_initialisation(alloc, program, state, object),
+    }
+}
+
+/// An object passes the frame on top, which does not handle it and is taken off.
+fn pass_top(
+    alloc: Global,
+    program: &Program,
+    state: &mut State,
+    object: u64,
+) -> Result<u64, AllocError>
+    requires classes { HasClassNumbers program.now }
+    requires unhandled { None ≡ handler_of program.now (state_of state.old) (state_of state.old).top.kind object }
+    ensures { let s = state_of state.old in IfOk result (λ r. unwind program.now s object s.callers ≡ unwind program.now (state_of state.new) r (state_of state.new).callers) }
+{
+    let thrown = pass(alloc, program, state, object)?;
+    let Some(_passed) = state.leave() else {
+        return Err(AllocError);
+    };
+    Ok(thrown)
+}
+
+/// An object passes the frames on top until one handles it.
+pub(crate) fn unwind(
+    alloc: Global,
+    program: &Program,
+    state: &mut State,
+    object: u64,
+) -> Result<(), AllocError>
+    requires { HasClassNumbers program.now }
+    ensures { let s = state_of state.old in OnOk result (unwind program.now s object s.callers ≡ Goes (state_of state.new)) }
+{
+    let mut thrown = object;
+    let depth = state.depth();
+    for _passed in 0..depth {
+        match handler_on_top(program, state, thrown) {
+            Some(handler) => return handle(state, thrown, handler),
+            None => thrown = pass_top(alloc, program, state, thrown)?,
+        }
+    }
+    Err(AllocError)
+}

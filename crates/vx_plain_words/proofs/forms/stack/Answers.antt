@@ -1,0 +1,8 @@
+use Rattle.vx_plain.specs.Views.{state_of}
+use Rattle.vx_plain_here.proofs.Comes.{comes_as}
+use Rattle.vx_plain_here.specs.Rows.{here_in}
+use Rattle.vx_plain_words.proofs.FormLaws.{upper_missing}
+use Rattle.vx_plain_words.proofs.forms.stack.Goals as goal
+
+pub returns-in-None : goal.returns-in-None
+returns-in-None c = comes_as c.illegal.result _ _ _ _ (upper_missing (here_in c.args.here.now (state_of c.args.state.now)) c.args.form c.upper_words.result c.upper_words.ensures.words c.in-None.ensures) c.illegal.ensures

@@ -1,0 +1,6 @@
+mod Behind
+mod Calls
+mod Carried
+mod Shown
+mod Turned
+pub mod Steps

@@ -1,0 +1,16 @@
+//! The run of one configuration on the plain machine: its output, its end, the attempts that it has used, and where its frames
+//! stand at the end.
+#![tactic(auto)]
+
+mod attempting;
+mod natives;
+mod pieces;
+mod replaying;
+mod running;
+mod text;
+
+pub use attempting::{Attempted, Written, attempt};
+pub use pieces::PlainPiece;
+pub use replaying::run_text;
+pub use running::{Place, Replay, run_alone};
+pub use text::replay_text;

@@ -1,0 +1,10 @@
+pub mod Files
+pub mod CoreFacts
+pub mod Linked
+pub mod Ranks
+pub mod Hierarchy
+pub mod Programs
+pub mod Core
+pub mod Initialisers
+pub mod Forms
+pub mod Whole

@@ -1,0 +1,5 @@
+use Rattle.vx_sound_classes.proofs.Whole.{linked_have_ranks}
+use Rattle.vx_sound_classes.proofs.linked_have_ranks.Goals as goal
+
+pub returns : goal.returns
+returns c = linked_have_ranks

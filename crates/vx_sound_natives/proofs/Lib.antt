@@ -1,0 +1,14 @@
+pub mod ValueKinds
+pub mod Results
+pub mod Cells
+pub mod Known
+pub mod TextNatives
+pub mod BuilderNatives
+pub mod StreamNatives
+pub mod NumberNatives
+pub mod ObjectNatives
+pub mod CopyNative
+pub mod Table
+pub mod Given
+pub mod Calls
+pub mod Whole

@@ -1,0 +1,14 @@
+pub mod Lists
+pub mod Parts
+pub mod Programs
+pub mod Members
+pub mod Chains
+pub mod Rising
+pub mod Cells
+pub mod Cores
+pub mod Objects
+pub mod Whole
+pub mod CoreObjects
+pub mod Firsts
+pub mod Constants
+pub mod FirstValues

@@ -1,0 +1,5 @@
+use Rattle.vx_sound_objects.proofs.Whole as whole
+use Rattle.vx_sound_objects.proofs.linked_have_cells.Goals as goal
+
+pub returns : goal.returns
+returns c = whole.linked_have_cells
