@@ -10,8 +10,7 @@ use crate::class_draft::{Body, ClassDraft, Covered};
 use std::alloc::{AllocError, Global};
 use vx_class_parts::{Constant, ConstantTable, in_file_or_zero, is_lawful_class, put_constant};
 use vx_code_parts::{
-    Label, Labels, check_instruction, constant_of, draft_of, find_label, is_known, leads,
-    number_of, pushed,
+    Labels, check_instruction, constant_of, draft_of, is_known, leads, number_of, pushed,
 };
 use vx_source::{CatchLine, Instruction};
 use vx_source_words::{LDC, LineFault, refused};
@@ -114,17 +113,11 @@ pub fn instruction_line(
     Ok(with_instruction(alloc, draft, body, instruction)?)
 }
 
-/// The labels that were passed.
-fn passed(labels: &[Label], count: usize) -> &[Label]
-    ensures { result.now ≡ take count labels.now }
-{
-    &labels[..count.min(labels.len())]
-}
-
+/// Whether a label that was passed has this name.
 fn is_repeated(body: &Body, name: &[u8]) -> bool
     ensures { result ≡ is_some (find_label (take body.now.passed body.now.labels.labels) name.now) }
 {
-    find_label(passed(body.labels.labels.as_slice(), body.passed), name).is_some()
+    body.labels.labels.is_among(body.passed, name)
 }
 
 /// One more, up to all.

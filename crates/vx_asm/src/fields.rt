@@ -5,7 +5,7 @@ ghost use Rattle.vx_source_words.specs.Reading.{Gives};
 ghost use Rattle.vx_asm.specs.Parts.{with_signature, is_text_value, constant_of_value, with_value, field_of, pool_of_field, with_field, is_lawful_field_line, field_said};
 
 use crate::class_draft::{ClassDraft, Stage};
-use crate::parts::{is_taken, may_have_field, signature_of};
+use crate::parts::may_have_field;
 use std::alloc::{AllocError, Global};
 use vx_class::Field;
 use vx_class_parts::{
@@ -98,25 +98,30 @@ fn with_field(alloc: Global, draft: ClassDraft, line: &FieldLine) -> Result<Clas
 {
     let mut pool = draft.pool;
     let field = put_field(alloc, &mut pool, line)?;
-    let signature = signature_of(alloc, line.name.bytes(), line.descriptor.bytes())?;
+    let signatures = draft.field_signatures;
+    let signatures = signatures.with(alloc, line.name.bytes(), line.descriptor.bytes())?;
     Ok(ClassDraft {
         stage: Stage::Fields,
         pool,
         fields: pushed(draft.fields, field)?,
-        field_signatures: pushed(draft.field_signatures, signature)?,
+        field_signatures: signatures,
         ..draft
     })
 }
 
 #[tactic(auto, using(crate::proofs::Short::field_is_short), unfolding(crate::specs::Parts::is_lawful_field_line))]
-fn is_lawful_line(draft: &ClassDraft, line: &FieldLine) -> bool
-    ensures { result ≡ is_lawful_field_line draft.now line.now }
+fn is_lawful_line(alloc: Global, draft: &ClassDraft, line: &FieldLine) -> Result<bool, AllocError>
+    ensures { IfOk result (λ b. b ≡ is_lawful_field_line draft.now line.now) }
 {
     let name = line.name.bytes();
     let descriptor = line.descriptor.bytes();
-    is_lawful_field(name, descriptor)
-        && may_have_value(draft.flags, line.flags, descriptor, &line.value)
-        && !is_taken(draft.field_signatures.as_slice(), name, descriptor)
+    if !is_lawful_field(name, descriptor) {
+        return Ok(false);
+    }
+    if !may_have_value(draft.flags, line.flags, descriptor, &line.value) {
+        return Ok(false);
+    }
+    Ok(!draft.field_signatures.is_taken(alloc, name, descriptor)?)
 }
 
 /// A field: it stands in its place (5), its value is a text where one is expected (6), and it meets the rules of fields (8).
@@ -134,7 +139,7 @@ pub fn field_line(
     if !is_text_value(&line.value) {
         return refused(6);
     }
-    if !is_lawful_line(&draft, line) {
+    if !is_lawful_line(alloc, &draft, line)? {
         return refused(8);
     }
     Ok(with_field(alloc, draft, line)?)

@@ -6,7 +6,7 @@ ghost use Rattle.vx_asm.specs.Parts.{locals_of, is_lawful_method_line, with_sign
 
 use crate::class_draft::{Body, ClassDraft, Stage};
 use crate::fields::put_signature;
-use crate::parts::{has_class, is_taken, signature_of};
+use crate::parts::has_class;
 use std::alloc::{AllocError, Global};
 use vx_class::Method;
 use vx_class_parts::{
@@ -41,7 +41,7 @@ fn is_lawful_line(alloc: Global, draft: &ClassDraft, line: &MethodLine) -> Resul
     if !is_lawful_code(alloc, line.flags, name, descriptor, locals_of(line.room))? {
         return Ok(false);
     }
-    Ok(!is_taken(draft.method_signatures.as_slice(), name, descriptor))
+    Ok(!draft.method_signatures.is_taken(alloc, name, descriptor)?)
 }
 
 /// A method without code.
@@ -79,12 +79,13 @@ fn with_bare_method(
 {
     let mut pool = draft.pool;
     let method = put_bare_method(alloc, &mut pool, line)?;
-    let signature = signature_of(alloc, line.name.bytes(), line.descriptor.bytes())?;
+    let signatures = draft.method_signatures;
+    let signatures = signatures.with(alloc, line.name.bytes(), line.descriptor.bytes())?;
     Ok(ClassDraft {
         stage: Stage::Methods,
         pool,
         methods: pushed(draft.methods, method)?,
-        method_signatures: pushed(draft.method_signatures, signature)?,
+        method_signatures: signatures,
         ..draft
     })
 }
@@ -140,11 +141,12 @@ fn with_body(
 {
     let mut pool = draft.pool;
     let body = put_body(alloc, &mut pool, line, room, behind)?;
-    let signature = signature_of(alloc, line.name.bytes(), line.descriptor.bytes())?;
+    let signatures = draft.method_signatures;
+    let signatures = signatures.with(alloc, line.name.bytes(), line.descriptor.bytes())?;
     Ok(ClassDraft {
         stage: Stage::Methods,
         pool,
-        method_signatures: pushed(draft.method_signatures, signature)?,
+        method_signatures: signatures,
         body: Some(body),
         ..draft
     })

@@ -1,19 +1,17 @@
 //! The version, the class and its interfaces, and the order in which parts may follow one another.
 
-ghost use Rattle.std.specs.Prelude.{◌≡◌, ◌<◌, ◌==◌, ◌&&◌, OnOk, IfOk};
-ghost use Rattle.std.specs.Str.{bytes_eq};
+ghost use Rattle.std.specs.Prelude.{◌≡◌, OnOk, IfOk};
 ghost use Rattle.vx_source_words.specs.Reading.{Gives};
 ghost use Rattle.vx_class_parts.specs.Constants.{in_file};
 ghost use Rattle.vx_class_parts.specs.declared.constants.Constant.TheVariants.{Class};
-ghost use Rattle.vx_asm.specs.Parts.{may_have_version, may_have_class, may_have_interface, may_have_field, has_class, version_said, with_names, with_class_line, class_said, with_interface, implements_said, is_taken};
+ghost use Rattle.vx_asm.specs.Parts.{may_have_version, may_have_class, may_have_interface, may_have_field, has_class, version_said, with_names, with_class_line, class_said, with_interface, implements_said};
 
-use crate::class_draft::{ClassDraft, Signature, Stage};
+use crate::class_draft::{ClassDraft, Stage};
 use std::alloc::{AllocError, Global};
 use vx_class_parts::{ConstantTable, class_index, is_lawful_class, is_plain_class, put_class};
 use vx_code_parts::pushed;
 use vx_source::ClassLine;
 use vx_source_words::{LineFault, refused};
-use vx_value::Name;
 
 fn may_have_version(stage: Stage) -> bool
     ensures { result ≡ may_have_version stage }
@@ -146,29 +144,4 @@ pub fn implements_line(
         return refused(8);
     }
     Ok(with_interface(alloc, draft, name)?)
-}
-
-fn is_signature(signature: &Signature, name: &[u8], descriptor: &[u8]) -> bool
-    ensures { result ≡ (bytes_eq signature.now.name name.now && bytes_eq signature.now.descriptor descriptor.now) }
-{
-    signature.name.bytes() == name && signature.descriptor.bytes() == descriptor
-}
-
-/// Whether a member before has the same name and descriptor.
-pub fn is_taken(signatures: &[Signature], name: &[u8], descriptor: &[u8]) -> bool
-    ensures { result ≡ is_taken signatures.now name.now descriptor.now }
-{
-    signatures
-        .iter()
-        .any(|signature| is_signature(signature, name, descriptor))
-}
-
-/// The name and the descriptor of a member.
-pub fn signature_of(alloc: Global, name: &[u8], descriptor: &[u8]) -> Result<Signature, AllocError>
-    ensures { IfOk result (λ s. s ≡ record { name = name.now; descriptor = descriptor.now }) }
-{
-    Ok(Signature {
-        name: Name::of(alloc, name)?,
-        descriptor: Name::of(alloc, descriptor)?,
-    })
 }

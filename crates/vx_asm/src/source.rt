@@ -16,6 +16,7 @@ use crate::fault::AsmFault;
 use crate::fields::field_line;
 use crate::methods::method_line;
 use crate::parts::{class_line, has_class, implements_line, version_line};
+use crate::signature_table::SignatureTable;
 use std::alloc::{AllocError, Global};
 use vx_class::ClassFile;
 use vx_class_parts::{ConstantTable, pool_of};
@@ -166,9 +167,9 @@ fn nothing(alloc: Global) -> ClassDraft
         pool: ConstantTable::new(alloc),
         interfaces: Items::of(Vec::new(alloc)),
         fields: Items::of(Vec::new(alloc)),
-        field_signatures: Items::of(Vec::new(alloc)),
+        field_signatures: SignatureTable::new(alloc),
         methods: Items::of(Vec::new(alloc)),
-        method_signatures: Items::of(Vec::new(alloc)),
+        method_signatures: SignatureTable::new(alloc),
         body: None,
     }
 }

@@ -5,7 +5,7 @@ use Rattle.std.specs.Str.{bytes_eq}
 use Rattle.std.proofs.lemmas.List.{append-nil, nil_from_length}
 use Rattle.vx_source.specs.declared.lines.SourceLine.{SourceLine}
 use Rattle.vx_code_parts.specs.declared.labels.Labels.{Labels}
-use Rattle.vx_code_parts.specs.declared.labels.Label.{Label}
+use Rattle.vx_code_parts.specs.declared.label_table.Label.{Label}
 use Rattle.vx_code_parts.specs.declared.drafts.Draft.{Draft}
 use Rattle.vx_code_parts.specs.Bodies.{after, labels_from, find_label}
 use Rattle.vx_source.specs.declared.statement.Case.{Case}

@@ -8,7 +8,7 @@ mod tests {
     use std::test::Fail;
     use vx_asm::assemble;
     use vx_cli::varex;
-    use vx_io::{MemoryFiles, MemorySink, SteadyFiles, SteadySink, are_distinct};
+    use vx_io::{Files, MemoryFiles, MemorySink, SteadyFiles, SteadySink, are_distinct};
 
     /// `main` prints the option A.
     const PRINTS_OPTION: &[u8] =
@@ -91,7 +91,7 @@ mod tests {
         ),
     ];
 
-    const FILES: [(&str, &[u8]); 41] = [
+    const FILES: [(&str, &[u8]); 42] = [
         ("m", b"option A Main A\n"),
         ("e", b""),
         ("r", b"option A Main A\nrule true\n"),
@@ -119,6 +119,7 @@ mod tests {
             b"varexj report 1\noptions 0\nlimit 100\nrounds 4\nout 1 2\\0a\nend 1 return\ndone\n",
         ),
         ("word", b"klass 0021 Main java/lang/Object\n"),
+        ("source", b"class 0021 Main java/lang/Object\n"),
         ("e.cnf", b""),
         ("a.cnf", b"c 1 A Main A\np cnf 1 1\n1 0\n"),
         ("b.cnf", b"c 1 A Main A\nc 2 B\np cnf 2 1\n-1 2 0\n"),
@@ -446,6 +447,52 @@ mod tests {
         ),
     ];
 
+    /// Words of each command, and how many calls of the files they make.
+    const READS: [(&str, u64); 12] = [
+        ("run a m Main 100 1", 3),
+        ("run f e Main 100 1", 7),
+        ("verify a m Main", 3),
+        ("asm source", 1),
+        ("project report A", 1),
+        ("interact report", 1),
+        ("picture report", 1),
+        ("cover report", 1),
+        ("explain report", 1),
+        ("agree report part", 2),
+        ("load 1 2", 0),
+        ("--version", 0),
+    ];
+
+    /// Words of each command.
+    const WRITES: [&str; 11] = [
+        "run n e Main 100 1",
+        "verify a m Main",
+        "asm source",
+        "project report A",
+        "interact report",
+        "picture report",
+        "cover report",
+        "explain report",
+        "agree report part",
+        "load 1 1",
+        "--version",
+    ];
+
+    /// Words that are refused, and their codes.
+    const REFUSED: [(&str, u8); 11] = [
+        ("run", 2),
+        ("run a absent Main 100 1", 3),
+        ("run a bad Main 100 1", 5),
+        ("run a none Main 100 1", 6),
+        ("run b e Main 100 1", 7),
+        ("run c e Main 100 1", 8),
+        ("verify c e Main", 8),
+        ("interact cut", 10),
+        ("project part -", 11),
+        ("asm word", 12),
+        ("agree report plain", 14),
+    ];
+
     /// The files of the classes and the models.
     fn put_files(alloc: Global, kept: &mut Vec<(String, Vec<u8>)>) -> Result<(), AllocError> {
         for (path, bytes) in FILES {
@@ -493,7 +540,7 @@ mod tests {
         err: SteadySink,
     }
 
-    fn called(rt: &impl Abort, alloc: Global, files: &mut SteadyFiles, text: &str) -> Answer {
+    fn called<F: Files>(rt: &impl Abort, alloc: Global, files: &mut F, text: &str) -> Answer {
         let words = words(alloc, text).expect(rt, "memory");
         let mut out = SteadySink::new(alloc).expect(rt, "memory");
         let mut err = SteadySink::new(alloc).expect(rt, "memory");
@@ -564,6 +611,80 @@ mod tests {
     fn faults_of_files_and_sinks(rt: HostRuntime) {
         for case in FAULTS {
             assert!(rt; comes_through(&rt, rt.alloc(), case), "{case:?}");
+        }
+    }
+
+    /// A call that fails is a read fault, and nothing is written.
+    #[test]
+    fn each_read_fails_in_turn(rt: HostRuntime) {
+        for (text, calls) in READS {
+            for call in 1..10 {
+                let mut files = failing_files(&rt, rt.alloc(), call);
+                let answer = called(&rt, rt.alloc(), &mut files, text);
+                let is_fault = answer.code == 3
+                    && answer.out.written().is_empty()
+                    && answer.err.written().starts_with(b"read fault ");
+                assert!(rt; is_fault == (call <= calls), "{text}, call {call}");
+            }
+        }
+    }
+
+    /// Whether a command ends as a write fault where its sink takes so many bytes, one at a time, and then fails; the sink has
+    /// the first bytes of the whole output.
+    fn is_cut(
+        rt: &impl Abort,
+        alloc: Global,
+        files: &mut SteadyFiles,
+        text: &str,
+        whole: &[u8],
+        taken: usize,
+    ) -> bool {
+        let words = words(alloc, text).expect(rt, "memory");
+        let call = (taken as u64).saturating_add(1);
+        let fails = Vec::from_slice(alloc, &[call]).expect(rt, "memory");
+        let mut out = MemorySink::new(alloc, 1, fails).expect(rt, "memory");
+        let mut err = SteadySink::new(alloc).expect(rt, "memory");
+        let status = varex(alloc, &words, files, &mut out, &mut err);
+        status.code() == 4
+            && err.written() == b"write fault\n".as_slice()
+            && out.written().len() == taken
+            && whole.starts_with(out.written())
+    }
+
+    #[test]
+    fn each_write_fails_in_turn(rt: HostRuntime) {
+        let held = kept(rt.alloc()).expect(&rt, "memory");
+        assert!(rt; are_distinct(held.as_slice()));
+        let mut files = SteadyFiles::new(rt.alloc(), held).expect(&rt, "memory");
+        for text in WRITES {
+            let answer = called(&rt, rt.alloc(), &mut files, text);
+            let whole = answer.out.written();
+            assert!(rt; answer.code == 0 && !whole.is_empty(), "{text}");
+            for taken in 0..whole.len() {
+                assert!(rt;
+                    is_cut(&rt, rt.alloc(), &mut files, text, whole, taken),
+                    "{text}, {taken}"
+                );
+            }
+        }
+    }
+
+    /// Whether a command ends with a code, and nothing is written, where no write of a line is done.
+    fn keeps_code(rt: &impl Abort, alloc: Global, case: (&str, u8)) -> bool {
+        let (text, code) = case;
+        let words = words(alloc, text).expect(rt, "memory");
+        let mut files = failing_files(rt, alloc, 0);
+        let mut out = SteadySink::new(alloc).expect(rt, "memory");
+        let fails = Vec::from_slice(alloc, &[1, 2, 3]).expect(rt, "memory");
+        let mut err = MemorySink::new(alloc, 10, fails).expect(rt, "memory");
+        let status = varex(alloc, &words, &mut files, &mut out, &mut err);
+        status.code() == code && out.written().is_empty() && err.written().is_empty()
+    }
+
+    #[test]
+    fn a_line_that_is_lost_changes_no_code(rt: HostRuntime) {
+        for case in REFUSED {
+            assert!(rt; keeps_code(&rt, rt.alloc(), case), "{case:?}");
         }
     }
 
