@@ -1,6 +1,6 @@
 """Builds the program of this checkout without its proofs, and keeps it.
 
-    python3 unproved.py PROGRAM
+    python3 unproved.py PROGRAM [FLAG..]
 
 rt try builds into a folder of its own, runs what it built, and removes it. So the program is told to read a FIFO, where it waits; it is copied to
 PROGRAM; and an empty text lets it end. rt try also runs the program in its interpreter before there is a file: that run is let go at once. What
@@ -57,11 +57,11 @@ def let_go(fifo):
         pass
 
 
-def is_kept(program, folder):
-    """Whether the program could be built and copied; the folder is empty at first."""
+def is_kept(program, folder, flags):
+    """Whether the program could be built, with these flags, and copied; the folder is empty at first."""
     fifo, log = os.path.join(folder, 'report'), os.path.join(folder, 'log')
     os.mkfifo(fifo)
-    words = ['rt', 'try', '--seconds', SECONDS, '--', 'project', fifo, '-']
+    words = ['rt', 'try', '--seconds', SECONDS, *flags, '--', 'project', fifo, '-']
     with open(log, 'wb') as file:
         trying = subprocess.Popen(words, cwd=CRATE, env={**os.environ, 'TMPDIR': folder}, stdout=file, stderr=file)
     taken = False
@@ -81,14 +81,14 @@ def is_kept(program, folder):
     return taken
 
 
-def main(program):
+def main(program, flags):
     # So that rt try ends with this, and the folder is removed.
     for number in (signal.SIGTERM, signal.SIGHUP, signal.SIGINT):
         signal.signal(number, lambda *_: sys.exit(1))
     os.makedirs(os.path.dirname(program), exist_ok=True)
     with tempfile.TemporaryDirectory(prefix='varexj-') as folder:
-        return 0 if is_kept(program, folder) else 1
+        return 0 if is_kept(program, folder, flags) else 1
 
 
 if __name__ == '__main__':
-    sys.exit(main(os.path.abspath(sys.argv[1])))
+    sys.exit(main(os.path.abspath(sys.argv[1]), sys.argv[2:]))

@@ -13,6 +13,7 @@ import tempfile
 from typing import NamedTuple
 
 import dear_classes
+import dear_programs
 import dear_texts
 import trying
 
@@ -30,15 +31,24 @@ STOPPED = (None, -signal.SIGXCPU, -signal.SIGKILL)
 BOUNDS = {
     'folder: 32 files of texts': 9.5, 'folder: 32 files of static fields': 5.5, 'folder: 32 files of methods': 4,
     'folder: 32 files of constant values': 7, 'folder: 32 files of jumps to the end': 2.5, 'folder: 32 files of catch rows': 1.5,
-    'model: rules of pairs': 1, 'model: nested rules': 1, 'clauses: clauses of pairs': 1, 'verify: long code': 1, 'verify: jumps back': 4,
-    'source: long switches': 1, 'source: jumps and labels': 6.5, 'source: jumps to the last label': 16.5,
-    'source: fields': 28, 'source: methods': 13.5, 'source: numbers': 1, 'source: strings': 1,
-    'source: members': 1, 'project: one long text': 14.5, 'project: one long text of escapes': 9, 'project: pieces of both streams': 57,
+    'class file: 4,000 native methods of one long descriptor': 1, 'verify: 4,000 native methods of one long descriptor': 1,
+    'replay: 4,000 native methods of one long descriptor': 1,
+    'model: rules of pairs': 1, 'model: nested rules': 1, 'clauses: clauses of pairs': 1,
+    'program: a loop under 4,000 operands': 3.5, 'program: frames of 1,024 local variables': 4, 'program: a text looked for in one of 32,768 units': 3.5,
+    'program: ends of a text of 262,144 units': 2, 'program: sums of 1,024 values': 5.5, 'program: a print of 1,024 values': 2.5,
+    'program: an exception through 4,000,000 catch rows': 4.5, 'replay: a text looked for in one of 32,768 units': 4,
+    'replay: an exception through 4,000,000 catch rows': 4.5,
+    'verify: long code': 1, 'verify: 150,000 calls of a descriptor of 3,000 bytes': 7,
+    'verify: 120,000 casts to a name of 6,000 bytes': 8, 'verify: 100,000 reads of a field with a name of 12,000 bytes': 3,
+    'verify: 4,000 catch rows of own starts': 3, 'verify: a loop of 500 copies': 2.5,
+    'source: jumps and labels': 1, 'source: jumps to the last label': 1, 'source: fields': 1, 'source: methods': 1, 'source: numbers': 1,
+    'source: strings': 1, 'source: members': 1,
+    'project: one long text': 14.5, 'project: one long text of escapes': 9, 'project: pieces of both streams': 57,
     'project: pieces of one stream': 53, 'project: nodes': 8.5, 'interact: one long text': 7, 'interact: nodes': 1,
     'agree: one long text': 15, 'agree: pieces of both streams': 6.5, 'picture: one long text': 7.5, 'picture: pieces of both streams': 7,
     'picture: pieces under options': 1, 'cover: one long text': 8, 'cover: pieces of both streams': 4.5, 'cover: nodes': 1.5,
     'cover: pieces under options': 9, 'explain: one long text': 8.5, 'explain: pieces of both streams': 10, 'explain: nodes': 1,
-    'explain: pieces under options': 2
+    'explain: pieces under options': 2, 'explain: 400 pieces of one long rule': 3.5
 }
 
 # Those that are known to be too dear, and why.
@@ -173,10 +183,32 @@ def replays():
         yield Dear(f'replay: {name}', files, ['replay', 'f', 'model', 'Main', '100', '-'], right)
 
 
+def is_report(ended):
+    is_whole = ended.out.startswith(b'varexj report 1\n') and ended.out.endswith(b'done\n') and b' illegal ' not in ended.out
+    return ended.status == 0 and is_whole and not ended.err
+
+
+def programs(varexj):
+    """Programs whose attempts are dear, run for all configurations, and replayed where none of their options is on."""
+    for name, make in dear_programs.PROGRAMS.items():
+        program = make()
+
+        def files(program=program):
+            put_text('s', program.source)
+            put_text('model', program.model)
+            made = trying.called([varexj, 'asm', 's'], '.')
+            assert made.status == 0, made.told()
+            put_text('f/Main.class', made.out)
+        words = ['f', 'model', 'Main', str(program.limit)]
+        yield Dear(f'program: {name}', files, ['run', *words, '1'], is_report)
+        yield Dear(f'replay: {name}', files, ['replay', *words, '-'], is_replay)
+
+
 def told(command, front):
     """Reports of the greatest size, or near it, told of: what is written begins so."""
     makers = {'one long text': dear_texts.one_long_text, 'pieces of both streams': lambda: dear_texts.many_pieces(1 << 24),
-              'nodes': lambda: dear_texts.many_nodes(14), 'pieces under options': lambda: dear_texts.many_cubes(1 << 22)}
+              'nodes': lambda: dear_texts.many_nodes(14), 'pieces under options': lambda: dear_texts.many_cubes(1 << 22),
+              '400 pieces of one long rule': dear_texts.pieces_of_one_long_rule}
     for name, make in makers.items():
         yield Dear(f'{command}: {name}', lambda make=make: put_text('report', make()[0]), [command, 'report'],
                    lambda ended: ended.status == 0 and ended.out.startswith(front) and not ended.err)
@@ -230,8 +262,8 @@ def sources():
         yield Dear(f'source: {name}', lambda make=make: put_text('s', make()), ['asm', 's'], ends_as(12, err=line.encode() + b'\n'))
 
 
-def all_inputs(commands):
-    kinds = {'run': [class_files, class_folders, large_folders, models], 'verify': [verdicts], 'replay': [replays], 'asm': [sources], 'project': [reports],
+def all_inputs(varexj, commands):
+    kinds = {'run': [class_files, class_folders, large_folders, models, lambda: programs(varexj)], 'verify': [verdicts], 'replay': [replays], 'asm': [sources], 'project': [reports],
              'interact': [interactions], 'agree': [agreements], 'picture': [pictures], 'cover': [covers], 'explain': [explanations],
              'load': [workloads]}
     for command, makers in kinds.items():
@@ -258,7 +290,7 @@ def problem(varexj, dear):
 def main(varexj, word):
     known = {name: reason for name, reason in KNOWN.items() if word in name}
     tally = trying.Tally(known)
-    for dear in all_inputs(trying.built_commands(varexj)):
+    for dear in all_inputs(varexj, trying.built_commands(varexj)):
         if word in dear.name:
             tally.judge(dear.name, problem(varexj, dear))
     return tally.status()

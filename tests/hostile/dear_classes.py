@@ -3,7 +3,9 @@
 import struct
 
 import class_files
-from class_files import GETSTATIC, GOTO, GOTO_W, ICONST_0, IFEQ, ISTORE, LOOKUPSWITCH, NATIVE, NOP, POP, PUBLIC, RETURN, STATIC, TABLESWITCH, WIDE, ClassFile
+from class_files import (
+    ACONST_NULL, ALOAD, ASTORE, CHECKCAST, GETSTATIC, GOTO, GOTO_W, ICONST_0, IFEQ, INVOKESTATIC, ISTORE, LOOKUPSWITCH, NATIVE, NOP, POP, PUBLIC, RETURN, STATIC,
+    TABLESWITCH, WIDE, ClassFile)
 
 MOST_CODE = 65535
 MOST_TEXT = 65535
@@ -248,15 +250,74 @@ def last_local():
     return made
 
 
+def copies_in_a_loop():
+    """A loop that copies each local variable to the next one, the last first, so that a type goes one further each time round."""
+    count = 500
+    made = ClassFile()
+    nulls = b''.join(struct.pack('>BBBH', ACONST_NULL, WIDE, ASTORE, number) for number in range(1, count + 1))
+    copies = b''.join(struct.pack('>BBHBBH', WIDE, ALOAD, number - 1, WIDE, ASTORE, number) for number in range(count, 0, -1))
+    made.main(nulls + copies + struct.pack('>Bi', GOTO_W, -len(copies)), 1, count + 1)
+    return made
+
+
+def native_methods_of_one_long_descriptor():
+    """More of them would take too much memory: each keeps its descriptor."""
+    made = started()
+    descriptor = '(L' + 'a' * (MOST_TEXT - 5) + ';)V'
+    for number in range(4000):
+        made.method(NATIVE | STATIC, f'f{number}', descriptor)
+    return made
+
+
+def with_long_bodies(made, instruction):
+    """Methods that are full of one instruction behind a push of null, after which the stack is empty."""
+    code = (bytes([ACONST_NULL]) + instruction) * (40000 // (1 + len(instruction)))
+    body = made.code(code + bytes([RETURN]))
+    for number in range(LONG_METHODS):
+        made.method(STATIC, f'f{number}', '()V', [body])
+    made.main()
+    return made
+
+
+def calls_of_one_long_descriptor(length=3000):
+    made = ClassFile()
+    descriptor = '(L' + 'a' * length + ';)V'
+    called = made.add(struct.pack('>BHH', 10, made.own, made.name_and_type('g', descriptor)))
+    made.method(STATIC | NATIVE, 'g', descriptor)
+    return with_long_bodies(made, struct.pack('>BH', INVOKESTATIC, called))
+
+
+def casts_to_one_long_name(length=6000):
+    made = ClassFile()
+    return with_long_bodies(made, struct.pack('>BHB', CHECKCAST, made.class_entry('a' * length), POP))
+
+
+def fields_of_one_long_name_read(length=12000):
+    made = ClassFile()
+    made.field(STATIC, 'a' * length, 'I')
+    return with_long_bodies(made, struct.pack('>BBHB', POP, GETSTATIC, made.field_entry('Main', 'a' * length, 'I'), POP))
+
+
+def catch_rows_of_own_starts(rows=4000):
+    """Catch rows that each begin at an instruction of their own and cover all behind it."""
+    made = started()
+    code = bytes([NOP] * (MOST_CODE - 1) + [RETURN])
+    made.method(STATIC, 'f', '()V', [made.code(code, rows=[(start, MOST_CODE, MOST_CODE - 1, 0) for start in range(rows)])])
+    return made
+
+
 # Those that are dear to verify.
-VERIFIED = {'jumps back': jumps_back, 'many locals': many_locals, 'the last local': last_local}
+VERIFIED = {
+    'jumps back': jumps_back, 'many locals': many_locals, 'the last local': last_local, 'a loop of 500 copies': copies_in_a_loop,
+    '150,000 calls of a descriptor of 3,000 bytes': calls_of_one_long_descriptor, '120,000 casts to a name of 6,000 bytes': casts_to_one_long_name,
+    '100,000 reads of a field with a name of 12,000 bytes': fields_of_one_long_name_read, '4,000 catch rows of own starts': catch_rows_of_own_starts}
 
 FILES = {
     'texts': many_texts, 'classes of one long name': classes_of_one_long_name,
     'names and types of one long descriptor': types_of_one_long_descriptor, 'methods of one long descriptor': methods_of_one_long_descriptor,
     'fields of one long name': fields_of_one_long_name, 'method types of one long descriptor': method_types_of_one_long_descriptor,
     'strings': many_strings, 'interfaces': many_interfaces, 'static fields': many_static_fields, 'instance fields': many_instance_fields,
-    'native methods': many_native_methods, 'methods': many_methods, 'constant values': many_constant_values, 'constant values of one long text': constant_values_of_one_long_text,
+    'native methods': many_native_methods, '4,000 native methods of one long descriptor': native_methods_of_one_long_descriptor, 'methods': many_methods, 'constant values': many_constant_values, 'constant values of one long text': constant_values_of_one_long_text,
     'attributes': many_attributes, 'one long attribute': one_long_attribute,
     'descriptors of 255 arguments': longest_descriptors, 'long code': long_code, 'jumps to the end': jumps_to_the_end,
     'table switches': table_switch, 'lookup switches': lookup_switch, 'catch rows': many_catch_rows, 'jumps that run': jumps_that_run}

@@ -183,6 +183,23 @@ def many_cubes(most, seed=1):
     return text, None
 
 
+def pieces_of_one_long_rule(many=400, seed=1):
+    """A report of pieces that all come under one rule of 32 terms, each of all 64 options, whose names have 64 bytes."""
+    generator, numbers = random.Random(seed), {}
+
+    def diagram(option):
+        """The number of a diagram over the options from one on. It splits at the first five."""
+        if option == OPTIONS:
+            return 1
+        low, high = diagram(option + 1), diagram(option + 1) if option < 5 else 0
+        parts = (option, low, high) if option < 5 or generator.random() < 0.5 else (option, high, low)
+        return numbers.setdefault(parts, len(numbers) + 2)
+    root = diagram(0)
+    lines = ['varexj report 1', f'options {OPTIONS}', *(f'option o{number:063}' for number in range(OPTIONS)), 'limit 100', 'rounds 1']
+    lines += ['node {} {} {} {}'.format(number, *parts) for parts, number in numbers.items()]
+    return '\n'.join([*lines, *[f'out {root} a', f'err {root} b'] * (many // 2), '']).encode() + END, None
+
+
 REPORTS = {
     'one long text': one_long_text, 'one long text of escapes': one_long_escaped_text, 'pieces of both streams': many_pieces,
     'pieces of one stream': many_joined_pieces, 'nodes': many_nodes}

@@ -1,9 +1,7 @@
 -- Loops over the lines of a source, the instructions of a body and its catch rows.
 use Rattle.std.proofs.Common.{◌≡◌, ℕ, ◌+◌, ◌<◌, List, [], ◌∷◌, ◌++◌, length, drop, get_or, Bool, true, Ok, Err, refl, sym, ap, ◌∙◌, append_assoc}
 use Rattle.std.specs.Prelude.{Result}
-use Rattle.vx_source_words.specs.Reading.{Read, Fails, check}
-use Rattle.vx_source_words.specs.declared.fault.LineFault.{LineFault}
-use Rattle.vx_source_words.specs.declared.fault.LineFault.TheVariants as line_fault
+use Rattle.vx_source_words.specs.Reading.{Read, check}
 use Rattle.vx_source.specs.declared.lines.SourceLine.{SourceLine}
 use Rattle.vx_code_parts.specs.Drafts.{next_place}
 use Rattle.vx_class_parts.specs.declared.constants.Constant.{Constant}
@@ -15,7 +13,7 @@ use Rattle.vx_asm.specs.declared.class_draft.Covered.{Covered}
 use Rattle.vx_source.specs.declared.statement.CatchLine.{CatchLine}
 use Rattle.vx_asm.specs.declared.class_draft.Body.{Body}
 use Rattle.vx_asm.specs.Bodies.{places_from, with_caught, with_rows, are_known, is_lawful_row, with_row, catch_said}
-use Rattle.vx_asm.specs.Source.{Fault, onward, with_line, is_late, located, fault_at, walk, Refuses}
+use Rattle.vx_asm.specs.Source.{Fault, onward, with_line, is_late, located, walk, Refuses}
 use Rattle.vx_code_parts.proofs.Loops.{front_is}
 
 -- ---- places
@@ -58,12 +56,6 @@ row_given d e b line known lawful h =
     ∙ ap (λ (x : ClassDraft). Ok x) (sym h)
 
 -- ---- lines
-
--- a line that is refused
-pub fault_answers : (e : LineFault) (late : Bool) (number : ℕ) (read : Read ClassDraft) → Fails e read
-    → Refuses {A = ClassDraft} (fault_at e late number) (located number late read)
-fault_answers line_fault.NoMemory late number read h = tt
-fault_answers (line_fault.Refused reason) late number read h = rw h refl
 
 abbrev at_line : ℕ → ClassDraft → List SourceLine → ℕ → SourceLine → Result ClassDraft Fault
 at_line count d xs i x = located x.number (is_late count d x.number) (with_line d x.said (drop (i + 1) xs))

@@ -1,3 +1,4 @@
 pub mod Parts
 pub mod Bodies
+pub mod Signatures
 pub mod Source

@@ -1,8 +1,6 @@
 -- The lines that begin a part of the class, in the order in which they may follow one another.
-use Rattle.std.specs.Prelude.{ℕ, List, [], ◌∷◌, ◌++◌, Bool, true, false, not, nat_le, ◌&&◌, Option, Some, None, Ok, Err, codes}
-use Rattle.std.specs.List.{list_any}
+use Rattle.std.specs.Prelude.{ℕ, List, [], ◌∷◌, ◌++◌, Bool, true, false, not, ◌&&◌, Option, Some, None, Ok, Err, codes}
 use Rattle.std.specs.Option.{option_map}
-use Rattle.std.specs.Str.{bytes_eq}
 use Rattle.vx_class.specs.declared.class_file.Field.{Field}
 use Rattle.vx_class.specs.declared.class_file.Method.{Method}
 use Rattle.vx_class.specs.Members.{is_lawful_initialiser}
@@ -22,9 +20,10 @@ use Rattle.vx_code_parts.specs.Instructions.{is_of_version}
 use Rattle.vx_class_parts.specs.Rules.{is_lawful_class, is_plain_class, is_lawful_field, is_lawful_method, may_have_value, is_lawful_code}
 use Rattle.vx_class_parts.specs.declared.constants.Constant.{Constant}
 use Rattle.vx_class_parts.specs.declared.constants.Constant.TheVariants as constant
+use Rattle.vx_asm.specs.Signatures.{is_taken}
 use Rattle.vx_asm.specs.declared.class_draft.Stage.{Stage}
 use Rattle.vx_asm.specs.declared.class_draft.Stage.TheVariants as stage
-use Rattle.vx_asm.specs.declared.class_draft.Signature.{Signature}
+use Rattle.vx_asm.specs.declared.signature_table.Signature.{Signature}
 use Rattle.vx_asm.specs.declared.class_draft.Body.{Body}
 use Rattle.vx_asm.specs.declared.class_draft.ClassDraft.{ClassDraft}
 
@@ -93,10 +92,6 @@ implements_said d name =
     (Ok (with_interface d name)))
 
 -- ---- members
-
--- whether a member before has the same name and descriptor
-abbrev pub is_taken : List Signature → List ℕ → List ℕ → Bool
-is_taken signatures name descriptor = list_any (λ s. bytes_eq s.name name && bytes_eq s.descriptor descriptor) signatures
 
 -- the pool with the name and the descriptor of a member
 abbrev pub with_signature : List Constant → List ℕ → List ℕ → List Constant

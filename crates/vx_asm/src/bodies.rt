@@ -1,18 +1,16 @@
 //! The lines of a method's body: instructions, labels and catch rows (JVMS 4.7.3, 4.9.1).
 
 ghost use Rattle.std.specs.Prelude.{◌≡◌, ◌+◌, ◌<◌, ◌&&◌, take, min, option_copied, is_some, OnOk, IfOk};
-ghost use Rattle.vx_source_words.specs.Reading.{Gives};
+ghost use Rattle.vx_source_words.specs.Reading.{GivesBy};
 ghost use Rattle.vx_code_parts.specs.Bodies.{find_label};
 ghost use Rattle.vx_code_parts.specs.Instructions.{constant_of};
 ghost use Rattle.vx_asm.specs.Bodies.{with_needed, is_index_near, with_draft, pool_of_instruction, with_instruction, instruction_said, label_said, are_known, is_caught, is_lawful_row, covered, with_covered, with_row, catch_said};
 
 use crate::class_draft::{Body, ClassDraft, Covered};
+use crate::pushing::push;
 use std::alloc::{AllocError, Global};
 use vx_class_parts::{Constant, ConstantTable, in_file_or_zero, is_lawful_class, put_constant};
-use vx_code_parts::{
-    Label, Labels, check_instruction, constant_of, draft_of, find_label, is_known, leads,
-    number_of, pushed,
-};
+use vx_code_parts::{Labels, check_instruction, constant_of, draft_of, is_known, leads, number_of};
 use vx_source::{CatchLine, Instruction};
 use vx_source_words::{LDC, LineFault, refused};
 use vx_value::Name;
@@ -41,56 +39,50 @@ fn is_index_near(pool: &ConstantTable, opcode: u8, needed: Option<&Constant>) ->
     }
 }
 
-fn with_draft(
+fn push_draft(
     alloc: Global,
-    body: Body,
+    body: &mut Body,
     pool: &ConstantTable,
     needed: Option<&Constant>,
     instruction: &Instruction,
-) -> Result<Body, AllocError>
-    ensures { IfOk result (λ b. b ≡ with_draft body pool.now (option_copied needed.entry) instruction.now) }
+) -> Result<(), AllocError>
+    ensures { OnOk result (body.new ≡ with_draft body.old pool.now (option_copied needed.entry) instruction.now) }
 {
     let index = in_file_or_zero(pool, needed);
     let draft = draft_of(alloc, &body.labels, index, instruction)?;
-    let is_near = body.is_near && is_index_near(pool, instruction.opcode, needed);
-    Ok(Body {
-        drafts: pushed(body.drafts, draft)?,
-        is_near,
-        ..body
-    })
+    push(alloc, &mut body.drafts, draft)?;
+    body.is_near = body.is_near && is_index_near(pool, instruction.opcode, needed);
+    Ok(())
 }
 
-/// A body with an instruction more, whose constant the pool gets.
+/// An instruction behind the others, whose constant the pool gets.
 fn put_instruction(
     alloc: Global,
     pool: &mut ConstantTable,
-    body: Body,
+    body: &mut Body,
     instruction: &Instruction,
-) -> Result<Body, AllocError>
+) -> Result<(), AllocError>
     ensures pool { OnOk result (pool.new ≡ pool_of_instruction pool.old instruction.now) }
-    ensures body { IfOk result (λ b. b ≡ with_draft body pool.new (constant_of instruction.now.opcode instruction.now.operand) instruction.now) }
+    ensures body { OnOk result (body.new ≡ with_draft body.old pool.new (constant_of instruction.now.opcode instruction.now.operand) instruction.now) }
 {
     let needed = constant_of(alloc, instruction.opcode, &instruction.operand)?;
     put_needed(alloc, pool, needed.as_ref())?;
-    with_draft(alloc, body, pool, needed.as_ref(), instruction)
+    push_draft(alloc, body, pool, needed.as_ref(), instruction)
 }
 
 #[tactic(auto, unfolding(crate::specs::Bodies::with_instruction))]
-fn with_instruction(
+fn push_instruction(
     alloc: Global,
-    draft: ClassDraft,
+    draft: &mut ClassDraft,
     body: Body,
     instruction: &Instruction,
-) -> Result<ClassDraft, AllocError>
-    ensures { IfOk result (λ d. d ≡ with_instruction draft body instruction.now) }
+) -> Result<(), AllocError>
+    ensures { OnOk result (draft.new ≡ with_instruction draft.old body instruction.now) }
 {
-    let mut pool = draft.pool;
-    let body = put_instruction(alloc, &mut pool, body, instruction)?;
-    Ok(ClassDraft {
-        pool,
-        body: Some(body),
-        ..draft
-    })
+    let mut body = body;
+    put_instruction(alloc, &mut draft.pool, &mut body, instruction)?;
+    draft.body = Some(body);
+    Ok(())
 }
 
 /// An instruction of a body, behind the others where it meets its rules: of its version (2), its labels (4), its text (6)
@@ -98,11 +90,11 @@ fn with_instruction(
 #[tactic(auto, unfolding(crate::specs::Bodies::instruction_said))]
 pub fn instruction_line(
     alloc: Global,
-    draft: ClassDraft,
+    draft: &mut ClassDraft,
     body: Body,
     instruction: &Instruction,
-) -> Result<ClassDraft, LineFault>
-    ensures { Gives result (instruction_said draft body instruction.now) }
+) -> Result<(), LineFault>
+    ensures { GivesBy (λ _. draft.new) result (instruction_said draft.old body instruction.now) }
 {
     check_instruction(
         alloc,
@@ -111,20 +103,14 @@ pub fn instruction_line(
         &body.labels,
         instruction,
     )?;
-    Ok(with_instruction(alloc, draft, body, instruction)?)
+    Ok(push_instruction(alloc, draft, body, instruction)?)
 }
 
-/// The labels that were passed.
-fn passed(labels: &[Label], count: usize) -> &[Label]
-    ensures { result.now ≡ take count labels.now }
-{
-    &labels[..count.min(labels.len())]
-}
-
+/// Whether a label that was passed has this name.
 fn is_repeated(body: &Body, name: &[u8]) -> bool
     ensures { result ≡ is_some (find_label (take body.now.passed body.now.labels.labels) name.now) }
 {
-    find_label(passed(body.labels.labels.as_slice(), body.passed), name).is_some()
+    body.labels.labels.is_among(body.passed, name)
 }
 
 /// One more, up to all.
@@ -136,17 +122,16 @@ fn one_more(passed: usize, all: usize) -> usize
 
 /// A label, which stands once in its body (4).
 #[tactic(auto, unfolding(crate::specs::Bodies::label_said))]
-pub fn label_line(draft: ClassDraft, body: Body, name: &[u8]) -> Result<ClassDraft, LineFault>
-    ensures { Gives result (label_said draft body name.now) }
+pub fn label_line(draft: &mut ClassDraft, body: Body, name: &[u8]) -> Result<(), LineFault>
+    ensures { GivesBy (λ _. draft.new) result (label_said draft.old body name.now) }
 {
     if is_repeated(&body, name) {
         return refused(4);
     }
-    let passed = one_more(body.passed, body.labels.labels.len());
-    Ok(ClassDraft {
-        body: Some(Body { passed, ..body }),
-        ..draft
-    })
+    let mut body = body;
+    body.passed = one_more(body.passed, body.labels.labels.len());
+    draft.body = Some(body);
+    Ok(())
 }
 
 fn are_known(labels: &Labels, line: &CatchLine) -> bool
@@ -195,28 +180,26 @@ fn covered(alloc: Global, labels: &Labels, line: &CatchLine) -> Result<Covered, 
     })
 }
 
-fn with_covered(alloc: Global, body: Body, line: &CatchLine) -> Result<Body, AllocError>
-    ensures { IfOk result (λ b. b ≡ with_covered body line.now) }
+fn push_covered(alloc: Global, body: &mut Body, line: &CatchLine) -> Result<(), AllocError>
+    ensures { OnOk result (body.new ≡ with_covered body.old line.now) }
 {
     let row = covered(alloc, &body.labels, line)?;
-    let rows = pushed(body.rows, row)?;
-    Ok(Body { rows, ..body })
+    push(alloc, &mut body.rows, row)
 }
 
 #[tactic(auto, unfolding(crate::specs::Bodies::with_row))]
-fn with_row(
+fn push_row(
     alloc: Global,
-    draft: ClassDraft,
+    draft: &mut ClassDraft,
     body: Body,
     line: &CatchLine,
-) -> Result<ClassDraft, AllocError>
-    ensures { IfOk result (λ d. d ≡ with_row draft body line.now) }
+) -> Result<(), AllocError>
+    ensures { OnOk result (draft.new ≡ with_row draft.old body line.now) }
 {
-    let body = with_covered(alloc, body, line)?;
-    Ok(ClassDraft {
-        body: Some(body),
-        ..draft
-    })
+    let mut body = body;
+    push_covered(alloc, &mut body, line)?;
+    draft.body = Some(body);
+    Ok(())
 }
 
 /// A catch row: its labels are known (4), it covers something, an instruction stands behind its handler, and what it
@@ -224,11 +207,11 @@ fn with_row(
 #[tactic(auto, unfolding(crate::specs::Bodies::catch_said))]
 pub fn catch_line(
     alloc: Global,
-    draft: ClassDraft,
+    draft: &mut ClassDraft,
     body: Body,
     line: &CatchLine,
-) -> Result<ClassDraft, LineFault>
-    ensures { Gives result (catch_said draft body line.now) }
+) -> Result<(), LineFault>
+    ensures { GivesBy (λ _. draft.new) result (catch_said draft.old body line.now) }
 {
     if !are_known(&body.labels, line) {
         return refused(4);
@@ -236,5 +219,5 @@ pub fn catch_line(
     if !is_lawful_row(&body.labels, line) {
         return refused(8);
     }
-    Ok(with_row(alloc, draft, body, line)?)
+    Ok(push_row(alloc, draft, body, line)?)
 }

@@ -1,5 +1,6 @@
 //! A class while the lines of its source are read.
 
+use crate::signature_table::SignatureTable;
 use vx_class::{Field, Method};
 use vx_class_parts::ConstantTable;
 use vx_code_parts::{Draft, Labels};
@@ -16,13 +17,6 @@ pub enum Stage {
     Methods,
 }
 
-/// The name and the descriptor of a member.
-#[derive(Debug, Drop)]
-pub struct Signature {
-    pub name: Name,
-    pub descriptor: Name,
-}
-
 /// A catch row, by the numbers of instructions. `class` is `None` where it takes every object.
 #[derive(Debug, Drop)]
 pub struct Covered {
@@ -34,7 +28,7 @@ pub struct Covered {
 
 /// A method whose body is read. Name and descriptor are indices of the pool. So many of the labels were `passed`, and
 /// `is_near` says that the constant of each `ldc` has an index of one byte.
-#[derive(Debug, Drop)]
+#[derive(Drop)]
 pub struct Body {
     pub flags: u16,
     pub name: u16,
@@ -59,8 +53,8 @@ pub struct ClassDraft {
     pub pool: ConstantTable,
     pub interfaces: Items<u16>,
     pub fields: Items<Field>,
-    pub field_signatures: Items<Signature>,
+    pub field_signatures: SignatureTable,
     pub methods: Items<Method>,
-    pub method_signatures: Items<Signature>,
+    pub method_signatures: SignatureTable,
     pub body: Option<Body>,
 }

@@ -1,14 +1,15 @@
 //! The end of a body: the places of its instructions, its catch rows and its code (JVMS 4.7.3).
 
 ghost use Rattle.std.specs.Prelude.{◌≡◌, ◌<◌, map, OnOk, IfOk};
-ghost use Rattle.vx_source_words.specs.Reading.{Gives};
+ghost use Rattle.vx_source_words.specs.Reading.{GivesBy};
 ghost use Rattle.vx_asm.specs.Bodies.{places_of, with_caught, with_rows, caught_index, place_in_file, catch_of, code_of, method_of, is_small_code, with_end, end_said};
 
 use crate::class_draft::{Body, ClassDraft, Covered};
+use crate::pushing::push;
 use std::alloc::{AllocError, Global};
 use vx_class::{Catch, Code, Method};
 use vx_class_parts::{ConstantTable, class_index, put_class};
-use vx_code_parts::{Draft, all_reach, code_bytes, next_place, place_of, pushed};
+use vx_code_parts::{Draft, all_reach, code_bytes, next_place, place_of};
 use vx_list::Items;
 use vx_source_words::{LineFault, refused};
 use vx_value::Name;
@@ -162,29 +163,25 @@ fn put_method(
 }
 
 #[tactic(auto, unfolding(crate::specs::Bodies::with_end))]
-fn with_end(
+fn end_body(
     alloc: Global,
-    draft: ClassDraft,
+    draft: &mut ClassDraft,
     body: &Body,
     places: &[u32],
-) -> Result<ClassDraft, AllocError>
-    ensures { IfOk result (λ d. d ≡ with_end draft body.now places.now) }
+) -> Result<(), AllocError>
+    ensures { OnOk result (draft.new ≡ with_end draft.old body.now places.now) }
 {
-    let mut pool = draft.pool;
-    let method = put_method(alloc, &mut pool, body, places)?;
-    Ok(ClassDraft {
-        pool,
-        methods: pushed(draft.methods, method)?,
-        body: None,
-        ..draft
-    })
+    let method = put_method(alloc, &mut draft.pool, body, places)?;
+    push(alloc, &mut draft.methods, method)?;
+    draft.body = None;
+    Ok(())
 }
 
 /// The end of a body: its code and its rows are few enough, what jumps and `ldc` name is near enough (7), and there is an
 /// instruction (8).
 #[tactic(auto, unfolding(crate::specs::Bodies::end_said))]
-pub fn end_line(alloc: Global, draft: ClassDraft, body: &Body) -> Result<ClassDraft, LineFault>
-    ensures { Gives result (end_said draft body.now) }
+pub fn end_line(alloc: Global, draft: &mut ClassDraft, body: &Body) -> Result<(), LineFault>
+    ensures { GivesBy (λ _. draft.new) result (end_said draft.old body.now) }
 {
     let places = places_of(alloc, body.drafts.as_slice())?;
     if !is_small_code(&places, body) {
@@ -193,5 +190,5 @@ pub fn end_line(alloc: Global, draft: ClassDraft, body: &Body) -> Result<ClassDr
     if body.drafts.len() == 0 {
         return refused(8);
     }
-    Ok(with_end(alloc, draft, body, &places)?)
+    Ok(end_body(alloc, draft, body, &places)?)
 }

@@ -1,18 +1,18 @@
 //! Fields and their values (JVMS 4.5, 4.7.2).
 
 ghost use Rattle.std.specs.Prelude.{◌≡◌, ◌<◌, option_copied, OnOk, IfOk};
-ghost use Rattle.vx_source_words.specs.Reading.{Gives};
+ghost use Rattle.vx_source_words.specs.Reading.{GivesBy};
 ghost use Rattle.vx_asm.specs.Parts.{with_signature, is_text_value, constant_of_value, with_value, field_of, pool_of_field, with_field, is_lawful_field_line, field_said};
 
 use crate::class_draft::{ClassDraft, Stage};
-use crate::parts::{is_taken, may_have_field, signature_of};
+use crate::parts::may_have_field;
+use crate::pushing::push;
 use std::alloc::{AllocError, Global};
 use vx_class::Field;
 use vx_class_parts::{
     Constant, ConstantTable, in_file_or_zero, is_lawful_field, may_have_value, put_constant,
     put_text, text_index,
 };
-use vx_code_parts::pushed;
 use vx_source::{FieldLine, Value};
 use vx_source_words::{LineFault, refused};
 use vx_value::Name;
@@ -93,40 +93,36 @@ fn put_field(alloc: Global, pool: &mut ConstantTable, line: &FieldLine) -> Resul
 }
 
 #[tactic(auto, unfolding(crate::specs::Parts::with_field))]
-fn with_field(alloc: Global, draft: ClassDraft, line: &FieldLine) -> Result<ClassDraft, AllocError>
-    ensures { IfOk result (λ d. d ≡ with_field draft line.now) }
+fn push_field(alloc: Global, draft: &mut ClassDraft, line: &FieldLine) -> Result<(), AllocError>
+    ensures { OnOk result (draft.new ≡ with_field draft.old line.now) }
 {
-    let mut pool = draft.pool;
-    let field = put_field(alloc, &mut pool, line)?;
-    let signature = signature_of(alloc, line.name.bytes(), line.descriptor.bytes())?;
-    Ok(ClassDraft {
-        stage: Stage::Fields,
-        pool,
-        fields: pushed(draft.fields, field)?,
-        field_signatures: pushed(draft.field_signatures, signature)?,
-        ..draft
-    })
+    let signatures = &mut draft.field_signatures;
+    signatures.push(alloc, line.name.bytes(), line.descriptor.bytes())?;
+    let field = put_field(alloc, &mut draft.pool, line)?;
+    push(alloc, &mut draft.fields, field)?;
+    draft.stage = Stage::Fields;
+    Ok(())
 }
 
 #[tactic(auto, using(crate::proofs::Short::field_is_short), unfolding(crate::specs::Parts::is_lawful_field_line))]
-fn is_lawful_line(draft: &ClassDraft, line: &FieldLine) -> bool
-    ensures { result ≡ is_lawful_field_line draft.now line.now }
+fn is_lawful_line(alloc: Global, draft: &ClassDraft, line: &FieldLine) -> Result<bool, AllocError>
+    ensures { IfOk result (λ b. b ≡ is_lawful_field_line draft.now line.now) }
 {
     let name = line.name.bytes();
     let descriptor = line.descriptor.bytes();
-    is_lawful_field(name, descriptor)
-        && may_have_value(draft.flags, line.flags, descriptor, &line.value)
-        && !is_taken(draft.field_signatures.as_slice(), name, descriptor)
+    if !is_lawful_field(name, descriptor) {
+        return Ok(false);
+    }
+    if !may_have_value(draft.flags, line.flags, descriptor, &line.value) {
+        return Ok(false);
+    }
+    Ok(!draft.field_signatures.is_taken(alloc, name, descriptor)?)
 }
 
 /// A field: it stands in its place (5), its value is a text where one is expected (6), and it meets the rules of fields (8).
 #[tactic(auto, unfolding(crate::specs::Parts::field_said))]
-pub fn field_line(
-    alloc: Global,
-    draft: ClassDraft,
-    line: &FieldLine,
-) -> Result<ClassDraft, LineFault>
-    ensures { Gives result (field_said draft line.now) }
+pub fn field_line(alloc: Global, draft: &mut ClassDraft, line: &FieldLine) -> Result<(), LineFault>
+    ensures { GivesBy (λ _. draft.new) result (field_said draft.old line.now) }
 {
     if !may_have_field(draft.stage) {
         return refused(5);
@@ -134,8 +130,8 @@ pub fn field_line(
     if !is_text_value(&line.value) {
         return refused(6);
     }
-    if !is_lawful_line(&draft, line) {
+    if !is_lawful_line(alloc, draft, line)? {
         return refused(8);
     }
-    Ok(with_field(alloc, draft, line)?)
+    Ok(push_field(alloc, draft, line)?)
 }

@@ -8,8 +8,11 @@ mod fault;
 mod fields;
 mod methods;
 mod parts;
+mod pushing;
+mod signature_table;
 mod source;
 
-pub use class_draft::{Body, ClassDraft, Covered, Signature, Stage};
+pub use class_draft::{Body, ClassDraft, Covered, Stage};
 pub use fault::AsmFault;
+pub use signature_table::{Signature, SignatureTable};
 pub use source::assemble;

@@ -1,18 +1,19 @@
 //! Methods up to their bodies (JVMS 4.6).
 
 ghost use Rattle.std.specs.Prelude.{◌≡◌, ◌<◌, true, OnOk, IfOk};
-ghost use Rattle.vx_source_words.specs.Reading.{Gives};
+ghost use Rattle.vx_source_words.specs.Reading.{GivesBy};
 ghost use Rattle.vx_asm.specs.Parts.{locals_of, is_lawful_method_line, with_signature, bare_method, with_bare_method, body_of, pool_of_body, with_body, with_room, method_said};
 
 use crate::class_draft::{Body, ClassDraft, Stage};
 use crate::fields::put_signature;
-use crate::parts::{has_class, is_taken, signature_of};
+use crate::parts::has_class;
+use crate::pushing::push;
 use std::alloc::{AllocError, Global};
 use vx_class::Method;
 use vx_class_parts::{
     ConstantTable, is_lawful_code, is_lawful_initialiser, is_lawful_method, put_text, text_index,
 };
-use vx_code_parts::{labels_of, pushed};
+use vx_code_parts::labels_of;
 use vx_list::Items;
 use vx_source::{MethodLine, Room, SourceLine};
 use vx_source_words::{LineFault, refused};
@@ -41,7 +42,7 @@ fn is_lawful_line(alloc: Global, draft: &ClassDraft, line: &MethodLine) -> Resul
     if !is_lawful_code(alloc, line.flags, name, descriptor, locals_of(line.room))? {
         return Ok(false);
     }
-    Ok(!is_taken(draft.method_signatures.as_slice(), name, descriptor))
+    Ok(!draft.method_signatures.is_taken(alloc, name, descriptor)?)
 }
 
 /// A method without code.
@@ -70,23 +71,19 @@ fn put_bare_method(
 }
 
 #[tactic(auto, unfolding(crate::specs::Parts::with_bare_method))]
-fn with_bare_method(
+fn push_bare_method(
     alloc: Global,
-    draft: ClassDraft,
+    draft: &mut ClassDraft,
     line: &MethodLine,
-) -> Result<ClassDraft, AllocError>
-    ensures { IfOk result (λ d. d ≡ with_bare_method draft line.now) }
+) -> Result<(), AllocError>
+    ensures { OnOk result (draft.new ≡ with_bare_method draft.old line.now) }
 {
-    let mut pool = draft.pool;
-    let method = put_bare_method(alloc, &mut pool, line)?;
-    let signature = signature_of(alloc, line.name.bytes(), line.descriptor.bytes())?;
-    Ok(ClassDraft {
-        stage: Stage::Methods,
-        pool,
-        methods: pushed(draft.methods, method)?,
-        method_signatures: pushed(draft.method_signatures, signature)?,
-        ..draft
-    })
+    let signatures = &mut draft.method_signatures;
+    signatures.push(alloc, line.name.bytes(), line.descriptor.bytes())?;
+    let method = put_bare_method(alloc, &mut draft.pool, line)?;
+    push(alloc, &mut draft.methods, method)?;
+    draft.stage = Stage::Methods;
+    Ok(())
 }
 
 fn body_of(
@@ -129,38 +126,34 @@ fn put_body(
 }
 
 #[tactic(auto, unfolding(crate::specs::Parts::with_body))]
-fn with_body(
+fn begin_body(
     alloc: Global,
-    draft: ClassDraft,
+    draft: &mut ClassDraft,
     line: &MethodLine,
     room: Room,
     behind: &[SourceLine],
-) -> Result<ClassDraft, AllocError>
-    ensures { IfOk result (λ d. d ≡ with_body draft line.now room behind.now) }
+) -> Result<(), AllocError>
+    ensures { OnOk result (draft.new ≡ with_body draft.old line.now room behind.now) }
 {
-    let mut pool = draft.pool;
-    let body = put_body(alloc, &mut pool, line, room, behind)?;
-    let signature = signature_of(alloc, line.name.bytes(), line.descriptor.bytes())?;
-    Ok(ClassDraft {
-        stage: Stage::Methods,
-        pool,
-        method_signatures: pushed(draft.method_signatures, signature)?,
-        body: Some(body),
-        ..draft
-    })
+    let signatures = &mut draft.method_signatures;
+    signatures.push(alloc, line.name.bytes(), line.descriptor.bytes())?;
+    let body = put_body(alloc, &mut draft.pool, line, room, behind)?;
+    draft.stage = Stage::Methods;
+    draft.body = Some(body);
+    Ok(())
 }
 
-fn with_room(
+fn begin_method(
     alloc: Global,
-    draft: ClassDraft,
+    draft: &mut ClassDraft,
     line: &MethodLine,
     behind: &[SourceLine],
-) -> Result<ClassDraft, AllocError>
-    ensures { IfOk result (λ d. d ≡ with_room draft line.now line.now.room behind.now) }
+) -> Result<(), AllocError>
+    ensures { OnOk result (draft.new ≡ with_room draft.old line.now line.now.room behind.now) }
 {
     match line.room {
-        None => with_bare_method(alloc, draft, line),
-        Some(room) => with_body(alloc, draft, line, room, behind),
+        None => push_bare_method(alloc, draft, line),
+        Some(room) => begin_body(alloc, draft, line, room, behind),
     }
 }
 
@@ -169,17 +162,17 @@ fn with_room(
 #[tactic(auto, unfolding(crate::specs::Parts::method_said))]
 pub fn method_line(
     alloc: Global,
-    draft: ClassDraft,
+    draft: &mut ClassDraft,
     line: &MethodLine,
     behind: &[SourceLine],
-) -> Result<ClassDraft, LineFault>
-    ensures { Gives result (method_said draft line.now behind.now) }
+) -> Result<(), LineFault>
+    ensures { GivesBy (λ _. draft.new) result (method_said draft.old line.now behind.now) }
 {
     if !has_class(draft.stage) {
         return refused(5);
     }
-    if !is_lawful_line(alloc, &draft, line)? {
+    if !is_lawful_line(alloc, draft, line)? {
         return refused(8);
     }
-    Ok(with_room(alloc, draft, line, behind)?)
+    Ok(begin_method(alloc, draft, line, behind)?)
 }

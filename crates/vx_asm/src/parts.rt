@@ -1,19 +1,17 @@
 //! The version, the class and its interfaces, and the order in which parts may follow one another.
 
-ghost use Rattle.std.specs.Prelude.{◌≡◌, ◌<◌, ◌==◌, ◌&&◌, OnOk, IfOk};
-ghost use Rattle.std.specs.Str.{bytes_eq};
-ghost use Rattle.vx_source_words.specs.Reading.{Gives};
+ghost use Rattle.std.specs.Prelude.{◌≡◌, OnOk, IfOk};
+ghost use Rattle.vx_source_words.specs.Reading.{GivesBy};
 ghost use Rattle.vx_class_parts.specs.Constants.{in_file};
 ghost use Rattle.vx_class_parts.specs.declared.constants.Constant.TheVariants.{Class};
-ghost use Rattle.vx_asm.specs.Parts.{may_have_version, may_have_class, may_have_interface, may_have_field, has_class, version_said, with_names, with_class_line, class_said, with_interface, implements_said, is_taken};
+ghost use Rattle.vx_asm.specs.Parts.{may_have_version, may_have_class, may_have_interface, may_have_field, has_class, version_said, with_names, with_class_line, class_said, with_interface, implements_said};
 
-use crate::class_draft::{ClassDraft, Signature, Stage};
+use crate::class_draft::{ClassDraft, Stage};
+use crate::pushing::push;
 use std::alloc::{AllocError, Global};
 use vx_class_parts::{ConstantTable, class_index, is_lawful_class, is_plain_class, put_class};
-use vx_code_parts::pushed;
 use vx_source::ClassLine;
 use vx_source_words::{LineFault, refused};
-use vx_value::Name;
 
 fn may_have_version(stage: Stage) -> bool
     ensures { result ≡ may_have_version stage }
@@ -49,17 +47,15 @@ pub fn has_class(stage: Stage) -> bool
 
 /// The version, before which nothing stands (5).
 #[tactic(auto, unfolding(crate::specs::Parts::version_said))]
-pub fn version_line(draft: ClassDraft, major: u16) -> Result<ClassDraft, LineFault>
-    ensures { Gives result (version_said draft major) }
+pub fn version_line(draft: &mut ClassDraft, major: u16) -> Result<(), LineFault>
+    ensures { GivesBy (λ _. draft.new) result (version_said draft.old major) }
 {
     if !may_have_version(draft.stage) {
         return refused(5);
     }
-    Ok(ClassDraft {
-        stage: Stage::Version,
-        major,
-        ..draft
-    })
+    draft.stage = Stage::Version;
+    draft.major = major;
+    Ok(())
 }
 
 /// The indices of a class and of its superclass, which the pool gets.
@@ -79,33 +75,21 @@ fn put_names(
 }
 
 #[tactic(auto, unfolding(crate::specs::Parts::with_class_line))]
-fn with_class_line(
-    alloc: Global,
-    draft: ClassDraft,
-    line: &ClassLine,
-) -> Result<ClassDraft, AllocError>
-    ensures { IfOk result (λ d. d ≡ with_class_line draft line.now) }
+fn begin_class(alloc: Global, draft: &mut ClassDraft, line: &ClassLine) -> Result<(), AllocError>
+    ensures { OnOk result (draft.new ≡ with_class_line draft.old line.now) }
 {
-    let mut pool = draft.pool;
-    let (this_class, super_class) = put_names(alloc, &mut pool, line)?;
-    Ok(ClassDraft {
-        stage: Stage::Class,
-        flags: line.flags,
-        this_class,
-        super_class,
-        pool,
-        ..draft
-    })
+    let (this_class, super_class) = put_names(alloc, &mut draft.pool, line)?;
+    draft.stage = Stage::Class;
+    draft.flags = line.flags;
+    draft.this_class = this_class;
+    draft.super_class = super_class;
+    Ok(())
 }
 
 /// The class and its superclass, before which at most the version stands (5), and which are no arrays (8).
 #[tactic(auto, unfolding(crate::specs::Parts::class_said))]
-pub fn class_line(
-    alloc: Global,
-    draft: ClassDraft,
-    line: &ClassLine,
-) -> Result<ClassDraft, LineFault>
-    ensures { Gives result (class_said draft line.now) }
+pub fn class_line(alloc: Global, draft: &mut ClassDraft, line: &ClassLine) -> Result<(), LineFault>
+    ensures { GivesBy (λ _. draft.new) result (class_said draft.old line.now) }
 {
     if !may_have_class(draft.stage) {
         return refused(5);
@@ -113,31 +97,22 @@ pub fn class_line(
     if !is_plain_class(line.name.bytes()) || !is_plain_class(line.super_class.bytes()) {
         return refused(8);
     }
-    Ok(with_class_line(alloc, draft, line)?)
+    Ok(begin_class(alloc, draft, line)?)
 }
 
 #[tactic(auto, unfolding(crate::specs::Parts::with_interface))]
-fn with_interface(alloc: Global, draft: ClassDraft, name: &[u8]) -> Result<ClassDraft, AllocError>
-    ensures { IfOk result (λ d. d ≡ with_interface draft name.now) }
+fn push_interface(alloc: Global, draft: &mut ClassDraft, name: &[u8]) -> Result<(), AllocError>
+    ensures { OnOk result (draft.new ≡ with_interface draft.old name.now) }
 {
-    let mut pool = draft.pool;
-    put_class(alloc, &mut pool, name)?;
-    let index = class_index(alloc, &pool, name)?;
-    Ok(ClassDraft {
-        pool,
-        interfaces: pushed(draft.interfaces, index)?,
-        ..draft
-    })
+    put_class(alloc, &mut draft.pool, name)?;
+    let index = class_index(alloc, &draft.pool, name)?;
+    push(alloc, &mut draft.interfaces, index)
 }
 
 /// A superinterface, before which the class and others stand (5), and which is a class (8).
 #[tactic(auto, unfolding(crate::specs::Parts::implements_said))]
-pub fn implements_line(
-    alloc: Global,
-    draft: ClassDraft,
-    name: &[u8],
-) -> Result<ClassDraft, LineFault>
-    ensures { Gives result (implements_said draft name.now) }
+pub fn implements_line(alloc: Global, draft: &mut ClassDraft, name: &[u8]) -> Result<(), LineFault>
+    ensures { GivesBy (λ _. draft.new) result (implements_said draft.old name.now) }
 {
     if !may_have_interface(draft.stage) {
         return refused(5);
@@ -145,30 +120,5 @@ pub fn implements_line(
     if !is_lawful_class(name) {
         return refused(8);
     }
-    Ok(with_interface(alloc, draft, name)?)
-}
-
-fn is_signature(signature: &Signature, name: &[u8], descriptor: &[u8]) -> bool
-    ensures { result ≡ (bytes_eq signature.now.name name.now && bytes_eq signature.now.descriptor descriptor.now) }
-{
-    signature.name.bytes() == name && signature.descriptor.bytes() == descriptor
-}
-
-/// Whether a member before has the same name and descriptor.
-pub fn is_taken(signatures: &[Signature], name: &[u8], descriptor: &[u8]) -> bool
-    ensures { result ≡ is_taken signatures.now name.now descriptor.now }
-{
-    signatures
-        .iter()
-        .any(|signature| is_signature(signature, name, descriptor))
-}
-
-/// The name and the descriptor of a member.
-pub fn signature_of(alloc: Global, name: &[u8], descriptor: &[u8]) -> Result<Signature, AllocError>
-    ensures { IfOk result (λ s. s ≡ record { name = name.now; descriptor = descriptor.now }) }
-{
-    Ok(Signature {
-        name: Name::of(alloc, name)?,
-        descriptor: Name::of(alloc, descriptor)?,
-    })
+    Ok(push_interface(alloc, draft, name)?)
 }

@@ -1,9 +1,9 @@
 //! The class that a source names, line by line.
 
-ghost use Rattle.std.specs.Prelude.{◌≡◌, ◌+◌, ◌<◌, ◌^◌, Ok, Err, ◌&&◌, ◌==◌, IfOk, IfErr, None};
+ghost use Rattle.std.specs.Prelude.{◌≡◌, ◌+◌, ◌<◌, ◌^◌, Ok, Err, ◌&&◌, ◌==◌, OnOk, IfOk, IfErr, None};
 ghost use Rattle.vx_class.specs.declared.class_file.ClassFile.{ClassFile};
 ghost use Rattle.vx_code_parts.specs.Instructions.{is_of_version};
-ghost use Rattle.vx_source_words.specs.Reading.{Gives, check};
+ghost use Rattle.vx_source_words.specs.Reading.{GivesBy, check};
 ghost use Rattle.vx_writer.specs.Written.{spelling};
 ghost use Rattle.vx_asm.specs.Parts.{part_said};
 ghost use Rattle.vx_asm.specs.Bodies.{body_said};
@@ -16,6 +16,7 @@ use crate::fault::AsmFault;
 use crate::fields::field_line;
 use crate::methods::method_line;
 use crate::parts::{class_line, has_class, implements_line, version_line};
+use crate::signature_table::SignatureTable;
 use std::alloc::{AllocError, Global};
 use vx_class::ClassFile;
 use vx_class_parts::{ConstantTable, pool_of};
@@ -26,8 +27,8 @@ use vx_source_words::{LineFault, refused};
 use vx_writer::write_class;
 
 /// An instruction that stands in no body.
-fn stray_instruction(draft: &ClassDraft, operand: &Operand) -> Result<ClassDraft, LineFault>
-    ensures { Gives result (check (is_of_version draft.now.major operand.now) 2 (Err 5)) }
+fn stray_instruction(draft: &ClassDraft, operand: &Operand) -> Result<(), LineFault>
+    ensures { GivesBy (λ _. draft.now) result (check (is_of_version draft.now.major operand.now) 2 (Err 5)) }
 {
     if is_of_version(draft.major, operand) {
         refused(5)
@@ -40,11 +41,11 @@ fn stray_instruction(draft: &ClassDraft, operand: &Operand) -> Result<ClassDraft
 #[tactic(auto, unfolding(crate::specs::Parts::part_said))]
 fn part_line(
     alloc: Global,
-    draft: ClassDraft,
+    draft: &mut ClassDraft,
     statement: &Statement,
     behind: &[SourceLine],
-) -> Result<ClassDraft, LineFault>
-    ensures { Gives result (part_said draft statement.now behind.now) }
+) -> Result<(), LineFault>
+    ensures { GivesBy (λ _. draft.new) result (part_said draft.old statement.now behind.now) }
 {
     match statement {
         Statement::Version(major) => version_line(draft, *major),
@@ -52,7 +53,7 @@ fn part_line(
         Statement::Implements(name) => implements_line(alloc, draft, name.bytes()),
         Statement::Field(line) => field_line(alloc, draft, line),
         Statement::Method(line) => method_line(alloc, draft, line, behind),
-        Statement::Instruction(instruction) => stray_instruction(&draft, &instruction.operand),
+        Statement::Instruction(instruction) => stray_instruction(draft, &instruction.operand),
         _ => refused(5),
     }
 }
@@ -61,11 +62,11 @@ fn part_line(
 #[tactic(auto, unfolding(crate::specs::Bodies::body_said))]
 fn body_line(
     alloc: Global,
-    draft: ClassDraft,
+    draft: &mut ClassDraft,
     body: Body,
     statement: &Statement,
-) -> Result<ClassDraft, LineFault>
-    ensures { Gives result (body_said draft body statement.now) }
+) -> Result<(), LineFault>
+    ensures { GivesBy (λ _. draft.new) result (body_said draft.old body statement.now) }
 {
     match statement {
         Statement::Instruction(instruction) => instruction_line(alloc, draft, body, instruction),
@@ -79,11 +80,11 @@ fn body_line(
 fn said_in(
     alloc: Global,
     body: Option<Body>,
-    draft: ClassDraft,
+    draft: &mut ClassDraft,
     statement: &Statement,
     behind: &[SourceLine],
-) -> Result<ClassDraft, LineFault>
-    ensures { Gives result (said_in body draft statement.now behind.now) }
+) -> Result<(), LineFault>
+    ensures { GivesBy (λ _. draft.new) result (said_in body draft.old statement.now behind.now) }
 {
     match body {
         None => part_line(alloc, draft, statement, behind),
@@ -91,24 +92,20 @@ fn said_in(
     }
 }
 
-/// The class with one line more.
+/// One line more.
 #[tactic(auto, unfolding(crate::specs::Source::with_line))]
-fn with_line(
+fn put_line(
     alloc: Global,
-    draft: ClassDraft,
+    draft: &mut ClassDraft,
     said: &Said,
     behind: &[SourceLine],
-) -> Result<ClassDraft, LineFault>
-    ensures { Gives result (with_line draft said.now behind.now) }
+) -> Result<(), LineFault>
+    ensures { GivesBy (λ _. draft.new) result (with_line draft.old said.now behind.now) }
 {
     match said {
         Said::Refused(reason) => refused(*reason),
         Said::Statement(statement) => {
-            let body = draft.body;
-            let draft = ClassDraft {
-                body: None,
-                ..draft
-            };
+            let body = draft.body.take();
             said_in(alloc, body, draft, statement, behind)
         }
     }
@@ -138,17 +135,18 @@ fn fault_at(fault: LineFault, late: bool, line: u64) -> AsmFault
 
 fn at_line(
     alloc: Global,
-    draft: ClassDraft,
+    draft: &mut ClassDraft,
     line: &SourceLine,
     behind: &[SourceLine],
     count: u64,
-) -> Result<ClassDraft, AsmFault>
-    ensures { Answers result (located line.now.number (is_late count draft line.now.number) (with_line draft line.now.said behind.now)) }
+) -> Result<(), AsmFault>
+    ensures given { OnOk result (located line.now.number (is_late count draft.old line.now.number) (with_line draft.old line.now.said behind.now) ≡ Ok draft.new) }
+    ensures refused { IfErr result (λ e. Refuses e (located line.now.number (is_late count draft.old line.now.number) (with_line draft.old line.now.said behind.now))) }
 {
     let number = line.number;
-    let late = number == count && !is_small(&draft);
-    match with_line(alloc, draft, &line.said, behind) {
-        Ok(draft) => Ok(draft),
+    let late = number == count && !is_small(draft);
+    match put_line(alloc, draft, &line.said, behind) {
+        Ok(()) => Ok(()),
         Err(fault) => Err(fault_at(fault, late, number)),
     }
 }
@@ -166,9 +164,9 @@ fn nothing(alloc: Global) -> ClassDraft
         pool: ConstantTable::new(alloc),
         interfaces: Items::of(Vec::new(alloc)),
         fields: Items::of(Vec::new(alloc)),
-        field_signatures: Items::of(Vec::new(alloc)),
+        field_signatures: SignatureTable::new(alloc),
         methods: Items::of(Vec::new(alloc)),
-        method_signatures: Items::of(Vec::new(alloc)),
+        method_signatures: SignatureTable::new(alloc),
         body: None,
     }
 }
@@ -179,8 +177,7 @@ fn walk(alloc: Global, lines: &[SourceLine], count: u64) -> Result<ClassDraft, A
 {
     let mut draft = nothing(alloc);
     for at in 0..lines.len() {
-        let next = at_line(alloc, draft, &lines[at], &lines[at + 1..], count)?;
-        draft = next;
+        at_line(alloc, &mut draft, &lines[at], &lines[at + 1..], count)?;
     }
     Ok(draft)
 }

@@ -9,7 +9,7 @@ use Rattle.vx_source.specs.declared.statement.Statement.{Statement}
 use Rattle.vx_source.specs.declared.statement.Statement.TheVariants as statement
 use Rattle.vx_code_parts.specs.Bodies.{after, labels_from, labels_of, find_label}
 use Rattle.vx_code_parts.specs.Instructions.{number_of}
-use Rattle.vx_code_parts.specs.declared.labels.Label.{Label}
+use Rattle.vx_code_parts.specs.declared.label_table.Label.{Label}
 use Rattle.vx_code_parts.specs.declared.labels.Labels.{Labels}
 
 -- each label stands before an instruction, or behind the last

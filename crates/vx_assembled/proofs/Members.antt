@@ -24,8 +24,9 @@ use Rattle.vx_class_parts.specs.Constants.{places, in_file, in_file_or_zero, poo
 use Rattle.vx_class_parts.specs.Rules.{is_int_base, is_long_base, is_value_for, may_have_value, is_nothing}
 use Rattle.vx_class_parts.specs.declared.constants.Constant.{Constant}
 use Rattle.vx_class_parts.specs.declared.constants.Constant.TheVariants as constant
-use Rattle.vx_asm.specs.Parts.{is_taken, is_text_value, constant_of_value}
-use Rattle.vx_asm.specs.declared.class_draft.Signature.{Signature}
+use Rattle.vx_asm.specs.Parts.{is_text_value, constant_of_value}
+use Rattle.vx_asm.specs.Signatures.{is_taken}
+use Rattle.vx_asm.specs.declared.signature_table.Signature.{Signature}
 use Rattle.vx_assembled.proofs.Entries.{IsClassName, text_there, class_there}
 use Rattle.vx_assembled.proofs.Pools.{Has, IsHeld, IsNeeded, placed}
 

@@ -25,10 +25,11 @@ use Rattle.vx_class_parts.specs.Rules.{is_lawful_class, is_plain_class, is_lawfu
 use Rattle.vx_class_parts.specs.declared.constants.Constant.{Constant}
 use Rattle.vx_class_parts.specs.declared.constants.Constant.TheVariants as constant
 use Rattle.vx_code_parts.specs.Instructions.{is_of_version}
-use Rattle.vx_asm.specs.Parts.{may_have_version, may_have_class, may_have_interface, may_have_field, has_class, version_said, with_class_line, class_said, with_interface, implements_said, is_taken, with_signature, is_text_value, constant_of_value, with_value, field_of, with_field, is_lawful_field_line, field_said, locals_of, is_lawful_method_line, bare_method, with_bare_method, body_of, with_body, with_room, method_said, part_said}
+use Rattle.vx_asm.specs.Parts.{may_have_version, may_have_class, may_have_interface, may_have_field, has_class, version_said, with_class_line, class_said, with_interface, implements_said, with_signature, is_text_value, constant_of_value, with_value, field_of, with_field, is_lawful_field_line, field_said, locals_of, is_lawful_method_line, bare_method, with_bare_method, body_of, with_body, with_room, method_said, part_said}
+use Rattle.vx_asm.specs.Signatures.{is_taken}
 use Rattle.vx_asm.specs.declared.class_draft.Body.{Body}
 use Rattle.vx_asm.specs.declared.class_draft.ClassDraft.{ClassDraft}
-use Rattle.vx_asm.specs.declared.class_draft.Signature.{Signature}
+use Rattle.vx_asm.specs.declared.signature_table.Signature.{Signature}
 use Rattle.vx_asm.specs.declared.class_draft.Stage.{Stage}
 use Rattle.vx_asm.specs.declared.class_draft.Stage.TheVariants as stage
 use Rattle.vx_assembled.proofs.Entries.{IsClassName, class_name, IsMember, field_member, method_member, IsGood, text_good, class_good, literal_good}

@@ -12,12 +12,13 @@ use Rattle.vx_class_parts.specs.Constants.{pool_of}
 use Rattle.vx_class_parts.specs.Rules.{is_lawful_method}
 use Rattle.vx_class_parts.specs.declared.constants.Constant.{Constant}
 use Rattle.vx_code_parts.specs.Bodies.{labels_from}
-use Rattle.vx_code_parts.specs.declared.labels.Label.{Label}
-use Rattle.vx_asm.specs.Parts.{has_class, is_taken}
+use Rattle.vx_code_parts.specs.declared.label_table.Label.{Label}
+use Rattle.vx_asm.specs.Parts.{has_class}
+use Rattle.vx_asm.specs.Signatures.{is_taken}
 use Rattle.vx_asm.specs.declared.class_draft.Body.{Body}
 use Rattle.vx_asm.specs.declared.class_draft.ClassDraft.{ClassDraft}
 use Rattle.vx_asm.specs.declared.class_draft.Covered.{Covered}
-use Rattle.vx_asm.specs.declared.class_draft.Signature.{Signature}
+use Rattle.vx_asm.specs.declared.signature_table.Signature.{Signature}
 use Rattle.vx_assembled.proofs.Drafts.{IsDraft}
 use Rattle.vx_assembled.proofs.Entries.{IsGood, IsClassName}
 use Rattle.vx_assembled.proofs.Members.{IsSigned}

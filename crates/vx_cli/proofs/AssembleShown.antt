@@ -38,7 +38,7 @@ asm_shows old new path outcome g = by_file (sized_shows old new most_bytes path 
     by_file : SizedShows old new most_bytes path path (λ bytes. attempt (assembled bytes) (λ text. Write (Exactly text))) outcome → Shows old new (Asm path) outcome
     by_file (inl (inl fault)) = refused (ReadFault path) fault.1 (refl, fault.0)
     by_file (inl (inr large)) = refused (TooLarge path most_bytes) large.1 (refl, refl, large.0)
-    by_file (inr read) = by_text read.0 read.1 (attempt_cases old.held old.faults new.faults (assembled read.0) _ outcome read.2)
+    by_file (inr read) = by_text read.0 read.1 (attempt_cases old.held old.faults new.faults (assembled read.0) _ outcome read.3)
 
 -- an assembly of a good source, in which nothing fails, is done
 pub asm_completes : (old new : FilesState) (out out' : SinkState) (path : List ℕ) (held : Held) (status : Status) → old.held ≡ Some held → IsGood held (Asm path) → NothingFails held old new out out' (Asm path)

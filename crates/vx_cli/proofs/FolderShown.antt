@@ -1,11 +1,15 @@
 -- What the reading of a folder's class files gave, in terms of the files.
 use Rattle.std.proofs.Common.{◌≡◌, ◌≤◌, ◌<◌, ℕ, Bool, true, false, List, [], ◌∷◌, ◌++◌, length, filter, cond, map, IfSome, None, Some, Result, Ok, Err, inl, inr, ◌⊎◌, refl, ap, sym, ◌∙◌, append-nil, append_assoc}
-use Rattle.std.specs.Prelude.{IsTrue}
+use Rattle.std.proofs.lemmas.List.Elements.{All-nil, All-push}
+use Rattle.std.specs.Prelude.{All, IsTrue}
 use Rattle.std.specs.List.{AllByRecursion}
 use Rattle.vx_io.specs.Held.{Held, FilesState}
+use Rattle.vx_cursor.specs.Place.{IsBytes}
 use Rattle.vx_cursor.specs.Reading.{Fault}
 use Rattle.vx_class.specs.declared.class_file.ClassFile.{ClassFile}
+use Rattle.vx_class.proofs.ClassTook.{class_took}
 use Rattle.vx_class.specs.Class.{class_of}
+use Rattle.vx_class.specs.File.{Holds}
 use Rattle.vx_cli.specs.declared.status.Status.{Status}
 use Rattle.vx_cli.specs.declared.status.Status.TheVariants.{ReadFault, BadClass, TooLarge}
 use Rattle.vx_cli.specs.Causes.{HasClasses, IsReached, AreAllGiven, AreClasses, AreGiven, class_bytes, InputCause}
@@ -87,10 +91,19 @@ further given held folder path bytes x done paths front h b reads = record {
   good = are_more given held folder path x done front h.good b.0 (ap given (sym b.1) ∙ reads);
 }
 
-abbrev ClassesShow : {A : Type 0} → (List ℕ → Result A Fault) → FilesState → FilesState → List ℕ → List ℕ → List (List ℕ) → (List A → Plan) → Result (List ℕ) Status → Type 0
-ClassesShow {A} given old new folder model all next outcome =
+-- the classes that were read meet every check
+abbrev pub AreRead : {A : Type 0} → (A → ClassFile) → List A → Type 0
+AreRead class xs = All (λ x. Holds (class x)) xs
+
+-- so they do with one more, that bytes give
+one_more_read : {A : Type 0} {given : List ℕ → Result A Fault} {class : A → ClassFile} → GivesClasses given class → (bytes : List ℕ) (x : A) (front : List A) → IsBytes bytes → given bytes ≡ Ok x → AreRead class front → AreRead class (front ++ x ∷ [])
+one_more_read {class = class} gives bytes x front are_bytes reads read =
+    All-push (λ y. Holds (class y)) front x read (class_took bytes (class x) are_bytes (gives.spelled bytes x reads)).holds
+
+abbrev ClassesShow : {A : Type 0} → (List ℕ → Result A Fault) → (A → ClassFile) → FilesState → FilesState → List ℕ → List ℕ → List (List ℕ) → (List A → Plan) → Result (List ℕ) Status → Type 0
+ClassesShow {A} given class old new folder model all next outcome =
     ((status : Status) × (outcome ≡ Err status) × InputCause old new folder model status)
-    ⊎ ((xs : List A) × IfSome old.held (λ held. SoFar given held folder all [] xs) × MayGive old.held old.faults new.faults (next xs) outcome)
+    ⊎ ((xs : List A) × IfSome old.held (λ held. SoFar given held folder all [] xs) × AreRead class xs × MayGive old.held old.faults new.faults (next xs) outcome)
 
 was_given : {A : Type 0} (path : List ℕ) (r : Result A Fault) (x : A) → or_bad_class path r ≡ Ok x → r ≡ Ok x
 was_given path (Ok y) x e = let k : y ≡ x = cc in ap Ok k
@@ -101,44 +114,46 @@ was_refused path (Ok y) status e = cc
 was_refused path (Err fault) status e = (fault, refl, cc)
 
 -- reading on from here shows what a plan gave
-abbrev Continues : {A : Type 0} → (List ℕ → Result A Fault) → FilesState → FilesState → List ℕ → List ℕ → List (List ℕ) → (List A → Plan) → List (List ℕ) → List (List ℕ) → List A → Result (List ℕ) Status → Type 0
-Continues given old new folder model all next paths done front outcome =
-    IfSome old.held (λ held. SoFar given held folder done paths front) → AllByRecursion (λ path. IsTrue (is_class_path path)) paths
-    → MayGive old.held old.faults new.faults (read_classes given folder next front paths) outcome → ClassesShow given old new folder model all next outcome
+abbrev Continues : {A : Type 0} → (List ℕ → Result A Fault) → (A → ClassFile) → FilesState → FilesState → List ℕ → List ℕ → List (List ℕ) → (List A → Plan) → List (List ℕ) → List (List ℕ) → List A → Result (List ℕ) Status → Type 0
+Continues given class old new folder model all next paths done front outcome =
+    IfSome old.held (λ held. SoFar given held folder done paths front) → AreRead class front → AllByRecursion (λ path. IsTrue (is_class_path path)) paths
+    → MayGive old.held old.faults new.faults (read_classes given folder next front paths) outcome → ClassesShow given class old new folder model all next outcome
 
 classes_show : {A : Type 0} (given : List ℕ → Result A Fault) (class : A → ClassFile) → GivesClasses given class → (old new : FilesState) (folder model : List ℕ) (all : List (List ℕ)) (next : List A → Plan) (paths done : List (List ℕ)) (front : List A) (outcome : Result (List ℕ) Status) → all ≡ done ++ paths
-    → IfSome old.held (λ held. SoFar given held folder done paths front) → AllByRecursion (λ path. IsTrue (is_class_path path)) paths
-    → MayGive old.held old.faults new.faults (read_classes given folder next front paths) outcome → ClassesShow given old new folder model all next outcome
-classes_show given class gives old new folder model all next [] done front outcome is told named g = inr (front, rw (is ∙ append-nil done) told, g)
-classes_show {A} given class gives old new folder model all next (path ∷ paths) done front outcome is told named g =
+    → IfSome old.held (λ held. SoFar given held folder done paths front) → AreRead class front → AllByRecursion (λ path. IsTrue (is_class_path path)) paths
+    → MayGive old.held old.faults new.faults (read_classes given folder next front paths) outcome → ClassesShow given class old new folder model all next outcome
+classes_show given class gives old new folder model all next [] done front outcome is told read named g = inr (front, rw (is ∙ append-nil done) told, read, g)
+classes_show {A} given class gives old new folder model all next (path ∷ paths) done front outcome is told read named g =
     by_file (λ x. classes_show given class gives old new folder model all next paths (done ++ path ∷ []) (front ++ x ∷ []) outcome (is ∙ sym (append_assoc done (path ∷ []) paths)))
     (sized_shows old new most_bytes (place_of folder path) path _ outcome g)
   where
-    by_test : (bytes : List ℕ) → IfSome old.held (λ held. (length (class_bytes held folder path) ≤ most_bytes) × (bytes ≡ class_bytes held folder path)) → ((x : A) → Continues given old new folder model all next paths (done ++ path ∷ []) (front ++ x ∷ []) outcome)
+    by_test : (bytes : List ℕ) → IfSome old.held (λ held. (length (class_bytes held folder path) ≤ most_bytes) × (bytes ≡ class_bytes held folder path)) → IsBytes bytes
+        → ((x : A) → Continues given class old new folder model all next paths (done ++ path ∷ []) (front ++ x ∷ []) outcome)
         → ((status : Status) × (or_bad_class path (given bytes) ≡ Err status) × (outcome ≡ Err status)) ⊎ ((x : A) × (or_bad_class path (given bytes) ≡ Ok x) × MayGive old.held old.faults new.faults (read_classes given folder next (front ++ x ∷ []) paths) outcome)
-        → ClassesShow given old new folder model all next outcome
-    by_test bytes is rest (inl bad) =
+        → ClassesShow given class old new folder model all next outcome
+    by_test bytes is are_bytes rest (inl bad) =
         let b = was_refused path (given bytes) bad.0 bad.1 in
         inl (BadClass path b.0.at b.0.reason, bad.2 ∙ ap Err b.2, told_both old.held _ _ _ (λ held h k. (reached gives held folder path done paths front h, ap class_of (sym k.1) ∙ gives.refused bytes b.0 b.1)) told is)
-    by_test bytes is rest (inr good) =
-        rest good.0 (told_both old.held _ _ _ (λ held h k. further given held folder path bytes good.0 done paths front h k (was_given path (given bytes) good.0 good.1)) told is) named.1 good.2
+    by_test bytes is are_bytes rest (inr good) =
+        let reads = was_given path (given bytes) good.0 good.1 in
+        rest good.0 (told_both old.held _ _ _ (λ held h k. further given held folder path bytes good.0 done paths front h k reads) told is) (one_more_read gives bytes good.0 front are_bytes reads read) named.1 good.2
 
-    by_file : ((x : A) → Continues given old new folder model all next paths (done ++ path ∷ []) (front ++ x ∷ []) outcome)
-        → SizedShows old new most_bytes (place_of folder path) path (λ bytes. attempt (or_bad_class path (given bytes)) (λ x. read_classes given folder next (front ++ x ∷ []) paths)) outcome → ClassesShow given old new folder model all next outcome
+    by_file : ((x : A) → Continues given class old new folder model all next paths (done ++ path ∷ []) (front ++ x ∷ []) outcome)
+        → SizedShows old new most_bytes (place_of folder path) path (λ bytes. attempt (or_bad_class path (given bytes)) (λ x. read_classes given folder next (front ++ x ∷ []) paths)) outcome → ClassesShow given class old new folder model all next outcome
     by_file rest (inl (inl fault)) = inl (ReadFault path, fault.1, inr (inr (named.0, fault.0, told_map old.held _ _ (λ held h. reached gives held folder path done paths front h) told)))
     by_file rest (inl (inr large)) = inl (TooLarge path most_bytes, large.1, inr (inr (refl, told_both old.held _ _ _ (λ held h k. (reached gives held folder path done paths front h, k)) told large.0)))
-    by_file rest (inr read) = by_test read.0 read.1 rest (attempt_cases old.held old.faults new.faults (or_bad_class path (given read.0)) _ outcome read.2)
+    by_file rest (inr file) = by_test file.0 file.1 file.2 rest (attempt_cases old.held old.faults new.faults (or_bad_class path (given file.0)) _ outcome file.3)
 
 -- ---- the folder
 
-abbrev pub FolderShows : {A : Type 0} → (List ℕ → Result A Fault) → FilesState → FilesState → List ℕ → List ℕ → (List A → Plan) → Result (List ℕ) Status → Type 0
-FolderShows {A} given old new folder model next outcome =
+abbrev pub FolderShows : {A : Type 0} → (List ℕ → Result A Fault) → (A → ClassFile) → FilesState → FilesState → List ℕ → List ℕ → (List A → Plan) → Result (List ℕ) Status → Type 0
+FolderShows {A} given class old new folder model next outcome =
     ((status : Status) × (outcome ≡ Err status) × InputCause old new folder model status)
-    ⊎ ((paths : List (List ℕ)) × (xs : List A) × IfSome old.held (λ held. AreAllGiven given held folder paths xs) × MayGive old.held old.faults new.faults (next xs) outcome)
+    ⊎ ((paths : List (List ℕ)) × (xs : List A) × IfSome old.held (λ held. AreAllGiven given held folder paths xs) × AreRead class xs × MayGive old.held old.faults new.faults (next xs) outcome)
 
 -- a listing has one length
 pub folder_shows : {A : Type 0} (given : List ℕ → Result A Fault) (class : A → ClassFile) → GivesClasses given class → (old new : FilesState) (folder model : List ℕ) (next : List A → Plan) (outcome : Result (List ℕ) Status)
-    → MayGive old.held old.faults new.faults (read_folder given folder next) outcome → FolderShows given old new folder model next outcome
+    → MayGive old.held old.faults new.faults (read_folder given folder next) outcome → FolderShows given class old new folder model next outcome
 folder_shows given class gives old new folder model next outcome (inl fault) = inl (ReadFault folder, fault.1, inr (inl (refl, fault.0)))
 folder_shows given class gives old new folder model next outcome (inr g) = by_size (unless_cases old.held old.faults new.faults (too_large folder most_classes (length (class_paths g.0))) _ outcome g.2) (large_cases folder most_classes (length (class_paths g.0)))
   where
@@ -147,13 +162,13 @@ folder_shows given class gives old new folder model next outcome (inr g) = by_si
 
     by_size : ((status : Status) × (too_large folder most_classes (length (class_paths g.0)) ≡ Some status) × (outcome ≡ Err status)) ⊎ ((too_large folder most_classes (length (class_paths g.0)) ≡ None) × MayGive old.held old.faults new.faults (read_classes given folder next [] (class_paths g.0)) outcome)
         → ((too_large folder most_classes (length (class_paths g.0)) ≡ None) × (length (class_paths g.0) ≤ most_classes)) ⊎ ((too_large folder most_classes (length (class_paths g.0)) ≡ Some (TooLarge folder most_classes)) × (most_classes < length (class_paths g.0)))
-        → FolderShows given old new folder model next outcome
+        → FolderShows given class old new folder model next outcome
     by_size (inl refused) (inl fits) = cc
     by_size (inl refused) (inr large) =
         inl (TooLarge folder most_classes, (let e : refused.0 ≡ TooLarge folder most_classes = cc in refused.2 ∙ ap Err e), inr (inl (refl, refl, told_map old.held _ _ (λ held h. (class_paths g.0, record { listing = g.0; listed = h; classes = refl }, large.1)) g.1)))
     by_size (inr goes) (inr large) = cc
-    by_size (inr goes) (inl fits) = by_classes (classes_show given class gives old new folder model (class_paths g.0) next (class_paths g.0) [] [] outcome refl start (all_filter is_class_path g.0) goes.1)
+    by_size (inr goes) (inl fits) = by_classes (classes_show given class gives old new folder model (class_paths g.0) next (class_paths g.0) [] [] outcome refl start (All-nil (λ x. Holds (class x))) (all_filter is_class_path g.0) goes.1)
       where
-        by_classes : ClassesShow given old new folder model (class_paths g.0) next outcome → FolderShows given old new folder model next outcome
+        by_classes : ClassesShow given class old new folder model (class_paths g.0) next outcome → FolderShows given class old new folder model next outcome
         by_classes (inl refused) = inl refused
-        by_classes (inr read) = inr (class_paths g.0, read.0, told_map old.held _ _ (λ held h. record { listed = (rw append-nil at h.all); few = fits.1; good = h.good }) read.1, read.2)
+        by_classes (inr read) = inr (class_paths g.0, read.0, told_map old.held _ _ (λ held h. record { listed = (rw append-nil at h.all); few = fits.1; good = h.good }) read.1, read.2, read.3)

@@ -1,5 +1,5 @@
--- What `verify` made of a model and of class files, in terms of its plan; what a verdict says of runs; and that a program has one verdict.
-use Rattle.std.proofs.Common.{Bool, Err, Global, IfErr, IfOk, List, MatchResult, None, Ok, Option, Result, Some, Vec, ap, arith, inl, inr, refl, sym, true, ℕ, ◌<◌, ◌∙◌, ◌≡◌, ◌⊎◌, ◌≤◌, length, slice_get, unwrap_or}
+-- What `verify` made of a model and of class files, in terms of its plan; and that a program has one verdict.
+use Rattle.std.proofs.Common.{Bool, Err, Global, IfErr, IfOk, List, MatchResult, None, Ok, Option, Result, Some, Vec, ap, arith, inl, inr, refl, sym, true, ℕ, ◌<◌, ◌∙◌, ◌≡◌, ◌⊎◌, ◌≤◌, length}
 use Rattle.std.proofs.lemmas.Bool.{cases_lt}
 use Rattle.std.specs.List.{list_all}
 use Rattle.std.specs.Prelude.{All}
@@ -13,8 +13,9 @@ use Rattle.vx_link.specs.declared.program.LinkedMethod.{LinkedMethod}
 use Rattle.vx_link.specs.declared.program.Program.{Program}
 use Rattle.vx_model.specs.declared.model.Model.{Model}
 use Rattle.vx_program_bounds.specs.Law.{LinkedAreBounded}
-use Rattle.vx_sound_linked.proofs.Whole.{linked_never_illegal}
-use Rattle.vx_verify.specs.Verdict.{IsVerdict, IsVerified, has_short_code}
+use Rattle.vx_sound_classes.specs.Law.{LinkedHaveRanks}
+use Rattle.vx_types.specs.Ranked.{HasRanks}
+use Rattle.vx_verify.specs.Verdict.{IsVerdict, has_short_code}
 use Rattle.vx_verify.specs.declared.verdict.Verdict.{Verdict}
 use Rattle.vx_verify.specs.declared.verdict.Verdict.TheVariants.{No, Yes}
 use Rattle.vx_cli.specs.Job.{IsNoProgram, Judged, model_of, program_in, slashed}
@@ -22,7 +23,7 @@ use Rattle.vx_cli.specs.KeepsFiles.{KeepsFiles}
 use Rattle.vx_cli.specs.Plan.{Leads, MayGive, MayStop, Plan, Write, attempt}
 use Rattle.vx_cli.specs.Run.{read_folder}
 use Rattle.vx_cli.specs.Sized.{most_bytes, read_sized}
-use Rattle.vx_cli.specs.Verdicts.{IsSoundText, IsVerdictText, VERIFIED, refused_text, verdict_text}
+use Rattle.vx_cli.specs.Verdicts.{IsVerdictText, refused_text, verdict_text}
 use Rattle.vx_cli.specs.Verify.{IsVerdictOf, judge_classes, read_any_model, verify_plan}
 use Rattle.vx_cli.specs.declared.status.Status.{Status}
 use Rattle.vx_cli.specs.declared.status.Status.TheVariants.{NoMemory}
@@ -53,31 +54,22 @@ same_test (Some code) = refl
 short_codes : (methods : List LinkedMethod) → list_all (λ m. bounds.has_short_code m.code) methods ≡ list_all (λ m. has_short_code m.code) methods
 short_codes methods = ap (λ (f : LinkedMethod → Bool). list_all f methods) (λ i m. same_test m.code i)
 
-pub can_be_judged : (main : List ℕ) (model : Model) (classes : List ClassFile) (p : Program) → LinkedAreBounded → length classes ≤ 1024 → All Holds classes → program_in main model classes ≡ Ok p
-    → HasClassNumbers p × (list_all (λ m. has_short_code m.code) p.methods ≡ true)
-can_be_judged main model classes p law few read e =
-    let bounded = (law classes model.options (slashed main) p few read (linked_is main model classes p e)).0 in
-    (bounded.classes, sym (short_codes p.methods) ∙ bounded.codes)
+-- what the verdict over a linked program asks of it
+pub record CanBeJudged (p : Program) : Type 0 where
+  pub classes : HasClassNumbers p
+  pub ranked : HasRanks p
+  pub codes : list_all (λ m. has_short_code m.code) p.methods ≡ true
 
--- the first bytes of the two lines
-apart : ◌≡◌ {A = ℕ} 118 114 → ⊥
-apart e = omega (arith, e)
+pub can_be_judged : (main : List ℕ) (model : Model) (classes : List ClassFile) (p : Program) → LinkedAreBounded → LinkedHaveRanks → length classes ≤ 1024 → All Holds classes → program_in main model classes ≡ Ok p → CanBeJudged p
+can_be_judged main model classes p bounds ranks few read e =
+    let linked = linked_is main model classes p e in
+    let bounded = (bounds classes model.options (slashed main) p few read linked).0 in
+    record { classes = bounded.classes; ranked = ranks classes model.options (slashed main) p read linked; codes = sym (short_codes p.methods) ∙ bounded.codes }
 
--- only the text of a verdict of yes is `verified`
-says_yes : (p : Program) (verdict : Verdict) → VERIFIED ≡ verdict_text p verdict → IsVerdict p verdict → IsVerified p
-says_yes p Yes e h = h
-says_yes p (No m) e h = absurd (apart (ap (λ (text : List ℕ). unwrap_or (slice_get text 0) 0) e))
-
--- where it is, no run of a program that classes link to, as a reading gives them, ends as illegal
-verdict_is_sound : (main : List ℕ) (model : Model) (classes : List ClassFile) (p : Program) (text : List ℕ) → All Holds classes → program_in main model classes ≡ Ok p → IsVerdictText p text → IsSoundText p text
-verdict_is_sound main model classes p text read linked made says =
-    linked_never_illegal classes model.options (slashed main) p read (linked_is main model classes p linked) (says_yes p made.0 (sym says ∙ made.2) made.1)
-
-pub of_judged : (main : List ℕ) (model : Model) (classes : List ClassFile) (p : Program) (r : Result (Vec ℕ Global) Status) → All Holds classes → program_in main model classes ≡ Ok p
+pub of_judged : (main : List ℕ) (model : Model) (classes : List ClassFile) (p : Program) (r : Result (Vec ℕ Global) Status) → program_in main model classes ≡ Ok p
     → MatchResult r (λ text. IsVerdictText p text.items) (λ status. status ≡ NoMemory) → MatchResult r (λ text. IsVerdictOf main model classes text.items) (IsNoProgram main model classes)
-of_judged main model classes p (Ok text) read linked made =
-    record { program = p; is_program = linked; is_text = made; sound = verdict_is_sound main model classes p text.items read linked made }
-of_judged main model classes p (Err status) read linked made = inl made
+of_judged main model classes p (Ok text) linked made = record { program = p; is_program = linked; is_text = made }
+of_judged main model classes p (Err status) linked made = inl made
 
 -- ---- the plan
 
@@ -87,7 +79,7 @@ pub verify_ok : (old mid new : FilesState) (folder path main : List ℕ) (model 
 verify_ok old mid new folder path main model classes (Err e) keeps modeled found made = tt
 verify_ok old mid new folder path main model classes (Ok text) keeps modeled found made =
     let there = then_leads (modeled (λ m. read_folder class_of folder (judge_classes main m))) (rw keeps.held at (found (judge_classes main model))) in
-    (then_leads there (attempt_goes old.held (program_in main model classes) (λ p. Write (Judged p)) made.program made.is_program)).to old.faults new.faults (Ok text.items) (text.items, (made.is_text, made.sound), refl)
+    (then_leads there (attempt_goes old.held (program_in main model classes) (λ p. Write (Judged p)) made.program made.is_program)).to old.faults new.faults (Ok text.items) (text.items, made.is_text, refl)
 
 pub verify_err : (old mid new : FilesState) (folder path main : List ℕ) (model : Model) (classes : List ClassFile) (r : Result (Vec ℕ Global) Status) → KeepsFiles old mid → KeepsFiles mid new
     → ((next : Model → Plan) → Leads old.held (read_any_model path next) (next model)) → ((next : List ClassFile → Plan) → Leads mid.held (read_folder class_of folder next) (next classes))

@@ -99,9 +99,9 @@ replay_shows old new folder path main limit word outcome g =
           replayed = record { program = good.0; is_program = good.1; is_text = written.1 };
         }) modeled all)
 
-    by_folder : (model : Model) (c : List Bool) → IfSome old.held (λ held. IsModelOf held path model) → allowed_at model word ≡ Ok c → FolderShows traced_of old new folder path (replay_classes main limit model c) outcome → Shows old new (Replay folder path main limit word) outcome
+    by_folder : (model : Model) (c : List Bool) → IfSome old.held (λ held. IsModelOf held path model) → allowed_at model word ≡ Ok c → FolderShows traced_of (λ t. t.class) old new folder path (replay_classes main limit model c) outcome → Shows old new (Replay folder path main limit word) outcome
     by_folder model c modeled allowed (inl stop) = refused stop.0 stop.1 (replay_cause old new folder path main word stop.0 (input_cause old new folder path main stop.0 stop.2))
-    by_folder model c modeled allowed (inr read) = by_program model c read.0 read.1 modeled allowed read.2 (attempt_cases old.held old.faults new.faults (traced_program main model read.1) _ outcome read.3)
+    by_folder model c modeled allowed (inr read) = by_program model c read.0 read.1 modeled allowed read.2 (attempt_cases old.held old.faults new.faults (traced_program main model read.1) _ outcome read.4)
 
     by_choice : (model : Model) → IfSome old.held (λ held. IsModelOf held path model)
         → ((status : Status) × (allowed_at model word ≡ Err status) × (outcome ≡ Err status))

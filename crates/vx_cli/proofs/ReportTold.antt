@@ -35,7 +35,7 @@ report_shows old new path next outcome g = by_file (sized_shows old new most_rep
     by_file : SizedShows old new most_report_bytes path path (λ bytes. As_report bytes next) outcome → ReportShows old new path next outcome
     by_file (inl (inl fault)) = inl fault
     by_file (inl (inr large)) = inr (inl large)
-    by_file (inr read) = by_report read.0 read.1 read.2
+    by_file (inr read) = by_report read.0 read.1 read.3
 
 -- what spells a report has no bad line
 pub not_bad : (held : Held) (path : List ℕ) (line : ℕ) (report : Report) → IsReportIn held path report → IsBadAt held path line → ⊥

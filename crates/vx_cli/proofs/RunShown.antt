@@ -64,7 +64,7 @@ model_shows old new folder path main next outcome g = by_file (sized_shows old n
     by_file : SizedShows old new most_bytes path path (λ t. attempt (model_of path t) (λ m. If_allowed m (next m))) outcome → ModelShows old new folder path main next outcome
     by_file (inl (inl fault)) = inl (ReadFault path, fault.1, inl (refl, fault.0))
     by_file (inl (inr large)) = inl (TooLarge path most_bytes, large.1, inl (refl, refl, large.0))
-    by_file (inr read) = by_test read.0 read.1 (attempt_cases old.held old.faults new.faults (model_of path read.0) _ outcome read.2)
+    by_file (inr read) = by_test read.0 read.1 (attempt_cases old.held old.faults new.faults (model_of path read.0) _ outcome read.3)
 
 -- ---- the whole run
 
@@ -118,9 +118,9 @@ run_shows old new folder path main limit version outcome g = by_model (model_sho
           reported = record { program = good.0; is_program = good.1; is_report = written.1 };
         }) modeled all)
 
-    by_folder : (model : Model) → IfSome old.held (λ held. IsGoodModel held path model) → FolderShows class_of old new folder path (run_classes main limit version model) outcome → Shows old new (Run folder path main limit version) outcome
+    by_folder : (model : Model) → IfSome old.held (λ held. IsGoodModel held path model) → FolderShows class_of (λ class. class) old new folder path (run_classes main limit version model) outcome → Shows old new (Run folder path main limit version) outcome
     by_folder model modeled (inl stop) = refused stop.0 stop.1 (run_cause old new folder path main stop.0 stop.2)
-    by_folder model modeled (inr read) = by_program model read.0 read.1 modeled read.2 (attempt_cases old.held old.faults new.faults (program_in main model read.1) _ outcome read.3)
+    by_folder model modeled (inr read) = by_program model read.0 read.1 modeled read.2 (attempt_cases old.held old.faults new.faults (program_in main model read.1) _ outcome read.4)
 
     by_model : ModelShows old new folder path main (λ model. read_folder class_of folder (run_classes main limit version model)) outcome → Shows old new (Run folder path main limit version) outcome
     by_model (inl stop) = refused stop.0 stop.1 stop.2

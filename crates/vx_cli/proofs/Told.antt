@@ -1,5 +1,6 @@
 -- What plans that read one file within a room gave, in terms of the files.
 use Rattle.std.proofs.Common.{◌≡◌, ◌≤◌, ◌<◌, ◌+◌, ℕ, Bool, true, false, List, take, length, IfSome, Option, None, Some, Result, Ok, Err, inl, inr, ◌⊎◌, refl, ap, sym, ◌∙◌, arith, ltb, ltb-true, ltb-false, length-take, take_all, min}
+use Rattle.vx_cursor.specs.Place.{IsBytes}
 use Rattle.vx_io.specs.Call.{Call, Reading}
 use Rattle.vx_io.specs.Held.{Held, FilesState, contents}
 use Rattle.vx_cli.specs.declared.status.Status.{Status}
@@ -54,15 +55,15 @@ abbrev pub SizedShows : FilesState → FilesState → ℕ → List ℕ → List 
 SizedShows old new room place shown next outcome =
     (((old.faults (Reading place) < new.faults (Reading place)) × (outcome ≡ Err (ReadFault shown)))
     ⊎ (IfSome old.held (λ held. room < length (contents held place)) × (outcome ≡ Err (TooLarge shown room))))
-    ⊎ ((bytes : List ℕ) × IsText old room place bytes × MayGive old.held old.faults new.faults (next bytes) outcome)
+    ⊎ ((bytes : List ℕ) × IsText old room place bytes × IsBytes bytes × MayGive old.held old.faults new.faults (next bytes) outcome)
 
 pub sized_shows : (old new : FilesState) (room : ℕ) (place shown : List ℕ) (next : List ℕ → Plan) (outcome : Result (List ℕ) Status) → MayGive old.held old.faults new.faults (read_sized room place shown next) outcome → SizedShows old new room place shown next outcome
 sized_shows old new room place shown next outcome (inl g) = inl (inl g)
 sized_shows old new room place shown next outcome (inr g) = by_size (large_cases shown room (length g.0))
   where
     by_size : ((too_large shown room (length g.0) ≡ None) × (length g.0 ≤ room)) ⊎ ((too_large shown room (length g.0) ≡ Some (TooLarge shown room)) × (room < length g.0)) → SizedShows old new room place shown next outcome
-    by_size (inl fits) = inr (g.0, told_map old.held _ _ (λ held told. whole room g.0 (contents held place) told fits.1) g.2, (rw fits.0 at g.3))
-    by_size (inr large) = inl (inr (told_map old.held _ _ (λ held told. more room g.0 (contents held place) told large.1) g.2, (rw large.0 at g.3)))
+    by_size (inl fits) = inr (g.0, told_map old.held _ _ (λ held told. whole room g.0 (contents held place) told fits.1) g.3, g.2, (rw fits.0 at g.4))
+    by_size (inr large) = inl (inr (told_map old.held _ _ (λ held told. more room g.0 (contents held place) told large.1) g.3, (rw large.0 at g.4)))
 
 -- ---- values
 

@@ -1,10 +1,12 @@
 -- What the plan of `verify` gave shows in terms of the files.
 use Rattle.std.proofs.Common.{◌≡◌, ◌≤◌, ◌<◌, ℕ, List, ◌∷◌, ◌++◌, length, IfSome, Some, Result, Ok, Err, inl, inr, ◌⊎◌, refl, ap, sym, ◌∙◌, arith}
+use Rattle.std.specs.Prelude.{All}
 use Rattle.vx_io.specs.Call.{Reading}
 use Rattle.vx_io.specs.Held.{Held, FilesState, contents}
 use Rattle.vx_io.specs.Sink.{SinkState}
 use Rattle.vx_class.specs.declared.class_file.ClassFile.{ClassFile}
 use Rattle.vx_class.specs.Class.{class_of}
+use Rattle.vx_class.specs.File.{Holds}
 use Rattle.vx_model.specs.declared.model.Model.{Model}
 use Rattle.vx_link.specs.Linked.{linked_program}
 use Rattle.vx_link.specs.declared.fault.LinkFault.{LinkFault}
@@ -17,7 +19,7 @@ use Rattle.vx_cli.specs.Job.{Judged, model_of, program_in, slashed}
 use Rattle.vx_cli.specs.Plan.{Plan, MayGive, Write, attempt}
 use Rattle.vx_cli.specs.Run.{most_classes, read_folder}
 use Rattle.vx_cli.specs.Sized.{most_bytes}
-use Rattle.vx_cli.specs.Verify.{judge_classes, read_any_model, verify_plan}
+use Rattle.vx_cli.specs.Verify.{IsVerdictOf, judge_classes, read_any_model, verify_plan}
 use Rattle.vx_cli.proofs.FolderShown.{FolderShows, class_at, classes_alone, folder_shows, same_given}
 use Rattle.vx_cli.proofs.RunShown.{faulty_program, model_refused, refused_program}
 use Rattle.vx_cli.proofs.Told.{told_map, told_both, IsText, SizedShows, sized_shows, attempt_cases, ok_and_err, same_value}
@@ -47,7 +49,7 @@ model_shows old new folder path next outcome g = by_file (sized_shows old new mo
     by_file : SizedShows old new most_bytes path path (λ t. attempt (model_of path t) next) outcome → ModelShows old new folder path next outcome
     by_file (inl (inl fault)) = inl (ReadFault path, fault.1, inl (refl, fault.0))
     by_file (inl (inr large)) = inl (TooLarge path most_bytes, large.1, inl (refl, refl, large.0))
-    by_file (inr read) = by_test read.0 read.1 (attempt_cases old.held old.faults new.faults (model_of path read.0) _ outcome read.2)
+    by_file (inr read) = by_test read.0 read.1 (attempt_cases old.held old.faults new.faults (model_of path read.0) _ outcome read.3)
 
 -- ---- the whole
 
@@ -56,41 +58,63 @@ pub input_cause : (old new : FilesState) (folder model main : List ℕ) (status 
 input_cause old new folder model main (BadLink fault) cause = absurd cause
 input_cause old new folder model main status cause = cause
 
--- whatever the plan of `verify` gave is shown by the files
-pub verify_shows : (old new : FilesState) (folder path main : List ℕ) (outcome : Result (List ℕ) Status) → MayGive old.held old.faults new.faults (verify_plan folder path main) outcome → Shows old new (Verify folder path main) outcome
-verify_shows old new folder path main outcome g = by_model (model_shows old new folder path _ outcome g)
+-- The text is that of the verdict over the class files of a folder under a model. The bytes of each were read, so that it meets every check, which the files that are held don't show.
+pub record IsJudged (old : FilesState) (folder path main text : List ℕ) : Type 0 where
+  pub model : Model
+  pub modeled : IfSome old.held (λ held. IsModelOf held path model)
+  pub paths : List (List ℕ)
+  pub classes : List ClassFile
+  pub all : IfSome old.held (λ held. AreAll held folder paths classes)
+  pub read : All Holds classes
+  pub judged : IsVerdictOf main model classes text
+
+-- what the plan of `verify` gave: the text of a verdict, or a refusal with its cause
+abbrev pub VerifyGave : FilesState → FilesState → (folder path main : List ℕ) → Result (List ℕ) Status → Type 0
+VerifyGave old new folder path main (Ok text) = IsJudged old folder path main text
+VerifyGave old new folder path main (Err status) = VerifyCause old new folder path main status
+
+pub verify_gave : (old new : FilesState) (folder path main : List ℕ) (outcome : Result (List ℕ) Status) → MayGive old.held old.faults new.faults (verify_plan folder path main) outcome → VerifyGave old new folder path main outcome
+verify_gave old new folder path main outcome g = by_model (model_shows old new folder path _ outcome g)
   where
-    refused : (status : Status) → outcome ≡ Err status → VerifyCause old new folder path main status → Shows old new (Verify folder path main) outcome
+    refused : (status : Status) → outcome ≡ Err status → VerifyCause old new folder path main status → VerifyGave old new folder path main outcome
     refused status e cause = rw e cause
 
     by_refusal : (model : Model) (paths : List (List ℕ)) (classes : List ClassFile) → IfSome old.held (λ held. IsModelOf held path model) → IfSome old.held (λ held. AreAll held folder paths classes)
         → (status : Status) → outcome ≡ Err status → (fault : LinkFault) × (status ≡ BadLink fault) × (linked_program classes model.options (slashed main) ≡ Err fault)
-        → Shows old new (Verify folder path main) outcome
+        → VerifyGave old new folder path main outcome
     by_refusal model paths classes modeled all status is n =
         refused (BadLink n.0) (is ∙ ap Err n.1) (told_both old.held _ _ _ (λ held m h. record { model = model; modeled = m; paths = paths; classes = classes; all = h; faulty = n.2 }) modeled all)
 
-    by_program : (model : Model) (paths : List (List ℕ)) (classes : List ClassFile) → IfSome old.held (λ held. IsModelOf held path model) → IfSome old.held (λ held. AreAll held folder paths classes)
+    by_program : (model : Model) (paths : List (List ℕ)) (classes : List ClassFile) → IfSome old.held (λ held. IsModelOf held path model) → IfSome old.held (λ held. AreAll held folder paths classes) → All Holds classes
         → ((status : Status) × (program_in main model classes ≡ Err status) × (outcome ≡ Err status)) ⊎ ((program : Program) × (program_in main model classes ≡ Ok program) × MayGive old.held old.faults new.faults (Write (Judged program)) outcome)
-        → Shows old new (Verify folder path main) outcome
-    by_program model paths classes modeled all (inl bad) = by_refusal model paths classes modeled all bad.0 bad.2 (refused_program main model classes bad.0 bad.1)
-    by_program model paths classes modeled all (inr good) =
+        → VerifyGave old new folder path main outcome
+    by_program model paths classes modeled all read (inl bad) = by_refusal model paths classes modeled all bad.0 bad.2 (refused_program main model classes bad.0 bad.1)
+    by_program model paths classes modeled all read (inr good) =
         let written = good.2 in
-        rw written.2 (told_both old.held _ _ _ (λ held m h. record {
+        rw written.2 (record {
           model = model;
-          modeled = m;
+          modeled = modeled;
           paths = paths;
           classes = classes;
-          all = h;
-          judged = record { program = good.0; is_program = good.1; is_text = written.1.0; sound = written.1.1 };
-        }) modeled all)
+          all = all;
+          read = read;
+          judged = record { program = good.0; is_program = good.1; is_text = written.1 };
+        })
 
-    by_folder : (model : Model) → IfSome old.held (λ held. IsModelOf held path model) → FolderShows class_of old new folder path (judge_classes main model) outcome → Shows old new (Verify folder path main) outcome
+    by_folder : (model : Model) → IfSome old.held (λ held. IsModelOf held path model) → FolderShows class_of (λ class. class) old new folder path (judge_classes main model) outcome → VerifyGave old new folder path main outcome
     by_folder model modeled (inl stop) = refused stop.0 stop.1 (input_cause old new folder path main stop.0 stop.2)
-    by_folder model modeled (inr read) = by_program model read.0 read.1 modeled read.2 (attempt_cases old.held old.faults new.faults (program_in main model read.1) _ outcome read.3)
+    by_folder model modeled (inr found) = by_program model found.0 found.1 modeled found.2 found.3 (attempt_cases old.held old.faults new.faults (program_in main model found.1) _ outcome found.4)
 
-    by_model : ModelShows old new folder path (λ model. read_folder class_of folder (judge_classes main model)) outcome → Shows old new (Verify folder path main) outcome
+    by_model : ModelShows old new folder path (λ model. read_folder class_of folder (judge_classes main model)) outcome → VerifyGave old new folder path main outcome
     by_model (inl stop) = refused stop.0 stop.1 (input_cause old new folder path main stop.0 stop.2)
     by_model (inr modeled) = by_folder modeled.0 modeled.1 (folder_shows class_of (λ class. class) classes_alone old new folder path (judge_classes main modeled.0) outcome modeled.2)
+
+-- whatever the plan of `verify` gave is shown by the files
+pub verify_shows : (old new : FilesState) (folder path main : List ℕ) (outcome : Result (List ℕ) Status) → MayGive old.held old.faults new.faults (verify_plan folder path main) outcome → Shows old new (Verify folder path main) outcome
+verify_shows old new folder path main (Ok text) g =
+    let gave : IsJudged old folder path main text = verify_gave old new folder path main (Ok text) g in
+    told_both old.held _ _ _ (λ held m h. record { model = gave.model; modeled = m; paths = gave.paths; classes = gave.classes; all = h; judged = gave.judged }) gave.modeled gave.all
+verify_shows old new folder path main (Err status) g = verify_gave old new folder path main (Err status) g
 
 -- nothing refuses good files, where nothing fails
 pub no_cause : (old new : FilesState) (out out' : SinkState) (folder model main : List ℕ) (held : Held) (status : Status) → old.held ≡ Some held → IsGood held (Verify folder model main) → NothingFails held old new out out' (Verify folder model main)

@@ -1,16 +1,14 @@
 -- The plan of `verify`: the order of its questions and of its refusals.
-use Rattle.std.specs.Prelude.{List, Ok, false, ℕ, ◌≡◌}
+use Rattle.std.specs.Prelude.{List, Ok, ℕ, ◌≡◌}
 use Rattle.vx_class.specs.Class.{class_of}
 use Rattle.vx_class.specs.declared.class_file.ClassFile.{ClassFile}
-use Rattle.vx_java.specs.Step.{Config, run}
 use Rattle.vx_link.specs.declared.program.Program.{Program}
 use Rattle.vx_model.specs.declared.model.Model.{Model}
-use Rattle.vx_sound.specs.Typed.{is_illegal}
 use Rattle.vx_cli.specs.Job.{Judged, model_of, program_in}
 use Rattle.vx_cli.specs.Plan.{Plan, Write, attempt}
 use Rattle.vx_cli.specs.Run.{read_folder}
 use Rattle.vx_cli.specs.Sized.{most_bytes, read_sized}
-use Rattle.vx_cli.specs.Verdicts.{IsVerdictText, VERIFIED}
+use Rattle.vx_cli.specs.Verdicts.{IsVerdictText}
 
 -- reads a model, whether or not it allows a configuration, and goes on with it
 abbrev pub read_any_model : List ℕ → (Model → Plan) → Plan
@@ -24,9 +22,8 @@ judge_classes main model classes = attempt (program_in main model classes) (λ p
 abbrev pub verify_plan : List ℕ → List ℕ → List ℕ → Plan
 verify_plan folder path main = read_any_model path (λ model. read_folder class_of folder (judge_classes main model))
 
--- The class files link, and the text is that of the verdict over their program. Where it is `verified`, no run of that program, in any configuration and with any limit, ends as illegal.
+-- the class files link, and the text is that of the verdict over their program
 pub record IsVerdictOf (main : List ℕ) (model : Model) (classes : List ClassFile) (text : List ℕ) : Type 0 where
   pub program : Program
   pub is_program : program_in main model classes ≡ Ok program
   pub is_text : IsVerdictText program text
-  pub sound : text ≡ VERIFIED → (c : Config) (n : ℕ) → is_illegal (run program c n).end ≡ false

@@ -3,6 +3,7 @@
 
 ghost use Rattle.std.specs.Prelude.{◌≡◌, ◌<◌, ◌≤◌, ◌^◌, ℕ, All, List, length, map, string_bytes, IfOk, IfErr, MatchResult, Ok, [], ◌⊎◌};
 ghost use Rattle.vx_class.specs.File.{Holds};
+ghost use Rattle.vx_cursor.specs.Place.{IsBytes};
 ghost use Rattle.vx_cli.specs.Plan.{Plan, Leads, MayStop};
 ghost use Rattle.vx_cli.specs.Sized.{read_sized};
 ghost use Rattle.vx_cli.specs.Run.{or_bad_class, read_checked, read_classes, read_folder, list_classes, place_of, class_paths};
@@ -22,6 +23,13 @@ pub const MOST_BYTES: u64 = 1_048_576;
 /// The most class files of a folder.
 const MOST_CLASSES: usize = 1_024;
 
+/// Bytes are numbers below 256.
+fn bytes_fit(bytes: &[u8])
+    ensures { IsBytes bytes.now }
+{
+    let _len = bytes.len();
+}
+
 /// Reads a file for which there is so much room, and which statuses show by the path `shown`.
 pub fn read_file<F: Files>(
     alloc: Global,
@@ -39,6 +47,7 @@ pub fn read_file<F: Files>(
 {
     match files.read(place, room + 1) {
         Ok(bytes) => {
+            bytes_fit(bytes.as_slice());
             if bytes.len() as u64 > room {
                 let path = Name::of(alloc, shown.as_bytes())?;
                 return Err(Status::TooLarge { path, room });

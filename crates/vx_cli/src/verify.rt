@@ -10,6 +10,7 @@ ghost use Rattle.vx_cli.specs.KeepsFiles.{KeepsFiles};
 ghost use Rattle.vx_cli.specs.Plan.{MayGive, MayStop};
 ghost use Rattle.vx_cli.specs.Verdicts.{IsVerdictText, refused_text, verdict_text};
 ghost use Rattle.vx_cli.specs.Verify.{IsVerdictOf, verify_plan};
+ghost use Rattle.vx_types.specs.Ranked.{HasRanks};
 ghost use Rattle.vx_verify.specs.Verdict.{has_short_code};
 
 use crate::job::program_in;
@@ -25,6 +26,7 @@ use vx_model::Model;
 use vx_program_bounds::linked_are_bounded;
 use vx_references::method_name;
 use vx_report::put_spelled;
+use vx_sound_classes::linked_have_ranks;
 use vx_value::MethodId;
 use vx_verify::{Verdict, verify};
 use vx_words::WORD;
@@ -53,6 +55,7 @@ fn verdict_text(alloc: Global, program: &Program, verdict: Verdict) -> Result<Ve
 /// The text of the verdict over a program.
 fn judged(alloc: Global, program: &Program) -> Result<Vec<u8>, Status>
     requires classes { HasClassNumbers program.now }
+    requires ranked { HasRanks program.now }
     requires codes { list_all (λ m. has_short_code m.code) program.now.methods ≡ true }
     ensures { MatchResult result (λ text. IsVerdictText program.now text.items) (λ status. status ≡ Status.NoMemory) }
 {
@@ -60,8 +63,7 @@ fn judged(alloc: Global, program: &Program) -> Result<Vec<u8>, Status>
     Ok(verdict_text(alloc, program, verdict)?)
 }
 
-/// The text of the verdict over the program of a folder's class files, or the refusal of their first fault. Where the text is
-/// `verified`, no run of the program ends as illegal: it is linked from classes that were read.
+/// The text of the verdict over the program of a folder's class files, or the refusal of their first fault.
 fn verdict_of(
     alloc: Global,
     main: &str,
@@ -74,6 +76,7 @@ fn verdict_of(
     ensures { MatchResult result (λ text. IsVerdictOf main.now model.now classes.items text.items) (IsNoProgram main.now model.now classes.items) }
 {
     linked_are_bounded();
+    linked_have_ranks();
     let program = program_in(alloc, main, model, classes)?;
     judged(alloc, &program)
 }

@@ -1,13 +1,11 @@
 -- Loops that go over a list from the front.
-use Rattle.std.proofs.Common.{◌≡◌, ℕ, suc, ◌+◌, ◌<◌, List, [], ◌∷◌, ◌++◌, length, drop, get_or, Bool, true, false, Option, Some, None, refl, sym, ap, ◌∙◌, arith, add-one, drop-cons, append_assoc, length-drop, ◌≤◌}
+use Rattle.std.proofs.Common.{◌≡◌, ℕ, suc, ◌+◌, ◌<◌, List, [], ◌∷◌, ◌++◌, length, drop, get_or, Bool, true, false, Option, Some, refl, sym, ap, ◌∙◌, arith, add-one, drop-cons, append_assoc, length-drop, ◌≤◌}
 use Rattle.std.specs.Prelude.{◌&&◌}
-use Rattle.std.specs.Str.{bytes_eq}
 use Rattle.std.proofs.lemmas.List.{append-nil, nil_from_length}
 use Rattle.vx_source.specs.declared.lines.SourceLine.{SourceLine}
 use Rattle.vx_code_parts.specs.declared.labels.Labels.{Labels}
-use Rattle.vx_code_parts.specs.declared.labels.Label.{Label}
 use Rattle.vx_code_parts.specs.declared.drafts.Draft.{Draft}
-use Rattle.vx_code_parts.specs.Bodies.{after, labels_from, find_label}
+use Rattle.vx_code_parts.specs.Bodies.{after, labels_from}
 use Rattle.vx_source.specs.declared.statement.Case.{Case}
 use Rattle.vx_code_parts.specs.Instructions.{is_above, ascend}
 use Rattle.vx_code_parts.specs.Drafts.{next_place, draft_bytes, code_bytes, reaches, all_reach}
@@ -35,28 +33,6 @@ labels_end l xs i x total lt is ends so_far =
 pub labels_done : (l : Labels) (rest : List SourceLine) (total : Labels) → rest ≡ [] → labels_from l rest ≡ total → l ≡ total
 unfolding labels_from
 labels_done l rest total e so_far = sym (ap (labels_from l) e) ∙ so_far
-
-pub find_goes_on : (name : List ℕ) (xs : List Label) (i : ℕ) (x : Label) (found : Bool) (total : Option ℕ) → i < length xs → x ≡ get_or xs i x → found ≡ bytes_eq x.name name → found ≡ false
-    → find_label (drop i xs) name ≡ total → find_label (drop (i + 1) xs) name ≡ total
-unfolding find_label
-find_goes_on name xs i x found total lt is e fails so_far =
-    let unlike : bytes_eq x.name name ≡ false = sym e ∙ fails in
-    let front = ap (λ (ls : List Label). find_label ls name) (front_is xs i x lt is) in
-    let next : find_label (x ∷ drop (i + 1) xs) name ≡ find_label (drop (i + 1) xs) name = rw unlike refl in
-    sym (front ∙ next) ∙ so_far
-
-pub find_ends : (name : List ℕ) (xs : List Label) (i : ℕ) (x : Label) (found : Bool) (total : Option ℕ) → i < length xs → x ≡ get_or xs i x → found ≡ bytes_eq x.name name → found ≡ true
-    → find_label (drop i xs) name ≡ total → Some x.at ≡ total
-unfolding find_label
-find_ends name xs i x found total lt is e holds so_far =
-    let like : bytes_eq x.name name ≡ true = sym e ∙ holds in
-    let front = ap (λ (ls : List Label). find_label ls name) (front_is xs i x lt is) in
-    let next : find_label (x ∷ drop (i + 1) xs) name ≡ Some x.at = rw like refl in
-    sym (front ∙ next) ∙ so_far
-
-pub find_done : (name : List ℕ) (rest : List Label) (total : Option ℕ) → rest ≡ [] → find_label rest name ≡ total → None ≡ total
-unfolding find_label
-find_done name rest total e so_far = sym (ap (λ ls. find_label ls name) e) ∙ so_far
 
 -- ---- code
 

@@ -5,7 +5,7 @@ use Rattle.vx_source.specs.declared.statement.Statement.TheVariants as statement
 use Rattle.vx_source.specs.declared.lines.Said.{Said}
 use Rattle.vx_source.specs.declared.lines.Said.TheVariants as said
 use Rattle.vx_source.specs.declared.lines.SourceLine.{SourceLine}
-use Rattle.vx_code_parts.specs.declared.labels.Label.{Label}
+use Rattle.vx_code_parts.specs.declared.label_table.Label.{Label}
 use Rattle.vx_code_parts.specs.declared.labels.Labels.{Labels}
 
 -- a line that was refused stands for one instruction

@@ -8,7 +8,7 @@ ghost use Rattle.vx_class_parts.specs.Rules.{interface_slots};
 ghost use Rattle.vx_source_words.specs.Reading.{Gives};
 ghost use Rattle.vx_code_parts.specs.Instructions.{number_of, is_known, leads, all_labels, is_of_version, is_text, class_rule, is_field_opcode, call_rule, member_rule, is_above, ascend, local_below, is_lawful, instruction_checked};
 
-use crate::labels::{Labels, find_label};
+use crate::labels::Labels;
 use std::alloc::{AllocError, Global};
 use vx_class_parts::{
     has_dimensions, interface_slots, is_lawful_class, is_lawful_field, is_lawful_method,
@@ -23,14 +23,14 @@ use vx_value::Name;
 pub fn number_of(labels: &Labels, name: &[u8]) -> usize
     ensures { result ≡ number_of labels.now name.now }
 {
-    find_label(labels.labels.as_slice(), name).unwrap_or(0)
+    labels.labels.find(name).unwrap_or(0)
 }
 
 /// Whether a label stands in the body.
 pub fn is_known(labels: &Labels, name: &[u8]) -> bool
     ensures { result ≡ is_known labels.now name.now }
 {
-    find_label(labels.labels.as_slice(), name).is_some()
+    labels.labels.find(name).is_some()
 }
 
 /// Whether an instruction stands behind a label.

@@ -1,35 +1,18 @@
 //! The labels of a method's body.
 
-ghost use Rattle.std.specs.Prelude.{◌≡◌, ◌+◌, ◌≤◌, ◌<◌, ◌++◌, ◌∷◌, [], ◌^◌, IfOk};
-ghost use Rattle.std.specs.Str.{bytes_eq};
-ghost use Rattle.vx_code_parts.specs.Bodies.{after, labels_of, find_label};
+ghost use Rattle.std.specs.Prelude.{◌≡◌, ◌+◌, ◌≤◌, ◌<◌, ◌^◌, IfOk};
+ghost use Rattle.vx_code_parts.specs.Bodies.{after, labels_of};
 
+use crate::label_table::{Label, LabelTable};
 use std::alloc::{AllocError, Global};
-use vx_list::Items;
 use vx_source::{Said, SourceLine, Statement};
 use vx_value::Name;
 
-/// A label, and the number of the instruction behind it.
-#[derive(Debug, Drop)]
-pub struct Label {
-    pub name: Name,
-    pub at: usize,
-}
-
 /// The labels of a body, and the number of its instructions.
-#[derive(Debug, Drop)]
+#[derive(Drop)]
 pub struct Labels {
-    pub labels: Items<Label>,
+    pub labels: LabelTable,
     pub instructions: usize,
-}
-
-/// An item behind the others.
-pub fn pushed<T: Drop>(items: Items<T>, item: T) -> Result<Items<T>, AllocError>
-    ensures { IfOk result (λ v. v ≡ items ++ item ∷ []) }
-{
-    let mut items = items.into_vec();
-    items.push(item)?;
-    Ok(Items::of(items))
 }
 
 /// The labels with one line more.
@@ -54,7 +37,7 @@ fn after(alloc: Global, labels: Labels, said: &Said) -> Result<Labels, AllocErro
                 at: instructions,
             };
             Ok(Labels {
-                labels: pushed(labels, label)?,
+                labels: labels.with(alloc, label)?,
                 instructions,
             })
         }
@@ -70,7 +53,7 @@ pub fn labels_of(alloc: Global, lines: &[SourceLine]) -> Result<Labels, AllocErr
     ensures { IfOk result (λ l. l ≡ labels_of lines.now) }
 {
     let mut labels = Labels {
-        labels: Items::of(Vec::new(alloc)),
+        labels: LabelTable::new(alloc),
         instructions: 0,
     };
     for line in lines {
@@ -82,23 +65,4 @@ pub fn labels_of(alloc: Global, lines: &[SourceLine]) -> Result<Labels, AllocErr
         labels = next;
     }
     Ok(labels)
-}
-
-fn is_named(label: &Label, name: &[u8]) -> bool
-    ensures { result ≡ bytes_eq label.now.name name.now }
-{
-    label.name.bytes() == name
-}
-
-/// The number of the instruction behind a label.
-pub fn find_label(labels: &[Label], name: &[u8]) -> Option<usize>
-    ensures { result ≡ find_label labels.now name.now }
-{
-    for label in labels {
-        let found = is_named(label, name);
-        if found {
-            return Some(label.at);
-        }
-    }
-    None
 }

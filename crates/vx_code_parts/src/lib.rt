@@ -4,9 +4,13 @@
 mod drafting;
 mod drafts;
 mod instructions;
+mod items;
+mod label_table;
 mod labels;
 
 pub use drafting::{constant_of, draft_of};
 pub use drafts::{Draft, Row, all_reach, code_bytes, next_place, place_of};
 pub use instructions::{check_instruction, is_known, is_of_version, leads, number_of};
-pub use labels::{Label, Labels, find_label, labels_of, pushed};
+pub use items::pushed;
+pub use label_table::{Label, LabelTable};
+pub use labels::{Labels, labels_of};

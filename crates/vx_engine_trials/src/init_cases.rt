@@ -15,8 +15,8 @@ const ONE_OPTION: &[u8] = b"option A Main A\n";
 const PRINTS_SEVEN: &[u8] =
     b"class 0021 C java/lang/Object\nfield 0008 v I\nmethod 0008 <clinit> ()V 6 4\ngetstatic java/lang/System out Ljava/io/PrintStream;\nbipush 7\ninvokevirtual java/io/PrintStream println (I)V\niconst_1\nputstatic C v I\nreturn\nend\n";
 
-/// Initialisers.
-pub(crate) const INIT_CASES: [InitCase; 10] = [
+/// Initialisers, and the order in which they run.
+pub(crate) const INIT_ORDER_CASES: [InitCase; 6] = [
     // In some configurations first, and in the others later.
     InitCase {
         others: &[PRINTS_SEVEN],
@@ -70,6 +70,38 @@ pub(crate) const INIT_CASES: [InitCase; 10] = [
             report: b"varexj report 1\noptions 2\noption A\noption B\nlimit 100\nrounds 1\nout 1 1\\0a\nout 1 3\\0a\nout 1 5\\0a\nend 1 return\ndone\n",
         },
     },
+    // The class of main with one above it, which sees a constant and an option of a class in progress.
+    InitCase {
+        others: &[
+            b"class 0021 S java/lang/Object\nmethod 0008 <clinit> ()V 6 4\ngetstatic java/lang/System out Ljava/io/PrintStream;\ngetstatic Main K I\ngetstatic Main A Z\niadd\ninvokevirtual java/io/PrintStream println (I)V\nreturn\nend\n",
+        ],
+        case: Case {
+            source: b"class 0021 Main S\nfield 0009 A Z\nfield 0018 K I int 9\nmethod 0008 <clinit> ()V 6 4\ngetstatic java/lang/System out Ljava/io/PrintStream;\niconst_2\ninvokevirtual java/io/PrintStream println (I)V\nreturn\nend\nmethod 0009 main ([Ljava/lang/String;)V 6 4\ngetstatic java/lang/System out Ljava/io/PrintStream;\niconst_3\ninvokevirtual java/io/PrintStream println (I)V\nreturn\nend\n",
+            model: ONE_OPTION,
+            limit: 100,
+            version: 1,
+            report: b"varexj report 1\noptions 1\noption A\nlimit 100\nrounds 1\nnode 2 0 1 0\nnode 3 0 0 1\nout 2 9\\0a\nout 3 10\\0a\nout 1 2\\0a\nout 1 3\\0a\nend 1 return\ndone\n",
+        },
+    },
+    // The instructions that need a class, in two orders.
+    InitCase {
+        others: &[
+            b"class 0021 N java/lang/Object\nmethod 0008 <clinit> ()V 6 4\ngetstatic java/lang/System out Ljava/io/PrintStream;\niconst_1\ninvokevirtual java/io/PrintStream println (I)V\nreturn\nend\nmethod 0001 <init> ()V 1 1\naload_0\ninvokespecial java/lang/Object <init> ()V\nreturn\nend\n",
+            b"class 0021 P java/lang/Object\nfield 0008 v I\nmethod 0008 <clinit> ()V 6 4\ngetstatic java/lang/System out Ljava/io/PrintStream;\niconst_2\ninvokevirtual java/io/PrintStream println (I)V\nreturn\nend\n",
+            b"class 0021 Q java/lang/Object\nmethod 0008 <clinit> ()V 6 4\ngetstatic java/lang/System out Ljava/io/PrintStream;\niconst_3\ninvokevirtual java/io/PrintStream println (I)V\nreturn\nend\nmethod 0009 q ()V 0 0\nreturn\nend\n",
+        ],
+        case: Case {
+            source: b"class 0021 Main java/lang/Object\nfield 0009 A Z\nmethod 0009 main ([Ljava/lang/String;)V 6 4\ngetstatic Main A Z\nifeq P\ninvokestatic Q q ()V\nP:\nnew N\ninvokespecial N <init> ()V\niconst_0\nputstatic P v I\ninvokestatic Q q ()V\nreturn\nend\n",
+            model: ONE_OPTION,
+            limit: 100,
+            version: 1,
+            report: b"varexj report 1\noptions 1\noption A\nlimit 100\nrounds 1\nnode 2 0 0 1\nnode 3 0 1 0\nout 2 3\\0a\nout 1 1\\0a\nout 1 2\\0a\nout 3 3\\0a\nend 1 return\ndone\n",
+        },
+    },
+];
+
+/// Initialisers that fail, or don't begin, in some configurations.
+pub(crate) const INIT_FAILURE_CASES: [InitCase; 4] = [
     // A failure in one branch: a class below it fails then without running, and stays failed.
     InitCase {
         others: &[
@@ -82,19 +114,6 @@ pub(crate) const INIT_CASES: [InitCase; 10] = [
             limit: 100,
             version: 1,
             report: b"varexj report 1\noptions 1\noption A\nlimit 100\nrounds 1\nnode 2 0 0 1\nnode 3 0 1 0\nout 2 5\\0a\nout 2 6\\0a\nout 2 7\\0a\nout 3 4\\0a\nend 1 return\ndone\n",
-        },
-    },
-    // The class of main with one above it, which sees a constant and an option of a class in progress.
-    InitCase {
-        others: &[
-            b"class 0021 S java/lang/Object\nmethod 0008 <clinit> ()V 6 4\ngetstatic java/lang/System out Ljava/io/PrintStream;\ngetstatic Main K I\ngetstatic Main A Z\niadd\ninvokevirtual java/io/PrintStream println (I)V\nreturn\nend\n",
-        ],
-        case: Case {
-            source: b"class 0021 Main S\nfield 0009 A Z\nfield 0018 K I int 9\nmethod 0008 <clinit> ()V 6 4\ngetstatic java/lang/System out Ljava/io/PrintStream;\niconst_2\ninvokevirtual java/io/PrintStream println (I)V\nreturn\nend\nmethod 0009 main ([Ljava/lang/String;)V 6 4\ngetstatic java/lang/System out Ljava/io/PrintStream;\niconst_3\ninvokevirtual java/io/PrintStream println (I)V\nreturn\nend\n",
-            model: ONE_OPTION,
-            limit: 100,
-            version: 1,
-            report: b"varexj report 1\noptions 1\noption A\nlimit 100\nrounds 1\nnode 2 0 1 0\nnode 3 0 0 1\nout 2 9\\0a\nout 3 10\\0a\nout 1 2\\0a\nout 1 3\\0a\nend 1 return\ndone\n",
         },
     },
     // The class of main fails in one branch.
@@ -131,21 +150,6 @@ pub(crate) const INIT_CASES: [InitCase; 10] = [
             limit: 10000,
             version: 1,
             report: b"varexj report 1\noptions 1\noption A\nlimit 10000\nrounds 1\nnode 2 0 0 1\nout 2 5\\0a\nout 1 7\\0a\nout 1 1\\0a\nend 1 return\ndone\n",
-        },
-    },
-    // The instructions that need a class, in two orders.
-    InitCase {
-        others: &[
-            b"class 0021 N java/lang/Object\nmethod 0008 <clinit> ()V 6 4\ngetstatic java/lang/System out Ljava/io/PrintStream;\niconst_1\ninvokevirtual java/io/PrintStream println (I)V\nreturn\nend\nmethod 0001 <init> ()V 1 1\naload_0\ninvokespecial java/lang/Object <init> ()V\nreturn\nend\n",
-            b"class 0021 P java/lang/Object\nfield 0008 v I\nmethod 0008 <clinit> ()V 6 4\ngetstatic java/lang/System out Ljava/io/PrintStream;\niconst_2\ninvokevirtual java/io/PrintStream println (I)V\nreturn\nend\n",
-            b"class 0021 Q java/lang/Object\nmethod 0008 <clinit> ()V 6 4\ngetstatic java/lang/System out Ljava/io/PrintStream;\niconst_3\ninvokevirtual java/io/PrintStream println (I)V\nreturn\nend\nmethod 0009 q ()V 0 0\nreturn\nend\n",
-        ],
-        case: Case {
-            source: b"class 0021 Main java/lang/Object\nfield 0009 A Z\nmethod 0009 main ([Ljava/lang/String;)V 6 4\ngetstatic Main A Z\nifeq P\ninvokestatic Q q ()V\nP:\nnew N\ninvokespecial N <init> ()V\niconst_0\nputstatic P v I\ninvokestatic Q q ()V\nreturn\nend\n",
-            model: ONE_OPTION,
-            limit: 100,
-            version: 1,
-            report: b"varexj report 1\noptions 1\noption A\nlimit 100\nrounds 1\nnode 2 0 0 1\nnode 3 0 1 0\nout 2 3\\0a\nout 1 1\\0a\nout 1 2\\0a\nout 3 3\\0a\nend 1 return\ndone\n",
         },
     },
 ];

@@ -1,7 +1,7 @@
 use crate::call_cases::CALL_CASES;
 use crate::cases::{CASES, Case, DIFFERENT_VALUES};
-use crate::exception_cases::{EXCEPTION_CASES, RAISES, caught, source};
-use crate::init_cases::INIT_CASES;
+use crate::exception_cases::{EXCEPTION_CASES, RAISES, Raise, caught, source};
+use crate::init_cases::{INIT_FAILURE_CASES, INIT_ORDER_CASES, InitCase};
 use crate::last_key::LastKey;
 use crate::native_cases::{
     NATIVE_BUILDER_CASES, NATIVE_NUMBER_CASES, NATIVE_OBJECT_CASES, NATIVE_PRINT_CASES,
@@ -13,7 +13,7 @@ use std::alloc::Global;
 use std::process::Abort;
 use std::test::Fail;
 use vx_report_reader::read_report;
-use vx_sched::LeastKey;
+use vx_sched::{LeastKey, Picker};
 
 /// Whether the first keys give the report of a case.
 fn is_reported(rt: &impl Abort, alloc: Global, case: &Case) -> Result<bool, Fail> {
@@ -27,11 +27,15 @@ fn branches_meet_as_soon_as_they_can(rt: HostRuntime) -> Result<(), Fail> {
     Ok(())
 }
 
+/// Whether a text is a report of so many rounds that says the same as that of a case.
+fn is_same_in(alloc: Global, text: &[u8], case: &Case, rounds: u128) -> Result<bool, Fail> {
+    Ok(agree(alloc, text, case.report)? && read_report(alloc, text)?.rounds == rounds)
+}
+
 #[test]
 fn branches_meet_as_late_as_they_can(rt: HostRuntime) -> Result<(), Fail> {
     let text = report_of(&rt, rt.alloc(), &DIFFERENT_VALUES, &mut LastKey)?;
-    assert!(rt; agree(rt.alloc(), text.as_slice(), DIFFERENT_VALUES.report)?);
-    assert!(rt; read_report(rt.alloc(), text.as_slice())?.rounds == 17);
+    assert!(rt; is_same_in(rt.alloc(), text.as_slice(), &DIFFERENT_VALUES, 17)?);
     Ok(())
 }
 
@@ -41,17 +45,21 @@ fn is_same_with_last_keys(rt: &impl Abort, alloc: Global, case: &Case) -> Result
     agree(alloc, text.as_slice(), case.report)
 }
 
-#[test]
-fn what_runs_come_to_depends_on_no_order(rt: HostRuntime) -> Result<(), Fail> {
-    for case in CASES {
-        assert!(rt; is_reported(&rt, rt.alloc(), &case)?, "{:?}", case.report);
+/// Asserts that each of the cases has its report with the first keys, and one that says the same with the last keys.
+fn are_reported(rt: &impl Abort, alloc: Global, cases: &[Case]) -> Result<(), Fail> {
+    for case in cases {
         assert!(rt;
-            is_same_with_last_keys(&rt, rt.alloc(), &case)?,
+            is_reported(rt, alloc, case)? && is_same_with_last_keys(rt, alloc, case)?,
             "{:?}",
             case.report
         );
     }
     Ok(())
+}
+
+#[test]
+fn what_runs_come_to_depends_on_no_order(rt: HostRuntime) -> Result<(), Fail> {
+    are_reported(&rt, rt.alloc(), &CASES)
 }
 
 /// Whether the first keys and the last keys give reports that say the same as that of a case.
@@ -108,17 +116,23 @@ fn calls_come_to_what_the_machine_says(rt: HostRuntime) -> Result<(), Fail> {
     are_said(&rt, rt.alloc(), &CALL_CASES)
 }
 
-#[test]
-fn each_exception_that_is_raised_has_its_handler(rt: HostRuntime) -> Result<(), Fail> {
-    for raise in RAISES {
-        let source = source(rt.alloc(), raise)?;
-        assert!(rt;
-            is_said(&rt, rt.alloc(), &caught(source.as_slice()))?,
-            "{:?}",
-            raise.instructions
-        );
+/// Whether the exception that is raised has its handler.
+fn is_caught(rt: &impl Abort, alloc: Global, raise: Raise) -> Result<bool, Fail> {
+    let source = source(alloc, raise)?;
+    is_said(rt, alloc, &caught(source.as_slice()))
+}
+
+/// Asserts that each exception that is raised has its handler.
+fn are_caught(rt: &impl Abort, alloc: Global, raises: &[Raise]) -> Result<(), Fail> {
+    for &raise in raises {
+        assert!(rt; is_caught(rt, alloc, raise)?, "{:?}", raise.instructions);
     }
     Ok(())
+}
+
+#[test]
+fn each_exception_that_is_raised_has_its_handler(rt: HostRuntime) -> Result<(), Fail> {
+    are_caught(&rt, rt.alloc(), &RAISES)
 }
 
 #[test]
@@ -126,21 +140,36 @@ fn exceptions_go_to_the_first_frame_that_takes_them(rt: HostRuntime) -> Result<(
     are_said(&rt, rt.alloc(), &EXCEPTION_CASES)
 }
 
-#[test]
-fn a_class_is_initialised_once_in_each_configuration(rt: HostRuntime) -> Result<(), Fail> {
-    for init in INIT_CASES {
-        let first = report_with(&rt, rt.alloc(), &init.case, init.others, &mut LeastKey)?;
+/// Whether the picked keys give a report that says the same as that of a case.
+fn is_same_with<K: Picker>(
+    rt: &impl Abort,
+    alloc: Global,
+    init: &InitCase,
+    picker: &mut K,
+) -> Result<bool, Fail> {
+    let text = report_with(rt, alloc, &init.case, init.others, picker)?;
+    agree(alloc, text.as_slice(), init.case.report)
+}
+
+/// Asserts that each of the cases is said, by the first keys and by the last keys.
+fn are_same(rt: &impl Abort, alloc: Global, cases: &[InitCase]) -> Result<(), Fail> {
+    for init in cases {
         assert!(rt;
-            agree(rt.alloc(), first.as_slice(), init.case.report)?,
-            "{:?}",
-            init.case.report
-        );
-        let last = report_with(&rt, rt.alloc(), &init.case, init.others, &mut LastKey)?;
-        assert!(rt;
-            agree(rt.alloc(), last.as_slice(), init.case.report)?,
+            is_same_with(rt, alloc, init, &mut LeastKey)?
+                && is_same_with(rt, alloc, init, &mut LastKey)?,
             "{:?}",
             init.case.report
         );
     }
     Ok(())
+}
+
+#[test]
+fn a_class_is_initialised_once_in_each_configuration(rt: HostRuntime) -> Result<(), Fail> {
+    are_same(&rt, rt.alloc(), &INIT_ORDER_CASES)
+}
+
+#[test]
+fn an_initialiser_fails_in_its_own_configurations(rt: HostRuntime) -> Result<(), Fail> {
+    are_same(&rt, rt.alloc(), &INIT_FAILURE_CASES)
 }

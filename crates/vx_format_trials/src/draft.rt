@@ -5,8 +5,8 @@ use vx_class_parts::{
     pool_of, put_class, put_constant, put_text, text_index,
 };
 use vx_code_parts::{
-    Draft, Labels, all_reach, check_instruction, code_bytes, constant_of, draft_of, find_label,
-    is_known, is_of_version, labels_of, leads, next_place, number_of, place_of,
+    Draft, Labels, all_reach, check_instruction, code_bytes, constant_of, draft_of, is_known,
+    is_of_version, labels_of, leads, next_place, number_of, place_of,
 };
 use vx_pool::Entry;
 use vx_source::{Instruction, Operand, Said, SourceLine, Statement, Value, read_source};
@@ -105,7 +105,7 @@ fn put_drafts(
 /// Whether the body's labels are known, with the instructions that they stand at.
 fn are_labels(labels: &Labels) -> bool {
     labels.instructions == 3
-        && find_label(labels.labels.as_slice(), b"M") == Some(2)
+        && labels.labels.find(b"M") == Some(2)
         && number_of(labels, b"M") == 2
         && is_known(labels, b"L")
         && leads(labels, b"M")

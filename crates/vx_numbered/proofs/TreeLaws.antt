@@ -2,11 +2,9 @@
 use Rattle.std.proofs.Common.{List, [], ap, arith, length, length-append, refl, subst, suc, sym, zero, ℕ, ◌++◌, ◌+◌, ◌-◌, ◌<◌, ◌^◌, ◌∙◌, ◌∷◌, ◌≡◌, ◌≤◌}
 use Rattle.std.proofs.Math.Nat.{pow-suc}
 use Rattle.std.proofs.lemmas.List.{get_or-append_right, get_or_append_left, replicate-append-replicate, set-append_left, set-append_right}
-use Rattle.std.specs.declared.result.Result.{Result}
-use Rattle.std.specs.declared.result.Result.TheVariants.{Err, Ok}
-use Rattle.std.specs.Prelude.{IfOk, OnOk, replicate, slice_index, slice_set}
-use Rattle.vx_numbered.proofs.Growing.{grows_itself, grows_through, item_kept, item_last}
-use Rattle.vx_numbered.specs.Trees.{Grows, IsMade, IsTree, leaves, no_pair, pair_at}
+use Rattle.std.specs.Prelude.{replicate, slice_index, slice_set}
+use Rattle.vx_numbered.proofs.Growing.{grows_by_one, grows_itself, grows_through, item_kept, item_last, one_longer}
+use Rattle.vx_numbered.specs.Trees.{Grows, IsKnownPair, IsMade, IsPaired, IsTree, leaves, no_pair, pair_at}
 use Rattle.vx_numbered.specs.declared.trees.Pair.{Pair}
 
 -- ---- more behind a list
@@ -121,28 +119,39 @@ set_above xs levels n t place leaf e l =
 
 -- ---- what a change comes to
 
--- a new pair of two trees
-pub made_of_pair : (xs ys : List Pair) (levels n low high : ℕ) → levels ≡ suc n → ys ≡ xs ++ record { low = low; high = high } ∷ [] → IsTree xs n low → IsTree xs n high
-    → IsMade xs ys levels (length xs) (leaves xs n low ++ leaves xs n high)
-made_of_pair xs ys levels n low high e is h k =
-    let g : Grows xs ys = record { more = record { low = low; high = high } ∷ []; is = is } in
-    let new : pair_at ys (length xs) ≡ record { low = low; high = high } = ap (λ (zs : List Pair). pair_at zs (length xs)) is ∙ item_last xs (record { low = low; high = high }) no_pair in
-    let halves : AreHalves ys n (length xs) = record {
-      within = subst (λ (zs : List Pair). length xs < length zs) (sym is) (one_longer xs (record { low = low; high = high }));
+-- a new pair
+pub paired_new : (xs ys : List Pair) (low high number : ℕ) → number ≡ length xs → ys ≡ xs ++ record { low = low; high = high } ∷ [] → IsPaired xs ys low high number
+paired_new xs ys low high number e is = record {
+  grows = grows_by_one xs ys (record { low = low; high = high }) is;
+  known = record {
+    within = let longer = one_longer xs ys (record { low = low; high = high }) is in omega (arith, longer, e);
+    is = ap (pair_at ys) e ∙ ap (λ (zs : List Pair). pair_at zs (length xs)) is ∙ item_last xs (record { low = low; high = high }) no_pair;
+  };
+}
+
+-- a pair that is there
+pub paired_known : (xs : List Pair) (low high number : ℕ) → IsKnownPair xs low high number → IsPaired xs xs low high number
+paired_known xs low high number known = record { grows = grows_itself xs; known = known }
+
+-- a pair of two trees
+pub made_of_pair : (xs ys : List Pair) (levels n low high number : ℕ) → levels ≡ suc n → IsPaired xs ys low high number → IsTree xs n low → IsTree xs n high
+    → IsMade xs ys levels number (leaves xs n low ++ leaves xs n high)
+made_of_pair xs ys levels n low high number e put h k =
+    let g : Grows xs ys = put.grows in
+    let new : pair_at ys number ≡ record { low = low; high = high } = put.known.is in
+    let halves : AreHalves ys n number = record {
+      within = put.known.within;
       low = subst (λ (q : Pair). IsTree ys n q.low) (sym new) (tree_grows xs ys n low g h);
       high = subst (λ (q : Pair). IsTree ys n q.high) (sym new) (tree_grows xs ys n high g k);
     } in
     record {
       grows = g;
-      is_tree = tree_of_halves ys levels n (length xs) e halves;
-      has = leaves_of_halves ys levels n (length xs) e
+      is_tree = tree_of_halves ys levels n number e halves;
+      has = leaves_of_halves ys levels n number e
           ∙ ap (λ (q : Pair). leaves ys n q.low ++ leaves ys n q.high) new
           ∙ ap (λ ls. ls ++ leaves ys n high) (leaves_grow xs ys n low g h)
           ∙ ap (λ rs. leaves xs n low ++ rs) (leaves_grow xs ys n high g k);
     }
-  where
-    one_longer : (zs : List Pair) (q : Pair) → length zs < length (zs ++ q ∷ [])
-    one_longer zs q = omega (arith, length-append zs (q ∷ []))
 
 -- the same tree, whose low half has been changed into itself
 pub made_low : (xs ys : List Pair) (levels n t place leaf low : ℕ) → levels ≡ suc n → place < 2 ^ n → IsTree xs levels t
@@ -179,13 +188,13 @@ made_high xs ys levels n t place leaf high e l h made same =
           ∙ sym (set_above xs levels n t place leaf e l);
     }
 
--- a new pair with a changed half
-pub paired_low : (xs ys zs : List Pair) (levels n t place leaf low : ℕ) → levels ≡ suc n → place < 2 ^ n → IsTree xs levels t
-    → IsMade xs ys n low (slice_set (leaves xs n (pair_at xs t).low) place leaf) → zs ≡ ys ++ record { low = low; high = (pair_at xs t).high } ∷ []
-    → IsMade xs zs levels (length ys) (slice_set (leaves xs levels t) place leaf)
-paired_low xs ys zs levels n t place leaf low e l h made is =
+-- a pair with a changed half
+pub paired_low : (xs ys zs : List Pair) (levels n t place leaf low number : ℕ) → levels ≡ suc n → place < 2 ^ n → IsTree xs levels t
+    → IsMade xs ys n low (slice_set (leaves xs n (pair_at xs t).low) place leaf) → IsPaired ys zs low (pair_at xs t).high number
+    → IsMade xs zs levels number (slice_set (leaves xs levels t) place leaf)
+paired_low xs ys zs levels n t place leaf low number e l h made put =
     let halves = halves_of xs levels n t e h in
-    let pair = made_of_pair ys zs levels n low (pair_at xs t).high e is made.is_tree (tree_grows xs ys n (pair_at xs t).high made.grows halves.high) in
+    let pair = made_of_pair ys zs levels n low (pair_at xs t).high number e put made.is_tree (tree_grows xs ys n (pair_at xs t).high made.grows halves.high) in
     record {
       grows = grows_through made.grows pair.grows;
       is_tree = pair.is_tree;
@@ -195,12 +204,12 @@ paired_low xs ys zs levels n t place leaf low e l h made is =
           ∙ sym (set_below xs levels n t place leaf e l);
     }
 
-pub paired_high : (xs ys zs : List Pair) (levels n t place leaf high : ℕ) → levels ≡ suc n → 2 ^ n ≤ place → IsTree xs levels t
-    → IsMade xs ys n high (slice_set (leaves xs n (pair_at xs t).high) (place - 2 ^ n) leaf) → zs ≡ ys ++ record { low = (pair_at xs t).low; high = high } ∷ []
-    → IsMade xs zs levels (length ys) (slice_set (leaves xs levels t) place leaf)
-paired_high xs ys zs levels n t place leaf high e l h made is =
+pub paired_high : (xs ys zs : List Pair) (levels n t place leaf high number : ℕ) → levels ≡ suc n → 2 ^ n ≤ place → IsTree xs levels t
+    → IsMade xs ys n high (slice_set (leaves xs n (pair_at xs t).high) (place - 2 ^ n) leaf) → IsPaired ys zs (pair_at xs t).low high number
+    → IsMade xs zs levels number (slice_set (leaves xs levels t) place leaf)
+paired_high xs ys zs levels n t place leaf high number e l h made put =
     let halves = halves_of xs levels n t e h in
-    let pair = made_of_pair ys zs levels n (pair_at xs t).low high e is (tree_grows xs ys n (pair_at xs t).low made.grows halves.low) made.is_tree in
+    let pair = made_of_pair ys zs levels n (pair_at xs t).low high number e put (tree_grows xs ys n (pair_at xs t).low made.grows halves.low) made.is_tree in
     record {
       grows = grows_through made.grows pair.grows;
       is_tree = pair.is_tree;
@@ -213,10 +222,10 @@ paired_high xs ys zs levels n t place leaf high e l h made is =
 -- ---- a row of one leaf
 
 -- one level more
-pub row_more : (zs xs ys : List Pair) (n tree leaf : ℕ) → IsMade zs xs n tree (replicate (2 ^ n) leaf) → ys ≡ xs ++ record { low = tree; high = tree } ∷ []
-    → IsMade zs ys (n + 1) (length xs) (replicate (2 ^ (n + 1)) leaf)
-row_more zs xs ys n tree leaf made is =
-    let pair = made_of_pair xs ys (n + 1) n tree tree (omega arith) is made.is_tree made.is_tree in
+pub row_more : (zs xs ys : List Pair) (n tree leaf number : ℕ) → IsMade zs xs n tree (replicate (2 ^ n) leaf) → IsPaired xs ys tree tree number
+    → IsMade zs ys (n + 1) number (replicate (2 ^ (n + 1)) leaf)
+row_more zs xs ys n tree leaf number made put =
+    let pair = made_of_pair xs ys (n + 1) n tree tree number (omega arith) put made.is_tree made.is_tree in
     let wide : 2 ^ n + 2 ^ n ≡ 2 ^ (n + 1) = sym (double n) ∙ ap (λ k. 2 ^ k) (omega arith) in
     record {
       grows = grows_through made.grows pair.grows;
@@ -267,8 +276,3 @@ made_alone xs n t place leaf e l = record {
   is_tree = tree_of_leaf xs n leaf e;
   has = leaves_of_leaf xs n leaf e ∙ sym (ap (λ ls. slice_set ls place leaf) (leaves_of_leaf xs n t e) ∙ ap (λ k. slice_set (t ∷ []) k leaf) (place_zero n place e l));
 }
-
--- what is put last
-pub put_made : {E : Type 0} (P : ℕ → Type 0) (Q : Type 0) (r : Result ℕ E) (n : ℕ) → IfOk r (λ number. number ≡ n) → OnOk r Q → (Q → P n) → IfOk r P
-put_made P Q (Ok m) n h k f = subst P (sym h) (f k)
-put_made P Q (Err e) n h k f = tt

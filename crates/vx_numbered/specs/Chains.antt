@@ -32,3 +32,8 @@ pub record IsPushed (xs ys : List Link) (link : Link) (stack : ℕ) : Type 0 whe
   pub links : ys ≡ xs ++ link ∷ []
   pub is : stack ≡ length xs + 1
   pub chain : chain_of ys stack ≡ link.top ∷ chain_of xs link.under
+
+-- a stack that is there, by what is on top and under it
+pub record IsKnownStack (links : List Link) (top under stack : ℕ) : Type 0 where
+  pub within : stack ≤ length links
+  pub chain : chain_of links stack ≡ top ∷ chain_of links under

@@ -29,3 +29,13 @@ pub record IsMade (xs ys : List Pair) (levels tree : ℕ) (these : List ℕ) : T
   pub grows : Grows xs ys
   pub is_tree : IsTree ys levels tree
   pub has : leaves ys levels tree ≡ these
+
+-- a pair that is there, by its number
+pub record IsKnownPair (xs : List Pair) (low high number : ℕ) : Type 0 where
+  pub within : number < length xs
+  pub is : pair_at xs number ≡ record { low = low; high = high }
+
+-- a pair is there, with no pair lost
+pub record IsPaired (xs ys : List Pair) (low high number : ℕ) : Type 0 where
+  pub grows : Grows xs ys
+  pub known : IsKnownPair ys low high number

@@ -2,9 +2,10 @@
 
 ghost use Rattle.std.specs.Prelude.{◌≡◌, ◌<◌, ◌≤◌, ◌∷◌, [], IfOk, IfSome, IfNone, length};
 ghost use Rattle.std.proofs.Props.{props};
-ghost use Rattle.vx_numbered.specs.Chains.{DoFall, IsPushed, chain_of, words_at};
+ghost use Rattle.vx_numbered.specs.Chains.{DoFall, IsKnownStack, IsPushed, chain_of, words_at};
 
 use crate::numbers::next_number;
+use indexmap::IndexMap;
 use std::alloc::{AllocError, Global};
 
 /// The number of no stack.
@@ -22,6 +23,8 @@ pub struct Link {
 #[derive(Drop)]
 pub struct Chains {
     pub links: Vec<Link>,
+    /// Which stack a number on a stack may be. What is found there is looked at.
+    stacks: IndexMap<(u32, u32), u32>,
     pub ghost fall: { DoFall links.items } by { Prim.hlevel props },
 }
 
@@ -32,6 +35,7 @@ impl Chains {
     {
         Chains {
             links: Vec::new(alloc),
+            stacks: IndexMap::new(alloc),
         }
     }
 
@@ -47,12 +51,31 @@ impl Chains {
         Some((link.top, link.under))
     }
 
-    /// A number on a stack, with a number that is kept with the whole.
+    /// The stack of a number on a stack, if it is known.
+    pub fn known(&self, top: u32, under: u32) -> Option<u32>
+        ensures { IfSome result (IsKnownStack self.now.links.items top under) }
+    {
+        let stack = *self.stacks.get(&(top, under))?;
+        if stack as usize > self.links.len() {
+            return None;
+        }
+        let (number, rest) = self.popped(stack)?;
+        if number != top {
+            return None;
+        }
+        if rest != under {
+            return None;
+        }
+        Some(stack)
+    }
+
+    /// A number on a stack, with a number that is kept with the whole, as a new stack.
     pub fn pushed(&mut self, top: u32, under: u32, words: u32) -> Result<u32, AllocError>
         requires { under ≤ length self.old.links.items }
         ensures { IfOk result (IsPushed self.old.links.items self.new.links.items (record { top = top; under = under; words = words })) }
     {
         let stack = next_number(self.links.len() + 1)?;
+        self.stacks.insert((top, under), stack)?;
         self.links.push(Link { top, under, words })?;
         Ok(stack)
     }

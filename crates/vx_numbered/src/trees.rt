@@ -1,10 +1,11 @@
 //! Rows of numbers as the leaves of numbered trees, so that rows share what they have in common: a row that differs from another in one place
 //! has one path of its own.
 
-ghost use Rattle.std.specs.Prelude.{◌≡◌, ◌<◌, ◌≤◌, ◌-◌, ◌^◌, IfOk, OnOk, ◌++◌, ◌∷◌, [], length, replicate, slice_index, slice_set};
-ghost use Rattle.vx_numbered.specs.Trees.{IsMade, IsTree, leaves, pair_at};
+ghost use Rattle.std.specs.Prelude.{◌≡◌, ◌<◌, ◌≤◌, ◌-◌, ◌^◌, IfOk, IfSome, OnOk, ◌++◌, ◌∷◌, [], length, replicate, slice_index, slice_set};
+ghost use Rattle.vx_numbered.specs.Trees.{IsKnownPair, IsMade, IsPaired, IsTree, leaves, pair_at};
 
 use crate::numbers::next_number;
+use indexmap::IndexMap;
 use std::alloc::{AllocError, Global};
 
 /// Two trees with as many leaves each, by their numbers.
@@ -14,10 +15,13 @@ pub struct Pair {
     pub high: u32,
 }
 
-/// Pairs by number. A tree of no level is its one leaf, and a tree of more levels the number of a pair of trees with one level less.
+/// Pairs by number. A tree of no level is its one leaf, and a tree of more levels the number of a pair of trees with one level less. A pair
+/// that comes again has its number again, so that equal trees are mostly the same one, and are compared at once.
 #[derive(Drop)]
 pub struct Trees {
     pub pairs: Vec<Pair>,
+    /// Under which number a pair may be found. What is found there is looked at.
+    numbers: IndexMap<(u32, u32), u32>,
 }
 
 /// How many leaves each half of a tree has.
@@ -36,6 +40,7 @@ impl Trees {
     {
         Trees {
             pairs: Vec::new(alloc),
+            numbers: IndexMap::new(alloc),
         }
     }
 
@@ -47,14 +52,40 @@ impl Trees {
         self.pairs[tree as usize]
     }
 
+    /// The number of a pair of trees, if it is known.
+    fn known(&self, low: u32, high: u32) -> Option<u32>
+        ensures { IfSome result (IsKnownPair self.now.pairs.items low high) }
+    {
+        let number = *self.numbers.get(&(low, high))?;
+        let pair = *self.pairs.get(number as usize)?;
+        if pair.low != low {
+            return None;
+        }
+        if pair.high != high {
+            return None;
+        }
+        Some(number)
+    }
+
     /// A new pair.
-    pub fn put(&mut self, low: u32, high: u32) -> Result<u32, AllocError>
+    fn put(&mut self, low: u32, high: u32) -> Result<u32, AllocError>
         ensures number { IfOk result (λ number. number ≡ length self.old.pairs.items) }
         ensures pairs { OnOk result (self.new.pairs.items ≡ self.old.pairs.items ++ record { low = low; high = high } ∷ []) }
     {
         let number = next_number(self.pairs.len())?;
+        self.numbers.insert((low, high), number)?;
         self.pairs.push(Pair { low, high })?;
         Ok(number)
+    }
+
+    /// The number of a pair of trees, which may be known.
+    pub fn paired(&mut self, low: u32, high: u32) -> Result<u32, AllocError>
+        ensures { IfOk result (IsPaired self.old.pairs.items self.new.pairs.items low high) }
+    {
+        match self.known(low, high) {
+            Some(number) => Ok(number),
+            None => self.put(low, high),
+        }
     }
 
     /// A tree of so many levels whose leaves are all of one number.
@@ -64,7 +95,7 @@ impl Trees {
     {
         let mut tree = leaf;
         for _level in 0..levels {
-            tree = self.put(tree, tree)?;
+            tree = self.paired(tree, tree)?;
         }
         Ok(tree)
     }
@@ -111,12 +142,12 @@ impl Trees {
             if low == pair.low {
                 return Ok(tree);
             }
-            return self.put(low, pair.high);
+            return self.paired(low, pair.high);
         }
         let high = self.with_leaf(pair.high, levels - 1, place - half, leaf)?;
         if high == pair.high {
             return Ok(tree);
         }
-        self.put(pair.low, high)
+        self.paired(pair.low, high)
     }
 }

@@ -1,3 +1,4 @@
 pub mod Family
 pub mod Answers
 pub mod Made
+pub mod Written

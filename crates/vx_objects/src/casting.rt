@@ -163,16 +163,14 @@ fn cast_top<S: Space>(
 {
     let program = site.program;
     if group.top_frame().stack.len() == 0 {
-        let ended = illegal(alloc, program, &group)?;
-        return Ok(ended);
+        return illegal(alloc, program, &group);
     }
     let refusal = core_class(program, b"java/lang/ClassCastException");
     let answer = |slot: Slot| -> Answer
         ensures { result ≡ cast program.entry.now heap.entry.now wanted.0 refusal slot }
     { cast(program, heap, wanted, refusal, slot) };
     let answers = top_operand(&group).map(space, answer)?;
-    let outcomes = carry_out(alloc, site, space, group, 1, &answers)?;
-    Ok(outcomes)
+    carry_out(alloc, site, space, group, 1, &answers)
 }
 
 /// checkcast. Null passes before the class is looked for.

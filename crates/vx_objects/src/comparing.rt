@@ -93,14 +93,12 @@ pub(crate) fn monitor<S: Space>(
     ensures ok { IfOk result (λ r. IsAttemptBy site.now Operation.Monitor (S.sets space.old) (S.sets space.new) heap.now heap.now group r.items.items) }
 {
     if group.top_frame().stack.len() == 0 {
-        let ended = illegal(alloc, site.program, &group)?;
-        return Ok(ended);
+        return illegal(alloc, site.program, &group);
     }
     let null = core_class(site.program, b"java/lang/NullPointerException");
     let answer = |slot: Slot| -> Answer
         ensures { result ≡ monitored null slot }
     { monitored(null, slot) };
     let answers = top_operand(&group).map(space, answer)?;
-    let outcomes = carry_out(alloc, site, space, group, 1, &answers)?;
-    Ok(outcomes)
+    carry_out(alloc, site, space, group, 1, &answers)
 }

@@ -17,6 +17,7 @@ ghost use Rattle.vx_java.specs.FirstObjects.{narrow_of_type};
 ghost use Rattle.vx_link.specs.Parts.{field_at};
 ghost use Rattle.vx_list.specs.Places.{item_or};
 ghost use Rattle.vx_objects.specs.Answers.{field_place, stored_place};
+ghost use Rattle.vx_objects.specs.Written.{IsPut};
 ghost use Rattle.vx_ready.specs.Running.{IsRunning};
 ghost use Rattle.vx_space.specs.Sets.{Extends};
 ghost use Rattle.vx_value.specs.Slot.{slot_cmp};
@@ -118,13 +119,11 @@ fn get_found<S: Space>(
 {
     let program = site.program;
     if group.top_frame().stack.len() == 0 {
-        let ended = illegal(alloc, program, &group)?;
-        return Ok(ended);
+        return illegal(alloc, program, &group);
     }
     let places = places_read(alloc, site, space, heap, &group, named, field, field_type)?;
     let answers = read_through(alloc, program, space, heap, &places)?;
-    let outcomes = carry_out(alloc, site, space, group, 1, &answers)?;
-    Ok(outcomes)
+    carry_out(alloc, site, space, group, 1, &answers)
 }
 
 /// Where a putfield writes, at each configuration of a group that has two operands.
@@ -179,6 +178,27 @@ fn values_written<S: Space>(
     Ok(values)
 }
 
+/// Writes what a putfield writes, at each configuration of a group that has two operands, and says where.
+fn put_through<S: Space>(
+    site: &Site,
+    space: &mut S,
+    heap: &mut Heap<S>,
+    group: &Group<S>,
+    named: ClassId,
+    field: FieldId,
+    field_type: JavaType,
+) -> Result<Cond<Place, S>, SpaceFault>
+    requires given { (o : Operation) × IsGiven site.now o (S.sets space.old) heap.old group.now }
+    requires operands { 1 < length group.now.top.stack.conds }
+    ensures extends { Extends (S.sets space.old) (S.sets space.new) }
+    ensures put { IfOk result (IsPut site.now (record { named = named.0; field = field.0; type = field_type }) (S.sets space.old) (S.sets space.new) heap.old heap.new group.now) }
+{
+    let places = places_written(site, space, heap, group, named, field, field_type)?;
+    let values = values_written(space, group, field_type)?;
+    write_through(space, heap, &places, &values)?;
+    Ok(places)
+}
+
 /// putfield of a field that is there.
 fn put_found<S: Space>(
     alloc: Global,
@@ -196,15 +216,11 @@ fn put_found<S: Space>(
 {
     let program = site.program;
     if group.top_frame().stack.len() < 2 {
-        let ended = illegal(alloc, program, &group)?;
-        return Ok(ended);
+        return illegal(alloc, program, &group);
     }
-    let places = places_written(site, space, heap, &group, named, field, field_type)?;
-    let values = values_written(space, &group, field_type)?;
-    write_through(space, heap, &places, &values)?;
+    let places = put_through(site, space, heap, &group, named, field, field_type)?;
     let answers = passes_at(alloc, program, space, heap, &places)?;
-    let outcomes = carry_out(alloc, site, space, group, 2, &answers)?;
-    Ok(outcomes)
+    carry_out(alloc, site, space, group, 2, &answers)
 }
 
 /// getfield.

@@ -1,8 +1,9 @@
 //! The plain state of a run (JVMS 2.5).
 
 ghost use Rattle.std.specs.Prelude.{◌≡◌, ◌+◌, ◌∷◌, [], IfOk, MatchOption, OnOk, drop, length, map, option_map, slice_get, slice_set};
+ghost use Rattle.vx_java.specs.Initialisation.{quiet_chain};
 ghost use Rattle.vx_java.specs.Locals.{with_locals};
-ghost use Rattle.vx_java.specs.Machine.{Text, Top, at_position, cell_at, depth, init_at, object_at, stack_size, with_cell, with_inits, with_objects, with_static};
+ghost use Rattle.vx_java.specs.Machine.{Text, Top, at_position, cell_at, current_class, depth, init_at, object_at, stack_size, with_cell, with_inits, with_objects, with_static};
 ghost use Rattle.vx_java.specs.Texts.{units_in};
 ghost use Rattle.vx_list.specs.Places.{item_or};
 ghost use Rattle.vx_plain.specs.Frames.{HasNoCaller, with_frame};
@@ -12,7 +13,10 @@ use crate::frame::Frame;
 use crate::object::Object;
 use crate::value::Value;
 use std::alloc::AllocError;
-use vx_value::{ClassId, FieldId, InitState};
+use vx_java::parts::class_of_method;
+use vx_java::quiet_chain;
+use vx_link::Program;
+use vx_value::{ClassId, FieldId, InitState, Kind};
 
 /// A state: a reference is a place in the heap; a value for each field, of which the static ones count; an initialisation state for
 /// each class; the frame on top, and its callers, the nearest last.
@@ -161,6 +165,14 @@ impl State {
             .unwrap_or(InitState::Done)
     }
 
+    /// Whether marking the chain of a class has no other effect.
+    #[tactic(auto, unfolding(crate::specs::Views::state_of))]
+    pub fn is_quiet(&self, program: &Program, class: ClassId) -> bool
+        ensures { result ≡ quiet_chain program.now (state_of self.now).inits class.0 }
+    {
+        quiet_chain(program, class, self.inits.as_slice())
+    }
+
     /// Sets how far the initialisation of a class has come.
     #[tactic(auto, unfolding(crate::specs::Views::state_of))]
     pub fn mark_one(&mut self, class: ClassId, state: InitState)
@@ -183,6 +195,22 @@ impl State {
     }
 
     // ---- the frame on top
+
+    /// The kind of the frame on top.
+    #[tactic(auto, unfolding(crate::specs::Views::state_of))]
+    pub fn kind(&self) -> Kind
+        ensures { result ≡ (state_of self.now).top.kind }
+    {
+        self.top.kind
+    }
+
+    /// The class whose method stands on top.
+    #[tactic(auto, unfolding(crate::specs::Views::state_of))]
+    pub fn current_class(&self, program: &Program) -> ClassId
+        ensures { result.0 ≡ current_class program.now (state_of self.now) }
+    {
+        class_of_method(program, self.top.method)
+    }
 
     /// The value of a local variable.
     #[tactic(auto, using(crate::proofs::Heaps::value_there), unfolding(crate::specs::Views::state_of))]

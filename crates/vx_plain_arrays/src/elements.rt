@@ -3,7 +3,7 @@
 ghost use Rattle.std.specs.Fmt.{signed_decimal};
 ghost use Rattle.std.specs.Prelude.{◌≡◌, IfOk};
 ghost use Rattle.vx_java.specs.Arrays.{element_sort, is_array_of};
-ghost use Rattle.vx_java.specs.Checks.{is_object, is_within, width_of_sort};
+ghost use Rattle.vx_java.specs.Checks.{is_object, width_of_sort};
 ghost use Rattle.vx_java.specs.Machine.{raise_with};
 ghost use Rattle.vx_plain.specs.Views.{state_of, value_of};
 ghost use Rattle.vx_plain_here.specs.Rows.{ComesTo, here_in};
@@ -46,13 +46,6 @@ pub(crate) fn is_wanted(here: &Here<'_>, state: &State, element: Element, value:
         Value::Int(_) => false,
         Value::Long(_) => false,
     }
-}
-
-/// Whether an index is within a length.
-pub(crate) fn is_within(index: i32, length: usize) -> bool
-    ensures { result ≡ is_within index length }
-{
-    index >= 0 && (index as usize) < length
 }
 
 /// The exception of an index outside of an array, whose message is the index.

@@ -9,12 +9,12 @@ ghost use Rattle.vx_plain_here.specs.Rows.{ComesTo, here_in};
 ghost use Rattle.vx_value.specs.Arithmetic.{natural};
 
 use crate::classes::array_of;
-use crate::lengths::{has_negative, int_at, is_large, natural};
+use crate::lengths::{has_negative, int_at, is_large};
 use std::alloc::{AllocError, Global};
 use vx_java::arrays::component_of;
 use vx_link::{Program, class_name};
 use vx_plain::{Object, State, Value};
-use vx_plain_here::{Here, Made};
+use vx_plain_here::{Here, Made, natural};
 use vx_plain_tables::Seen;
 use vx_value::ClassId;
 

@@ -10,6 +10,7 @@ ghost use Rattle.vx_plain_arrays.specs.Grids.{int_below};
 ghost use Rattle.vx_value.specs.Arithmetic.{natural, negative};
 
 use vx_plain::{State, Value};
+use vx_plain_here::natural;
 
 /// The greatest length of an array, and the most cells that one instruction makes (own).
 const BOUND: usize = 1_048_576;
@@ -32,13 +33,6 @@ pub(crate) fn int_at(state: &State, below: usize) -> Option<i32>
         Some(value) => int_in(value),
         None => None,
     }
-}
-
-/// A length, or 0 for a negative one.
-pub(crate) fn natural(length: i32) -> usize
-    ensures { result ≡ natural length }
-{
-    if length < 0 { 0 } else { length as usize }
 }
 
 pub(crate) fn is_negative(length: i32) -> bool

@@ -9,13 +9,12 @@ ghost use Rattle.vx_plain.specs.Views.{state_of, value_of};
 ghost use Rattle.vx_plain_here.specs.Rows.{ComesTo, here_in};
 ghost use Rattle.vx_value.specs.Arithmetic.{natural};
 
-use crate::elements::{bad_index, is_wanted, is_within, width_of};
-use crate::lengths::{int_in, natural};
-use std::alloc::AllocError;
+use crate::elements::{bad_index, is_wanted, width_of};
+use crate::lengths::int_in;
 use vx_java::Element;
 use vx_plain::{State, Value};
 use vx_plain_casts::object_in;
-use vx_plain_here::{Here, Made};
+use vx_plain_here::{Here, Made, int_of, is_within, natural};
 
 // ---- elements
 
@@ -99,16 +98,6 @@ pub fn load_element(here: &Here<'_>, state: &mut State, element: Element) -> Mad
 }
 
 // ---- lengths
-
-/// A length as an int. One that doesn't fit is refused as want of memory.
-fn int_of(length: usize) -> Result<i32, AllocError>
-    ensures { IfOk result (λ n. n ≡ pos length) }
-{
-    if length > 0x7FFF_FFFF {
-        return Err(AllocError);
-    }
-    Ok(length as i32)
-}
 
 /// Puts the length of an array in its place.
 fn put_length(here: &Here<'_>, state: &mut State, array: u64) -> Made

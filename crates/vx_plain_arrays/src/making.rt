@@ -10,10 +10,10 @@ ghost use Rattle.vx_plain_here.specs.Rows.{ComesTo, here_in};
 ghost use Rattle.vx_value.specs.Arithmetic.{natural};
 
 use crate::classes::{DOUBLE, FLOAT, array_of, array_of_primitives, array_over};
-use crate::lengths::{int_in, is_long, is_negative, natural};
+use crate::lengths::{int_in, is_long, is_negative};
 use vx_link::class_name;
 use vx_plain::{State, Value};
-use vx_plain_here::{Here, Made};
+use vx_plain_here::{Here, Made, natural};
 use vx_plain_tables::Seen;
 use vx_value::ClassId;
 

@@ -9,14 +9,14 @@ ghost use Rattle.vx_plain_arrays.specs.Elements.{kept};
 ghost use Rattle.vx_plain_here.specs.Rows.{ComesTo, here_in};
 ghost use Rattle.vx_value.specs.Arithmetic.{natural};
 
-use crate::elements::{bad_index, is_wanted, is_within, sort_of};
-use crate::lengths::{int_in, natural};
+use crate::elements::{bad_index, is_wanted, sort_of};
+use crate::lengths::int_in;
 use vx_java::arrays::component_of;
 use vx_java::{Element, assignable};
 use vx_numbers::narrow;
 use vx_plain::{State, Value};
 use vx_plain_casts::object_in;
-use vx_plain_here::{Here, Made};
+use vx_plain_here::{Here, Made, is_within, natural};
 use vx_value::Narrow;
 
 fn kept(element: Element, value: Value) -> Value

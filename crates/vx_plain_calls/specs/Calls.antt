@@ -1,9 +1,7 @@
 -- How the body of a method is carried out.
-use Rattle.std.specs.Prelude.{None, Option, Some, List, if◌then◌else◌, nat_lt, ℕ, ◌==◌, true, false}
+use Rattle.std.specs.Prelude.{None, Option, Some, List, nat_lt, ℕ, ◌==◌, true, false}
 use Rattle.vx_class.specs.declared.class_file.Code.{Code}
-use Rattle.vx_desc.specs.declared.java_type.JavaType.{JavaType}
 use Rattle.vx_java.specs.Calls.{state_in_callee}
-use Rattle.vx_java.specs.Checks.{fits_type}
 use Rattle.vx_java.specs.Machine.{Go, Here, Outcome, Value, depth, frame_bound, raise, when}
 use Rattle.vx_link.specs.declared.program.LinkedMethod.{LinkedMethod}
 use Rattle.vx_plain_calls.specs.declared.entering.Body.{Body}
@@ -19,8 +17,3 @@ body_of m = body_by m.native m.code
 -- a frame of a method with code, unless there are too many
 abbrev pub entered : Here → ℕ → List Value → List Value → Outcome
 entered h m values rest = when (nat_lt (depth h.state) frame_bound) (Go (state_in_callee h m values rest)) (raise h "java/lang/StackOverflowError")
-
--- an argument, if it is of the sort of its type
-abbrev pub if_fits : JavaType → Option Value → Option Value
-if_fits t None = None
-if_fits t (Some v) = if fits_type t v then Some v else None

@@ -1,60 +1,16 @@
 //! The arguments of a call, which stand on the operands with the last one on top (JVMS 2.6.2, 6.5).
 
-ghost use Rattle.std.specs.Prelude.{◌≡◌, ◌++◌, ◌≤◌, ◌∷◌, [], IfOk, OnOk, drop, length, nat_le, option_map, slice_get};
+ghost use Rattle.std.specs.Prelude.{◌≡◌, ◌++◌, ◌∷◌, [], IfOk, OnOk, drop, length, option_map};
 ghost use Rattle.vx_java.specs.Calls.{arguments_off, in_locals};
 ghost use Rattle.vx_plain.specs.Views.{state_of, value_of, values_of};
-ghost use Rattle.vx_plain_calls.specs.Calls.{if_fits};
 
 use std::alloc::{AllocError, Global};
 use vx_desc::JavaType;
 use vx_plain::{State, Value};
-use vx_plain_fields::fits;
-
-/// Whether a state has so many operands.
-#[tactic(auto, unfolding(vx_plain::specs::Views::state_of))]
-fn has_operands(state: &State, count: usize) -> bool
-    ensures { result ≡ nat_le count (length (state_of state.now).top.operands) }
-{
-    count <= state.top.operands.len()
-}
-
-/// The operand that stands so many below the one on top, if it is of the sort of a type.
-fn argument_at(state: &State, below: usize, argument: JavaType) -> Option<Value>
-    ensures { option_map value_of result ≡ if_fits argument (slice_get (state_of state.now).top.operands below) }
-{
-    match state.operand(below) {
-        Some(value) => {
-            if fits(argument, value) {
-                Some(value)
-            } else {
-                None
-            }
-        }
-        None => None,
-    }
-}
-
-/// The arguments of these types, of which there are enough operands.
-fn matching(
-    alloc: Global,
-    state: &State,
-    types: &[JavaType],
-) -> Result<Option<Vec<Value>>, AllocError>
-    requires { length types.now ≤ length (state_of state.now).top.operands }
-    ensures { IfOk result (λ found. option_map (λ values. (values_of values.items, drop (length values.items) (state_of state.now).top.operands)) found ≡ arguments_off types.now (state_of state.now).top.operands) }
-{
-    let mut values = Vec::new(alloc);
-    let count = types.len();
-    for place in 0..count {
-        match argument_at(state, count - 1 - place, types[place]) {
-            Some(value) => values.push(value)?,
-            None => return Ok(None),
-        }
-    }
-    Ok(Some(values))
-}
+use vx_plain_here::{are_matching, values_on_top};
 
 /// The arguments of these types, the deepest first; `None` where one lacks or is not of its type's sort.
+#[tactic(auto, using(vx_plain_here::proofs::Matching::as_many, crate::proofs::ArgumentLaws::all_given, crate::proofs::ArgumentLaws::one_differs, crate::proofs::ArgumentLaws::one_lacks))]
 pub(crate) fn arguments_on(
     alloc: Global,
     state: &State,
@@ -62,11 +18,13 @@ pub(crate) fn arguments_on(
 ) -> Result<Option<Vec<Value>>, AllocError>
     ensures { IfOk result (λ found. option_map (λ values. (values_of values.items, drop (length values.items) (state_of state.now).top.operands)) found ≡ arguments_off types.now (state_of state.now).top.operands) }
 {
-    if has_operands(state, types.len()) {
-        matching(alloc, state, types)
-    } else {
-        Ok(None)
+    let Some(values) = values_on_top(state, types.len()) else {
+        return Ok(None);
+    };
+    if !are_matching(types, values) {
+        return Ok(None);
     }
+    Ok(Some(Vec::from_slice(alloc, values)?))
 }
 
 /// Puts a value into the locals: a long takes two.

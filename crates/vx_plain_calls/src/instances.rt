@@ -15,7 +15,7 @@ use crate::arguments::arguments_on;
 use crate::entering::carry_out;
 use std::alloc::AllocError;
 use vx_desc::is_init;
-use vx_java::parts::{class_of_method, is_array, superclass_of};
+use vx_java::parts::{is_array, superclass_of};
 use vx_java::{
     MemberReference, Mode, Selected, Sort, assignable, is_superclass, member, select,
     select_special, selected_if_concrete,
@@ -62,27 +62,19 @@ fn is_proper_superclass(program: &Program, above: ClassId, class: ClassId) -> bo
     above.0 != class.0 && is_superclass(program, above.0 as usize, class)
 }
 
-/// The class whose method stands on top.
-#[tactic(auto, unfolding(vx_plain::specs::Views::state_of))]
-pub(crate) fn current_class(program: &Program, state: &State) -> ClassId
-    ensures { result.0 ≡ current_class program.now (state_of state.now) }
-{
-    class_of_method(program, state.top.method)
-}
-
 /// Whether the search of invokespecial begins at the current class's direct superclass.
 fn begins_above(here: &Here<'_>, state: &State, call: &Call<'_>) -> bool
     ensures { let h = here_in here.now (state_of state.now) in result ≡ begins_above h (in_bytes call.now.reference) call.now.named.0 }
 {
     !is_init(call.reference.name)
-        && is_proper_superclass(here.program, call.named, current_class(here.program, state))
+        && is_proper_superclass(here.program, call.named, state.current_class(here.program))
 }
 
 /// The direct superclass of the current class, or class 0.
 fn class_above(here: &Here<'_>, state: &State) -> ClassId
     ensures { let h = here_in here.now (state_of state.now) in result.0 ≡ unwrap_or (superclass_of h.program (current_class h.program h.state)) 0 }
 {
-    superclass_of(here.program, current_class(here.program, state)).unwrap_or(ClassId(0))
+    superclass_of(here.program, state.current_class(here.program)).unwrap_or(ClassId(0))
 }
 
 fn selected_special(here: &Here<'_>, state: &State, call: &Call<'_>) -> Selected

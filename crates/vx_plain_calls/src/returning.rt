@@ -12,7 +12,6 @@ ghost use Rattle.vx_plain_here.specs.Rows.{ComesTo, here_in};
 ghost use Rattle.vx_plain_tables.specs.Tables.{IsShort};
 ghost use Rattle.vx_value.specs.declared.key.Kind.TheVariants.{Call};
 
-use crate::instances::current_class;
 use std::alloc::AllocError;
 use vx_class::Code;
 use vx_desc::JavaType;
@@ -220,7 +219,7 @@ fn wake_top(state: &mut State)
 fn return_initialised(seen: &Seen<'_>, state: &mut State) -> Made
     ensures { let h = here_in seen.now.here (state_of state.old) in IfOk result (ComesTo (initialised h h.state.callers) h.state (state_of state.new)) }
 {
-    let class = current_class(seen.here.program, state);
+    let class = state.current_class(seen.here.program);
     match state.leave() {
         Some(_) => {
             state.mark_one(class, InitState::Done);
@@ -231,18 +230,11 @@ fn return_initialised(seen: &Seen<'_>, state: &mut State) -> Made
     }
 }
 
-#[tactic(auto, unfolding(vx_plain::specs::Views::state_of))]
-fn kind_on_top(state: &State) -> Kind
-    ensures { result ≡ (state_of state.now).top.kind }
-{
-    state.top.kind
-}
-
 /// A return by the kind of the frame, to the frame below or to none.
 fn return_value(seen: &Seen<'_>, state: &mut State, value: Option<Value>) -> Made
     ensures { let h = here_in seen.now.here (state_of state.old) in IfOk result (ComesTo (return_to h h.state.top.kind (as_list (option_map value_of value)) h.state.callers) h.state (state_of state.new)) }
 {
-    match kind_on_top(state) {
+    match state.kind() {
         Kind::Call => return_call(seen, state, value),
         Kind::Init => return_initialised(seen, state),
         Kind::Wait => return_initialised(seen, state),

@@ -1,28 +1,12 @@
 -- Fields by their references.
-use Rattle.std.proofs.Common.{◌≡◌, ℕ, Bool, true, false, List, [], ◌∷◌, drop, refl, sym, ap, ◌∙◌}
-use Rattle.std.specs.Prelude.{None, Option, Some, slice_get}
+use Rattle.std.proofs.Common.{◌≡◌, ℕ, Bool, true, false, List, [], ◌∷◌, drop, sym, ap, ◌∙◌}
+use Rattle.std.specs.Prelude.{None, Some, slice_get}
 use Rattle.vx_java.specs.Fields.{Found, declaring, get_from, in_own_initialiser, put_into, put_value, with_written}
-use Rattle.vx_java.specs.FirstObjects.{narrowed_value, narrowed_value_to}
+use Rattle.vx_java.specs.FirstObjects.{narrowed_value}
 use Rattle.vx_java.specs.Machine as machine
 use Rattle.vx_java.specs.Machine.{Go, Here, Outcome, State, illegal, past, with_static}
-use Rattle.vx_plain.specs.Views.{value_of}
-use Rattle.vx_plain.specs.declared.value.Value.{Value}
-use Rattle.vx_plain.specs.declared.value.Value.TheVariants.{Int, Long, Null, Ref, Top}
-use Rattle.vx_plain_fields.specs.Fields.{keeps, kept}
+use Rattle.vx_plain_fields.specs.Fields.{keeps}
 use Rattle.vx_plain_here.proofs.Operands.{no_top, top, top_alone, top_two}
-use Rattle.vx_value.specs.declared.operation.Narrow.{Narrow}
-
-pub kept_is : (to : Option Narrow) (v : Value) → value_of (kept to v) ≡ narrowed_value_to to (value_of v)
-kept_is (Some to) (Int n) = refl
-kept_is (Some to) Top = refl
-kept_is (Some to) (Long n) = refl
-kept_is (Some to) Null = refl
-kept_is (Some to) (Ref r) = refl
-kept_is None Top = refl
-kept_is None (Int n) = refl
-kept_is None (Long n) = refl
-kept_is None Null = refl
-kept_is None (Ref r) = refl
 
 -- a store to a static field, by whether the field keeps its value
 abbrev stored_by : Here → Found → machine.Value → Bool → State

@@ -1,5 +1,5 @@
 -- What instructions do with fields (JVMS 6.5 getstatic, putstatic, getfield, putfield).
-use Rattle.std.specs.Prelude.{Bool, Option, Some, false, is_some, true, ℕ, ◌&&◌, ◌==◌, ◌∷◌}
+use Rattle.std.specs.Prelude.{Bool, false, is_some, true, ℕ, ◌&&◌, ◌==◌, ◌∷◌}
 use Rattle.vx_desc.specs.Names.{is_clinit}
 use Rattle.vx_java.specs.Checks.{width_of_type}
 use Rattle.vx_java.specs.Fields as fields
@@ -8,13 +8,9 @@ use Rattle.vx_java.specs.Initialisation.{when_initialised}
 use Rattle.vx_java.specs.Machine.{Here, Outcome, go, has_room, illegal, when}
 use Rattle.vx_link.specs.Parts.{field_at, method_at}
 use Rattle.vx_link.specs.declared.program.Program.{Program}
-use Rattle.vx_plain.specs.declared.value.Value.{Value}
-use Rattle.vx_plain.specs.declared.value.Value.TheVariants.{Int}
 use Rattle.vx_plain_fields.specs.declared.fields.Found.{Found}
 use Rattle.vx_plain_fields.specs.declared.fields.Use.{Use}
 use Rattle.vx_plain_fields.specs.declared.fields.Use.TheVariants.{GetField, GetStatic, PutField, PutStatic}
-use Rattle.vx_value.specs.Arithmetic.{narrow_of}
-use Rattle.vx_value.specs.declared.operation.Narrow.{Narrow}
 
 abbrev pub found_of : Found → fields.Found
 found_of f = record { named = f.named.0; field = f.field.0; type = f.field_type }
@@ -40,8 +36,3 @@ abbrev pub keeps : Program → (method field : ℕ) → Bool
 keeps p method field =
     is_some (field_at p field).option
     && (is_clinit (method_at p method).name && ((method_at p method).class.0 == (field_at p field).class.0))
-
--- what a store keeps of a value
-abbrev pub kept : Option Narrow → Value → Value
-kept (Some narrow) (Int n) = Int (narrow_of narrow n)
-kept _ v = v

@@ -6,9 +6,7 @@ mod fields;
 mod instances;
 mod loading;
 mod storing;
-mod values;
 
 pub use constants::push_entry;
 pub use fields::{Use, row_of_field};
 pub use instances::new_instance;
-pub use values::fits;

@@ -13,11 +13,10 @@ ghost use Rattle.vx_plain_fields.specs.declared.fields.Use.TheVariants.{GetField
 ghost use Rattle.vx_plain_here.specs.Rows.{ComesTo, here_in};
 
 use crate::fields::Found;
-use crate::values::width_of;
 use vx_link::Program;
 use vx_plain::{State, Value};
 use vx_plain_casts::object_in;
-use vx_plain_here::Made;
+use vx_plain_here::{Made, width_of};
 use vx_plain_ready::ready;
 use vx_plain_tables::Seen;
 use vx_value::{ClassId, FieldId};

@@ -14,13 +14,12 @@ ghost use Rattle.vx_plain_here.specs.Rows.{ComesTo, here_in};
 
 use crate::fields::Found;
 use crate::loading::{cell_of, class_of_field};
-use crate::values::{fits, narrowed};
 use vx_desc::{JavaType, is_clinit};
 use vx_java::parts::{class_of_method, name_of_method};
 use vx_link::Program;
 use vx_plain::{State, Value};
 use vx_plain_casts::object_in;
-use vx_plain_here::Made;
+use vx_plain_here::{Made, fits, narrowed};
 use vx_plain_ready::ready;
 use vx_plain_tables::Seen;
 use vx_value::{FieldId, MethodId};

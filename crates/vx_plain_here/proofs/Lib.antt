@@ -1,3 +1,4 @@
 mod Rooms
 pub mod Comes
+pub mod Matching
 pub mod Operands

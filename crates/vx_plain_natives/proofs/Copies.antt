@@ -1,5 +1,5 @@
 -- Values that are copied from one array to another.
-use Rattle.std.proofs.Common.{◌≡◌, ℕ, ◌+◌, ◌<◌, ◌≤◌, Bool, true, false, List, [], ◌∷◌, ◌++◌, length, drop, take, get_or, sym, ap, ◌∙◌, arith, suc, add-one, append_assoc, drop-cons}
+use Rattle.std.proofs.Common.{◌≡◌, ℕ, ◌+◌, ◌<◌, ◌≤◌, Bool, true, false, List, [], ◌∷◌, ◌++◌, length, drop, take, get_or, sym, ap, ◌∙◌, arith, append_assoc}
 use Rattle.std.specs.Prelude.{cond, min, ◌==◌}
 use Rattle.std.specs.List.{take_while}
 use Rattle.std.proofs.lemmas.List.{append-nil, drop-map, drop_all, drop_min, get_or-map, length-map, map-append, length-take, take-map, take_min, take_more}
@@ -9,6 +9,7 @@ use Rattle.vx_java.specs.Machine as machine
 use Rattle.vx_java.specs.Machine.{Here, in_state, object_at, with_cells}
 use Rattle.vx_plain.specs.Views.{value_of, values_of}
 use Rattle.vx_plain.specs.declared.value.Value.{Value}
+use Rattle.vx_plain_here.proofs.Matching.{value_here}
 use Rattle.vx_plain_natives.specs.Copying.{copied, fitting}
 
 -- values that are put over those from a place on
@@ -21,11 +22,6 @@ values_put cells values at n is =
     ∙ ap (λ k. take at (values_of cells) ++ (values_of values ++ drop k (values_of cells))) (is ∙ ap (λ k. at + k) (sym (length-map values value_of)))
 
 -- ---- the values up to the first that doesn't fit
-
-pub value_here : (values : List Value) (i : ℕ) (d : Value) → i < length values → drop i (values_of values) ≡ value_of (get_or values i d) ∷ drop (i + 1) (values_of values)
-value_here values i d lt =
-    let within : i < length (values_of values) = omega (arith, length-map values value_of) in
-    rw add-one (drop-cons (values_of values) i (value_of d) within ∙ ap (λ v. v ∷ drop (suc i) (values_of values)) (get_or-map value_of values i d (value_of d) lt))
 
 tested : (p : machine.Value → Bool) (values : List Value) (i : ℕ) (d : Value) (b : Bool) → i < length values → b ≡ p (value_of (get_or values i d))
     → take_while p (values_of values) ≡ take i (values_of values) ++ take_while p (drop i (values_of values))

@@ -1,114 +1,21 @@
 //! The arguments of a call of a native method, as they stand on the operands.
 
-ghost use Rattle.std.specs.Prelude.{◌≡◌, ◌<◌, ◌≤◌, ◌++◌, ◌∷◌, [], IfOk, IfSome, MatchOption, Some, drop, length, option_map, reverse, take};
-ghost use Rattle.vx_java.specs.Checks.{fits_type, width_of_type};
-ghost use Rattle.vx_java.specs.FirstObjects.{narrow_of_type, narrowed_value, narrowed_value_to};
+ghost use Rattle.std.specs.Prelude.{◌≡◌, ◌≤◌, ◌++◌, ◌∷◌, [], IfOk, IfSome, drop, length, option_map, reverse, take};
 ghost use Rattle.vx_java.specs.Natives.{are_wanted, as_read, is_wanted, room_for};
 ghost use Rattle.vx_link.specs.ClassNames.{class_of_type};
 ghost use Rattle.vx_link.specs.Signature.{signature};
 ghost use Rattle.vx_plain.specs.Views.{state_of, value_of, values_of};
 ghost use Rattle.vx_plain_here.specs.Rows.{here_in};
 ghost use Rattle.vx_plain_natives.specs.Answers.{listed};
-ghost use Rattle.vx_plain_natives.specs.Arguments.{all_fit, read_by};
+ghost use Rattle.vx_plain_natives.specs.Arguments.{read_by};
 
 use crate::call::Arguments;
 use std::alloc::AllocError;
-use vx_desc::{Base, JavaType};
-use vx_java::{Sort, class_of_type};
+use vx_desc::JavaType;
+use vx_java::class_of_type;
 use vx_link::LinkedMethod;
-use vx_numbers::narrow;
 use vx_plain::{State, Value};
-use vx_plain_here::Here;
-use vx_references::sort_of;
-use vx_value::Narrow;
-
-// ---- types
-
-/// Whether a value is of the sort of a type.
-fn fits(item: JavaType, value: Value) -> bool
-    ensures { result ≡ fits_type item (value_of value) }
-{
-    match sort_of(item) {
-        Some(sort) => value.is_of(sort),
-        None => false,
-    }
-}
-
-/// How many words a value of a type takes on the operand stack.
-fn width_of(item: JavaType) -> usize
-    ensures { result ≡ width_of_type item }
-{
-    match sort_of(item) {
-        Some(Sort::Long) => 2,
-        Some(Sort::Int | Sort::Reference) => 1,
-        None => 0,
-    }
-}
-
-/// What a store to a field of a type narrows an int to.
-fn narrow_of(item: JavaType) -> Option<Narrow>
-    ensures { result ≡ narrow_of_type item }
-{
-    if item.dimensions != 0 {
-        return None;
-    }
-    match item.base {
-        Base::Byte => Some(Narrow::Byte),
-        Base::Char => Some(Narrow::Char),
-        Base::Short => Some(Narrow::Short),
-        Base::Bool => Some(Narrow::Bool),
-        Base::Double | Base::Float | Base::Long | Base::Class | Base::Int => None,
-    }
-}
-
-/// A value that is narrowed, if it is an int.
-fn narrowed_to(to: Narrow, value: Value) -> Value
-    ensures { value_of result ≡ narrowed_value_to (Some to) (value_of value) }
-{
-    match value {
-        Value::Int(n) => Value::Int(narrow(to, n)),
-        _ => value,
-    }
-}
-
-/// What a store to a field of a type keeps of a value.
-fn narrowed(item: JavaType, value: Value) -> Value
-    ensures { value_of result ≡ narrowed_value item (value_of value) }
-{
-    match narrow_of(item) {
-        Some(to) => narrowed_to(to, value),
-        None => value,
-    }
-}
-
-// ---- operands
-
-/// So many operands on top, the deepest first; `None` where there are fewer.
-#[tactic(auto, using(crate::proofs::Given::on_top, crate::proofs::Given::too_few, crate::proofs::Given::enough), unfolding(vx_plain::specs::Views::state_of))]
-pub(crate) fn values_on_top(state: &State, count: usize) -> Option<&[Value]>
-    ensures { let operands = (state_of state.now).top.operands in MatchOption result (length operands < count) (λ values. (values_of values.now ≡ reverse (take count operands)) × (count ≤ length operands)) }
-{
-    let operands = state.top.operands.as_slice();
-    if count > operands.len() {
-        return None;
-    }
-    let (_, values) = operands.split_at(operands.len() - count);
-    Some(values)
-}
-
-/// Whether each value is of the sort of its type.
-#[tactic(auto, using(crate::proofs::Given::one_matches, crate::proofs::Given::one_differs, crate::proofs::Given::all_match))]
-pub(crate) fn are_matching(types: &[JavaType], values: &[Value]) -> bool
-    requires { length types.now ≡ length values.now }
-    ensures { result ≡ all_fit types.now (values_of values.now) }
-{
-    for place in 0..types.len() {
-        if !fits(types[place], values[place]) {
-            return false;
-        }
-    }
-    true
-}
+use vx_plain_here::{Here, narrowed, values_on_top, width_of};
 
 // ---- what is asked of them
 
@@ -216,7 +123,7 @@ fn read_by(
 }
 
 /// What is read of the arguments on top, which are enough.
-#[tactic(auto, using(crate::proofs::Given::as_many))]
+#[tactic(auto, using(vx_plain_here::proofs::Matching::as_many))]
 pub(crate) fn read_on_top(
     here: &Here<'_>,
     state: &State,

@@ -10,9 +10,8 @@ use crate::answers::{
 };
 use crate::call::{Arguments, Call};
 use crate::spelling::{Spelling, spelled};
-use crate::texts::is_within;
 use vx_plain::{State, Value};
-use vx_plain_here::Made;
+use vx_plain_here::{Made, is_within};
 use vx_units::{joined, of_length, reversed, without_unit};
 
 /// The constructor of a capacity, which is not negative: the text is empty whatever it is.

@@ -6,18 +6,18 @@ ghost use Rattle.vx_java.specs.Natives.{apply, apply_to, carried_out, native_of}
 ghost use Rattle.vx_link.specs.Parts.{has};
 ghost use Rattle.vx_link.specs.Signature.{signature};
 ghost use Rattle.vx_plain.specs.Views.{state_of};
+ghost use Rattle.vx_plain_here.specs.Arguments.{are_on_top};
 ghost use Rattle.vx_plain_here.specs.Rows.{ComesTo, here_in};
 ghost use Rattle.vx_plain_natives.specs.Answers.{listed};
-ghost use Rattle.vx_plain_natives.specs.Arguments.{are_on_top};
 
-use crate::arguments::{are_matching, read_on_top, values_on_top};
+use crate::arguments::read_on_top;
 use crate::call::{Arguments, Call};
 use crate::table::by_number;
 use bitflags::Flags;
 use vx_desc::JavaType;
 use vx_link::{AccessFlags, LinkedMethod};
 use vx_plain::State;
-use vx_plain_here::{Here, Made};
+use vx_plain_here::{Here, Made, are_matching, values_on_top};
 
 /// Does what a native method does with its arguments.
 fn do_native(
@@ -101,7 +101,7 @@ fn is_static(method: &LinkedMethod) -> bool
 }
 
 /// Whether the arguments stand on top, each of the sort of its type.
-#[tactic(auto, using(crate::proofs::Given::as_many, crate::proofs::Given::there_by, crate::proofs::Given::not_there_by))]
+#[tactic(auto, using(vx_plain_here::proofs::Matching::as_many, vx_plain_here::proofs::Matching::there_by, vx_plain_here::proofs::Matching::not_there_by))]
 fn are_there(state: &State, types: &[JavaType]) -> bool
     ensures { let operands = (state_of state.now).top.operands in result ≡ are_on_top types.now operands }
 {
@@ -113,7 +113,7 @@ fn are_there(state: &State, types: &[JavaType]) -> bool
 
 /// Carries out a native method at the call that stands where the frame on top does, where its arguments still stand. The types are
 /// those of its descriptor.
-#[tactic(auto, using(crate::proofs::Given::are_many))]
+#[tactic(auto, using(vx_plain_here::proofs::Matching::are_many))]
 pub fn carry_out(
     here: &Here<'_>,
     state: &mut State,

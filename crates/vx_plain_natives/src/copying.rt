@@ -19,7 +19,7 @@ use vx_java::assignable;
 use vx_java::parts::is_array;
 use vx_link::Program;
 use vx_plain::{State, Value};
-use vx_plain_here::Made;
+use vx_plain_here::{Made, natural};
 use vx_value::ClassId;
 
 /// Throws an ArrayStoreException.
@@ -123,13 +123,6 @@ fn copy_values(call: &Call<'_>, state: &mut State, to: u64, j: usize, values: &[
     let count = fitting(call, state, state.class_of(to), values);
     write_cells(call.here.alloc, state, to, j, &values[..count])?;
     copied(call, state, count == values.len())
-}
-
-/// A number that is not negative, and 0 for a negative one.
-fn natural(n: i32) -> usize
-    ensures { result ≡ natural n }
-{
-    n.max(0) as usize
 }
 
 /// The elements of an array from a place on, up to a number of them.

@@ -15,10 +15,10 @@ use crate::answers::{
     write_text,
 };
 use crate::call::{Arguments, Call};
-use crate::texts::{as_int, chars_of, elements_of, int_of, is_within, place_as_int, text_of};
+use crate::texts::{as_int, chars_of, elements_of, place_as_int, text_of};
 use vx_link::Program;
 use vx_plain::{Object, State, Value};
-use vx_plain_here::Made;
+use vx_plain_here::{Made, int_of, is_within};
 use vx_units::{difference, ends_with, hash, joined, place_of, place_of_point};
 use vx_value::ClassId;
 

@@ -1,7 +1,6 @@
 //! Texts, arrays of chars and numbers that native methods read off the state.
 
-ghost use Rattle.std.specs.Prelude.{◌≡◌, ◌&&◌, IfOk, length, map, pos};
-ghost use Rattle.vx_java.specs.Checks.{is_within};
+ghost use Rattle.std.specs.Prelude.{◌≡◌, IfOk, map};
 ghost use Rattle.vx_java.specs.Library.{number_in};
 ghost use Rattle.vx_java.specs.Machine.{cell_at};
 ghost use Rattle.vx_java.specs.Texts.{chars_of, text_of_object, unit_of};
@@ -13,16 +12,7 @@ ghost use Rattle.vx_units.specs.Places.{in_texts};
 use crate::call::Call;
 use std::alloc::{AllocError, Global};
 use vx_plain::{State, Value};
-
-/// A length as an int. One that doesn't fit is refused as want of memory.
-pub(crate) fn int_of(length: usize) -> Result<i32, AllocError>
-    ensures { IfOk result (λ n. n ≡ pos length) }
-{
-    if length > 2_147_483_647 {
-        return Err(AllocError);
-    }
-    Ok(length as i32)
-}
+use vx_plain_here::int_of;
 
 /// A difference as an int. One that doesn't fit is refused as want of memory.
 pub(crate) fn as_int(n: i64) -> Result<i32, AllocError>
@@ -42,13 +32,6 @@ pub(crate) fn place_as_int(place: Option<usize>) -> Result<i32, AllocError>
         Some(place) => int_of(place),
         None => Ok(-1),
     }
-}
-
-/// Whether an index is within a length.
-pub(crate) fn is_within(index: i32, length: usize) -> bool
-    ensures { result ≡ is_within index length }
-{
-    index >= 0 && (index as usize) < length
 }
 
 /// A second vector of a text.

@@ -9,7 +9,7 @@ ghost use Rattle.vx_plain_ready.specs.Ready.{Readied};
 ghost use Rattle.vx_value.specs.declared.slot.InitState.TheVariants.{Failed, Not};
 
 use std::alloc::AllocError;
-use vx_java::{init_chain, quiet_chain};
+use vx_java::init_chain;
 use vx_plain::State;
 use vx_plain_here::{Here, Outcome};
 use vx_value::{ClassId, InitState};
@@ -30,14 +30,6 @@ fn mark_quiet(
     Ok(None)
 }
 
-/// Whether marking the chain of a class has no other effect.
-#[tactic(auto, unfolding(vx_plain::specs::Views::state_of))]
-fn is_quiet(here: &Here<'_>, state: &State, class: ClassId) -> bool
-    ensures { result ≡ quiet_chain here.now.program.now (state_of state.now).inits class.0 }
-{
-    quiet_chain(here.program, class, state.inits.as_slice())
-}
-
 /// A class whose initialisation has not begun is marked where that has no other effect; else it begins.
 fn mark_or_begin(
     here: &Here<'_>,
@@ -47,7 +39,7 @@ fn mark_or_begin(
     requires { init_at (state_of state.old).inits class.0 ≡ Not }
     ensures { IfOk result (Readied (here_in here.now (state_of state.old)) class.0 (state_of state.new)) }
 {
-    if is_quiet(here, state, class) {
+    if state.is_quiet(here.program, class) {
         mark_quiet(here, state, class)
     } else {
         Ok(Some(Outcome::Begin(class)))

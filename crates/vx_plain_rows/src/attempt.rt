@@ -3,7 +3,6 @@
 ghost use Rattle.std.specs.Prelude.{[], IfOk, Some, length, option_copied, ◌≡◌, ◌≤◌};
 ghost use Rattle.vx_java.specs.Ids.{HasClassNumbers};
 ghost use Rattle.vx_java.specs.Row.{row, row_at, row_in};
-ghost use Rattle.vx_java.specs.Machine.{current_class};
 ghost use Rattle.vx_link.specs.Parts.{class_at, method_at};
 ghost use Rattle.vx_plain.specs.Views.{state_of};
 ghost use Rattle.vx_plain_here.specs.Rows.{ComesTo};
@@ -13,7 +12,6 @@ use crate::operations::row_of;
 use std::alloc::Global;
 use vx_class::Code;
 use vx_java::decoding::operation;
-use vx_java::parts::class_of_method;
 use vx_link::Program;
 use vx_list::Items;
 use vx_opcode::{Instruction, decode};
@@ -35,14 +33,6 @@ pub fn code_on_top<'a>(program: &'a Program, state: &State) -> Option<&'a Code>
         },
         None => None,
     }
-}
-
-/// The class whose method stands on top.
-#[tactic(auto, unfolding(vx_plain::specs::Views::state_of))]
-pub fn class_on_top(program: &Program, state: &State) -> ClassId
-    ensures { result.0 ≡ current_class program.now (state_of state.now) }
-{
-    class_of_method(program, state.top.method)
 }
 
 /// The pool of a class; that of one that isn't there is empty.
@@ -72,7 +62,7 @@ fn row_at<'a>(
     let none = Pool {
         entries: Items::of(Vec::new(alloc)),
     };
-    let class = class_on_top(program, state);
+    let class = state.current_class(program);
     let pool = pool_of(program, class, &none);
     let does = operation(instruction);
     let here = Here {

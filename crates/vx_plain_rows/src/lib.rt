@@ -5,4 +5,4 @@ mod attempt;
 mod objects;
 mod operations;
 
-pub use attempt::{class_on_top, code_on_top, pool_of, row};
+pub use attempt::{code_on_top, pool_of, row};

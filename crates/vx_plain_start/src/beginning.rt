@@ -3,7 +3,7 @@
 ghost use Rattle.std.specs.Prelude.{◌≡◌, ◌+◌, IfOk, Some, codes, length, nat_lt};
 ghost use Rattle.vx_java.specs.Ids.{HasClassNumbers};
 ghost use Rattle.vx_java.specs.Initialisation.{chain_blocked, quiet_chain};
-ghost use Rattle.vx_java.specs.Machine.{current_class, depth, frame_bound, place};
+ghost use Rattle.vx_java.specs.Machine.{depth, frame_bound, place};
 ghost use Rattle.vx_java.specs.Operation.{class_word};
 ghost use Rattle.vx_java.specs.Step.{begun, if_quiet, with_room};
 ghost use Rattle.vx_link.specs.ClassNames.{class_text};
@@ -13,8 +13,7 @@ ghost use Rattle.vx_plain_start.specs.Beginning.{Began, started};
 ghost use Rattle.vx_value.specs.declared.end.End.TheVariants.{Uncaught, Unsupported};
 
 use std::alloc::{AllocError, Global};
-use vx_java::parts::class_of_method;
-use vx_java::{init_chain, place, quiet_chain};
+use vx_java::{init_chain, place};
 use vx_link::Program;
 use vx_plain::State;
 use vx_plain_ready::{chain_blocked, push_chain, too_many};
@@ -67,13 +66,6 @@ fn begin_frames(
     Ok(None)
 }
 
-#[tactic(auto, unfolding(vx_plain::specs::Views::state_of))]
-fn is_quiet(program: &Program, state: &State, class: ClassId) -> bool
-    ensures { result ≡ quiet_chain program.now (state_of state.now).inits class.0 }
-{
-    quiet_chain(program, class, state.inits.as_slice())
-}
-
 /// A chain that no interface blocks is marked, or has its frames.
 fn begin_free(
     alloc: Global,
@@ -84,7 +76,7 @@ fn begin_free(
 ) -> Result<Option<End>, AllocError>
     ensures { let s = state_of state.old in IfOk result (Began (if_quiet program.now s (numbers_of chain.now) (quiet_chain program.now s.inits class.0)) s (state_of state.new)) }
 {
-    if is_quiet(program, state, class) {
+    if state.is_quiet(program, class) {
         state.mark(chain, InitState::Done);
         return Ok(None);
     }
@@ -108,14 +100,6 @@ fn begin_chain(
     }
 }
 
-/// The class whose method stands on top.
-#[tactic(auto, unfolding(vx_plain::specs::Views::state_of))]
-fn class_on_top(program: &Program, state: &State) -> ClassId
-    ensures { result.0 ≡ current_class program.now (state_of state.now) }
-{
-    class_of_method(program, state.top.method)
-}
-
 /// The chain of the main class is marked, or has its frames above that of main; a blocking interface or one frame too many ends
 /// the run.
 #[tactic(auto, unfolding(vx_plain::specs::Views::state_of))]
@@ -127,7 +111,7 @@ pub fn begin_main(
     requires { HasClassNumbers program.now }
     ensures { let s = state_of state.old in IfOk result (Began (started program.now s) s (state_of state.new)) }
 {
-    let class = class_on_top(program, state);
+    let class = state.current_class(program);
     let chain = init_chain(alloc, program, class, state.inits.as_slice())?;
     begin_chain(alloc, program, state, class, &chain)
 }

@@ -11,11 +11,10 @@ ghost use Rattle.vx_value.specs.declared.slot.InitState.TheVariants.{Failed};
 use crate::handling::{handler_of, is_error};
 use crate::making::throwable;
 use std::alloc::{AllocError, Global};
-use vx_java::parts::class_of_method;
 use vx_link::Program;
 use vx_plain::{State, Value};
 use vx_plain_ready::core_class;
-use vx_value::{ClassId, InitState, Kind};
+use vx_value::{InitState, Kind};
 
 /// The handler of the frame on top for an object.
 #[tactic(auto, unfolding(vx_plain::specs::Views::state_of))]
@@ -51,20 +50,6 @@ fn wrap(alloc: Global, program: &Program, state: &mut State, object: u64) -> Res
     state.add(made)
 }
 
-#[tactic(auto, unfolding(vx_plain::specs::Views::state_of))]
-fn current_class(program: &Program, state: &State) -> ClassId
-    ensures { result.0 ≡ current_class program.now (state_of state.now) }
-{
-    class_of_method(program, state.top.method)
-}
-
-#[tactic(auto, unfolding(vx_plain::specs::Views::state_of))]
-fn kind_on_top(state: &State) -> Kind
-    ensures { result ≡ (state_of state.now).top.kind }
-{
-    state.top.kind
-}
-
 /// An object leaves an initialisation, which has failed.
 fn pass_initialisation(
     alloc: Global,
@@ -76,7 +61,7 @@ fn pass_initialisation(
     ensures object { IfOk result (λ r. r ≡ wrapped_object program.now (state_of state.old) object) }
     ensures state { OnOk result (state_of state.new ≡ with_inits (wrapped_state program.now (state_of state.old) object) Failed (current_class program.now (state_of state.old) ∷ [])) }
 {
-    let class = current_class(program, state);
+    let class = state.current_class(program);
     let thrown = wrap(alloc, program, state, object)?;
     state.mark_one(class, InitState::Failed);
     Ok(thrown)
@@ -88,7 +73,7 @@ fn pass(alloc: Global, program: &Program, state: &mut State, object: u64) -> Res
     ensures object { IfOk result (λ r. r ≡ passed_object program.now (state_of state.old) (state_of state.old).top.kind object) }
     ensures state { OnOk result (state_of state.new ≡ passed_state program.now (state_of state.old) (state_of state.old).top.kind object) }
 {
-    match kind_on_top(state) {
+    match state.kind() {
         Kind::Call => Ok(object),
         Kind::Init => pass_initialisation(alloc, program, state, object),
         Kind::Wait => pass_initialisation(alloc, program, state, object),

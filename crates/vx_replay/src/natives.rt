@@ -18,7 +18,7 @@ use vx_opcode::decode;
 use vx_plain::State;
 use vx_plain_here::{Here, Made};
 use vx_plain_natives::carry_out;
-use vx_plain_rows::{class_on_top, code_on_top, pool_of};
+use vx_plain_rows::{code_on_top, pool_of};
 use vx_plain_tables::{Seen, Tables};
 use vx_pool::Pool;
 use vx_value::{ClassId, MethodId, Name};
@@ -100,7 +100,7 @@ pub(crate) fn native<'a>(
         bytes: Items::of(Vec::new(alloc)),
         catches: Items::of(Vec::new(alloc)),
     };
-    let class = class_on_top(program, state);
+    let class = state.current_class(program);
     let code = code_at_call(program, state, &no_code);
     let pool = pool_of(program, class, &no_pool);
     let position = state.position();

@@ -8,7 +8,7 @@ mod tests {
     use std::test::Fail;
     use vx_asm::assemble;
     use vx_cli::varex;
-    use vx_io::{MemoryFiles, MemorySink, SteadyFiles, SteadySink, are_distinct};
+    use vx_io::{Files, MemoryFiles, MemorySink, SteadyFiles, SteadySink, are_distinct};
 
     /// `main` prints the option A.
     const PRINTS_OPTION: &[u8] =
@@ -91,7 +91,7 @@ mod tests {
         ),
     ];
 
-    const FILES: [(&str, &[u8]); 41] = [
+    const FILES: [(&str, &[u8]); 42] = [
         ("m", b"option A Main A\n"),
         ("e", b""),
         ("r", b"option A Main A\nrule true\n"),
@@ -119,6 +119,7 @@ mod tests {
             b"varexj report 1\noptions 0\nlimit 100\nrounds 4\nout 1 2\\0a\nend 1 return\ndone\n",
         ),
         ("word", b"klass 0021 Main java/lang/Object\n"),
+        ("source", b"class 0021 Main java/lang/Object\n"),
         ("e.cnf", b""),
         ("a.cnf", b"c 1 A Main A\np cnf 1 1\n1 0\n"),
         ("b.cnf", b"c 1 A Main A\nc 2 B\np cnf 2 1\n-1 2 0\n"),
@@ -147,8 +148,8 @@ mod tests {
         ("c/readme", b"no class"),
     ];
 
-    /// Words, and what has to come: the code, `out`, and `err`.
-    const CASES: [(&str, u8, &str, &str); 74] = [
+    /// Words of runs, and what has to come: the code, `out`, and `err`.
+    const RUN_CASES: [(&str, u8, &str, &str); 22] = [
         (
             "run a m Main 100 1",
             0,
@@ -179,16 +180,6 @@ mod tests {
             "varexj report 1\noptions 0\nlimit 100\nrounds 1\nend 1 illegal Main.main([Ljava/lang/String;)V@0\ndone\n",
             "",
         ),
-        ("run n e Main 0 1", 2, "", "usage\n"),
-        ("--version", 0, "varexj 0.9\n", ""),
-        ("--version run", 2, "", "usage\n"),
-        ("-h", 2, "", "usage\n"),
-        (
-            "run b e Main 100 1",
-            7,
-            "",
-            "bad class 1\\201.class at 3 reason 3\n",
-        ),
         (
             "run a r Main 100 1",
             0,
@@ -201,8 +192,6 @@ mod tests {
             "varexj report 1\noptions 1\noption A\nlimit 100\nrounds 4\nnode 2 0 0 1\nout 2 1\\0a\nend 2 return\ndone\n",
             "",
         ),
-        ("run a none Main 100 1", 6, "", "no configuration\n"),
-        ("run a bad Main 100 1", 5, "", "bad model line 2 reason 4\n"),
         (
             "run a two Main 100 1",
             0,
@@ -210,23 +199,11 @@ mod tests {
             "",
         ),
         (
-            "run n e.cnf Main 100 1",
-            5,
-            "",
-            "bad model line 1 reason 7\n",
-        ),
-        (
             "run a a.cnf Main 100 1",
             0,
             "varexj report 1\noptions 1\noption A\nlimit 100\nrounds 4\nnode 2 0 0 1\nout 2 1\\0a\nend 2 return\ndone\n",
             "",
         ),
-        ("run f e Main 100 1", 8, "", "twice Main\n"),
-        ("run s e Main 100 1", 8, "", "no super Main\n"),
-        ("run x e Main 100 1", 8, "", "final super Main\n"),
-        ("run c e Main 100 1", 8, "", "cycle P\n"),
-        ("run n m Main 100 1", 8, "", "no option A\n"),
-        ("run o e Main 100 1", 8, "", "no main\n"),
         (
             "run l e Main 100 1",
             0,
@@ -288,12 +265,6 @@ mod tests {
             "",
         ),
         (
-            "run n v.cnf Main 100 1",
-            5,
-            "",
-            "bad model line 1 reason 6\n",
-        ),
-        (
             "run z m Main 100 1",
             0,
             "varexj report 1\noptions 1\noption A\nlimit 100\nrounds 9\nnode 2 0 1 0\nnode 3 0 0 1\nend 2 return\nend 3 exit 3\ndone\n",
@@ -311,6 +282,44 @@ mod tests {
             "varexj report 1\noptions 1\noption A\nlimit 2\nrounds 2\nend 1 unfinished\ndone\n",
             "",
         ),
+    ];
+
+    /// The same of refused runs and words, and of the version.
+    const REFUSAL_CASES: [(&str, u8, &str, &str); 15] = [
+        ("run n e Main 0 1", 2, "", "usage\n"),
+        ("--version", 0, "varexj 0.9\n", ""),
+        ("--version run", 2, "", "usage\n"),
+        ("-h", 2, "", "usage\n"),
+        (
+            "run b e Main 100 1",
+            7,
+            "",
+            "bad class 1\\201.class at 3 reason 3\n",
+        ),
+        ("run a none Main 100 1", 6, "", "no configuration\n"),
+        ("run a bad Main 100 1", 5, "", "bad model line 2 reason 4\n"),
+        (
+            "run n e.cnf Main 100 1",
+            5,
+            "",
+            "bad model line 1 reason 7\n",
+        ),
+        ("run f e Main 100 1", 8, "", "twice Main\n"),
+        ("run s e Main 100 1", 8, "", "no super Main\n"),
+        ("run x e Main 100 1", 8, "", "final super Main\n"),
+        ("run c e Main 100 1", 8, "", "cycle P\n"),
+        ("run n m Main 100 1", 8, "", "no option A\n"),
+        ("run o e Main 100 1", 8, "", "no main\n"),
+        (
+            "run n v.cnf Main 100 1",
+            5,
+            "",
+            "bad model line 1 reason 6\n",
+        ),
+    ];
+
+    /// The same of commands that read reports.
+    const REPORT_CASES: [(&str, u8, &str, &str); 19] = [
         ("project report -", 0, "out 0\\0a\nend return\n", ""),
         ("project report A", 0, "out 1\\0a\nend return\n", ""),
         ("project part -", 11, "", "not allowed\n"),
@@ -360,6 +369,10 @@ mod tests {
         ("agree report cut", 10, "", "bad report line 6\n"),
         ("agree cut absent", 10, "", "bad report line 6\n"),
         ("agree report", 2, "", "usage\n"),
+    ];
+
+    /// The same of commands that read classes or a source, and run nothing or one configuration.
+    const CLASS_CASES: [(&str, u8, &str, &str); 18] = [
         ("verify a m Main", 0, "verified\n", ""),
         ("verify a none Main", 0, "verified\n", ""),
         (
@@ -446,12 +459,72 @@ mod tests {
         ),
     ];
 
-    /// The files of the classes and the models.
-    fn put_files(alloc: Global, kept: &mut Vec<(String, Vec<u8>)>) -> Result<(), AllocError> {
-        for (path, bytes) in FILES {
+    /// Words of each command, and how many calls of the files they make.
+    const READS: [(&str, u64); 13] = [
+        ("run a m Main 100 1", 3),
+        ("run f e Main 100 1", 7),
+        ("verify a m Main", 3),
+        ("replay a m Main 100 A", 3),
+        ("asm source", 1),
+        ("project report A", 1),
+        ("interact report", 1),
+        ("picture report", 1),
+        ("cover report", 1),
+        ("explain report", 1),
+        ("agree report part", 2),
+        ("load 1 2", 0),
+        ("--version", 0),
+    ];
+
+    /// Words of each command.
+    const WRITES: [&str; 12] = [
+        "run n e Main 100 1",
+        "verify a m Main",
+        "replay a m Main 3 -",
+        "asm source",
+        "project report A",
+        "interact report",
+        "picture report",
+        "cover report",
+        "explain report",
+        "agree report part",
+        "load 1 1",
+        "--version",
+    ];
+
+    /// Words that are refused, and their codes.
+    const REFUSED: [(&str, u8); 11] = [
+        ("run", 2),
+        ("run a absent Main 100 1", 3),
+        ("run a bad Main 100 1", 5),
+        ("run a none Main 100 1", 6),
+        ("run b e Main 100 1", 7),
+        ("run c e Main 100 1", 8),
+        ("verify c e Main", 8),
+        ("interact cut", 10),
+        ("project part -", 11),
+        ("asm word", 12),
+        ("agree report plain", 14),
+    ];
+
+    fn put_files(
+        alloc: Global,
+        kept: &mut Vec<(String, Vec<u8>)>,
+        files: &[(&str, &[u8])],
+    ) -> Result<(), AllocError> {
+        for &(path, bytes) in files {
             put_file(alloc, kept, path, bytes)?;
         }
-        for (path, source) in SOURCES {
+        Ok(())
+    }
+
+    /// The class files that sources name.
+    fn put_classes(
+        alloc: Global,
+        kept: &mut Vec<(String, Vec<u8>)>,
+        sources: &[(&str, &str)],
+    ) -> Result<(), AllocError> {
+        for &(path, source) in sources {
             // The class of a source that is refused is missing, and then its cases fail.
             if let Ok(class) = assemble(alloc, source.as_bytes()) {
                 put_file(alloc, kept, path, &class)?;
@@ -471,9 +544,11 @@ mod tests {
         Ok(())
     }
 
+    /// The files of the classes and the models.
     fn kept(alloc: Global) -> Result<Vec<(String, Vec<u8>)>, AllocError> {
         let mut kept = Vec::new(alloc);
-        put_files(alloc, &mut kept)?;
+        put_files(alloc, &mut kept, &FILES)?;
+        put_classes(alloc, &mut kept, &SOURCES)?;
         Ok(kept)
     }
 
@@ -493,7 +568,7 @@ mod tests {
         err: SteadySink,
     }
 
-    fn called(rt: &impl Abort, alloc: Global, files: &mut SteadyFiles, text: &str) -> Answer {
+    fn called<F: Files>(rt: &impl Abort, alloc: Global, files: &mut F, text: &str) -> Answer {
         let words = words(alloc, text).expect(rt, "memory");
         let mut out = SteadySink::new(alloc).expect(rt, "memory");
         let mut err = SteadySink::new(alloc).expect(rt, "memory");
@@ -519,14 +594,47 @@ mod tests {
             && answer.err.written() == line.as_bytes()
     }
 
-    #[test]
-    fn reports_and_refusals(rt: HostRuntime) {
-        let held = kept(rt.alloc()).expect(&rt, "memory");
+    /// The files, none of whose calls fails.
+    fn steady_files(rt: &impl Abort, alloc: Global) -> SteadyFiles {
+        let held = kept(alloc).expect(rt, "memory");
         assert!(rt; are_distinct(held.as_slice()));
-        let mut files = SteadyFiles::new(rt.alloc(), held).expect(&rt, "memory");
-        for case in CASES {
-            assert!(rt; comes(&rt, rt.alloc(), &mut files, case), "{case:?}");
+        SteadyFiles::new(alloc, held).expect(rt, "memory")
+    }
+
+    /// Asserts that each of the cases comes.
+    fn all_come(
+        rt: &impl Abort,
+        alloc: Global,
+        files: &mut SteadyFiles,
+        cases: &[(&str, u8, &str, &str)],
+    ) {
+        for &case in cases {
+            assert!(rt; comes(rt, alloc, files, case), "{case:?}");
         }
+    }
+
+    #[test]
+    fn reports_of_runs(rt: HostRuntime) {
+        let mut files = steady_files(&rt, rt.alloc());
+        all_come(&rt, rt.alloc(), &mut files, &RUN_CASES);
+    }
+
+    #[test]
+    fn refused_runs_and_words(rt: HostRuntime) {
+        let mut files = steady_files(&rt, rt.alloc());
+        all_come(&rt, rt.alloc(), &mut files, &REFUSAL_CASES);
+    }
+
+    #[test]
+    fn commands_on_reports(rt: HostRuntime) {
+        let mut files = steady_files(&rt, rt.alloc());
+        all_come(&rt, rt.alloc(), &mut files, &REPORT_CASES);
+    }
+
+    #[test]
+    fn commands_on_classes(rt: HostRuntime) {
+        let mut files = steady_files(&rt, rt.alloc());
+        all_come(&rt, rt.alloc(), &mut files, &CLASS_CASES);
     }
 
     /// The files of which the call of this number fails.
@@ -563,6 +671,84 @@ mod tests {
     #[test]
     fn faults_of_files_and_sinks(rt: HostRuntime) {
         for case in FAULTS {
+            assert!(rt; comes_through(&rt, rt.alloc(), case), "{case:?}");
+        }
+    }
+
+    /// Whether a command ends as a read fault, with nothing written, where so many calls of the files are done and the next one
+    /// fails.
+    fn is_unread(rt: &impl Abort, alloc: Global, text: &str, done: u64) -> bool {
+        let mut files = failing_files(rt, alloc, done.saturating_add(1));
+        let answer = called(rt, alloc, &mut files, text);
+        answer.code == 3
+            && answer.out.written().is_empty()
+            && answer.err.written().starts_with(b"read fault ")
+    }
+
+    #[test]
+    fn each_read_fails_in_turn(rt: HostRuntime) {
+        for (text, calls) in READS {
+            for done in 0..calls.saturating_add(1) {
+                let fails = is_unread(&rt, rt.alloc(), text, done);
+                assert!(rt; fails == (done < calls), "{text}, {done}");
+            }
+        }
+    }
+
+    /// Whether a command ends as a write fault where its sink takes so many bytes, one at a time, and then fails; the sink has
+    /// the first bytes of the whole output.
+    fn is_cut(
+        rt: &impl Abort,
+        alloc: Global,
+        files: &mut SteadyFiles,
+        text: &str,
+        whole: &[u8],
+        taken: usize,
+    ) -> bool {
+        let words = words(alloc, text).expect(rt, "memory");
+        let call = (taken as u64).saturating_add(1);
+        let fails = Vec::from_slice(alloc, &[call]).expect(rt, "memory");
+        let mut out = MemorySink::new(alloc, 1, fails).expect(rt, "memory");
+        let mut err = SteadySink::new(alloc).expect(rt, "memory");
+        let status = varex(alloc, &words, files, &mut out, &mut err);
+        status.code() == 4
+            && err.written() == b"write fault\n".as_slice()
+            && out.written().len() == taken
+            && whole.starts_with(out.written())
+    }
+
+    /// Whether a command writes something, and is cut wherever its sink fails.
+    fn is_cut_anywhere(
+        rt: &impl Abort,
+        alloc: Global,
+        files: &mut SteadyFiles,
+        text: &str,
+    ) -> bool {
+        let answer = called(rt, alloc, files, text);
+        let whole = answer.out.written();
+        for taken in 0..whole.len() {
+            if !is_cut(rt, alloc, files, text, whole, taken) {
+                return false;
+            }
+        }
+        answer.code == 0 && !whole.is_empty()
+    }
+
+    #[test]
+    fn each_write_fails_in_turn(rt: HostRuntime) {
+        let mut files = steady_files(&rt, rt.alloc());
+        for text in WRITES {
+            assert!(rt;
+                is_cut_anywhere(&rt, rt.alloc(), &mut files, text),
+                "{text}"
+            );
+        }
+    }
+
+    #[test]
+    fn a_line_that_is_lost_changes_no_code(rt: HostRuntime) {
+        for (text, code) in REFUSED {
+            let case = (text, 0, 0, 1, code, "", "");
             assert!(rt; comes_through(&rt, rt.alloc(), case), "{case:?}");
         }
     }

@@ -1,8 +1,10 @@
 -- Types that are merged into those of a position, and what is known then.
 use Rattle.std.proofs.Common.{Bool, List, None, Option, Some, ap, false, length, refl, subst, sym, true, ℕ, ◌<◌, ◌∙◌, ◌≡◌, ◌≤◌}
 use Rattle.std.proofs.lemmas.Bool.Decides.{Decides-eqb}
+use Rattle.std.specs.BTreeSet.{Updates, contains}
 use Rattle.std.specs.Bool.{MatchBool}
 use Rattle.std.specs.List.{AllZip}
+use Rattle.std.specs.Ordering.{nat_cmp}
 use Rattle.std.specs.Prelude.{option_map, slice_set, ◌&&◌, ◌==◌}
 use Rattle.vx_list.specs.Places.{item_or}
 use Rattle.vx_types.proofs.FitLaws.{state_itself}
@@ -17,7 +19,7 @@ use Rattle.vx_verify.proofs.Reached.{IsPutIn, caught_kept, put_goes}
 use Rattle.vx_verify.proofs.Reaching.{are_readable, readable_operands, unreadable_untyped}
 use Rattle.vx_verify.proofs.StoreLaws.{later_itself, later_through, stands_kept, state_kept}
 use Rattle.vx_verify.specs.Forced.{IsMerged}
-use Rattle.vx_verify.specs.Inference.{Goes, HasMerged, HasNoTyping, IsCaught, IsForcedIn, IsInference, IsJoint, IsRaising, IsSubject, Reaches, Rises, joint_by, joint_of, known_of, marked_of, state_of}
+use Rattle.vx_verify.specs.Inference.{AreWithin, Goes, HasMerged, HasNoTyping, IsCaught, IsForcedIn, IsInference, IsJoint, IsRaising, IsSubject, Reaches, Rises, joint_by, joint_of, known_of, marked_of, state_of}
 use Rattle.vx_verify.specs.Inferred.{AreInferred, AreRaised}
 use Rattle.vx_verify.specs.States.{IsLater, Stands, state_at}
 use Rattle.vx_verify.specs.Typing.{AreOperands}
@@ -45,7 +47,7 @@ with_store i t = record i { store = t }
 -- the store has more, and all else is as it was
 pub record IsGrown (i j : Inference) : Type 0 where
   pub states : j.states.items ≡ i.states.items
-  pub marks : j.marked.items ≡ i.marked.items
+  pub marks : j.marked ≡ i.marked
   pub caught : j.caught.items ≡ i.caught.items
   pub later : IsLater i.store j.store
 
@@ -58,12 +60,12 @@ pub grown_goes : (s : Subject) (i j : Inference) → IsSubject s → IsInference
 grown_goes s i j subject is grown =
     let p = s.program.now in
     let known : known_of s j ≡ known_of s i = λ x q. known_same s i j is grown q x in
-    let marks : marked_of j ≡ marked_of i = λ x q. item_or (grown.marks x) q false in
+    let marks : marked_of j ≡ marked_of i = λ x q. contains nat_cmp (grown.marks x) q in
     record {
       inference = record {
         store = grown.later.store;
         states = ap length grown.states ∙ is.states;
-        marks = ap length grown.marks ∙ is.marks;
+        marks = subst (AreWithin (length s.code.now.bytes)) (sym grown.marks) is.marks;
         stands = λ q state e.
             stands_kept i.store j.store s.frame state grown.later (is.stands q state (sym (ap (λ (xs : List (Option State)). item_or xs q None) grown.states) ∙ e));
         caught = subst (λ (ns : List ℕ). AllZip (IsCaught p s.method.0 j.store) s.code.now.catches ns) (sym grown.caught)
@@ -103,7 +105,7 @@ pub same_states : (a b : State) (t : Bool) → t ≡ (a.locals == b.locals && a.
 same_states a b t e h = same_state a b (sym e ∙ h)
 
 pub joint_fits : (s : Subject) (i j : Inference) (position : ℕ) (known state : State) (found : Option State) → IsSubject s → IsInference s i → j.states.items ≡ i.states.items
-    → j.marked.items ≡ i.marked.items → j.caught.items ≡ i.caught.items → Stands i.store s.frame state → IsForcedIn s position (state_at i.store s.frame state) → state_of i position ≡ Some known
+    → j.marked ≡ i.marked → j.caught.items ≡ i.caught.items → Stands i.store s.frame state → IsForcedIn s position (state_at i.store s.frame state) → state_of i position ≡ Some known
     → HasMerged s.program.now i.store j.store s.frame known state found → IsJoint s i j position state (joint_of known found)
 joint_fits s i j position known state None subject is states marks caught stands forced e none =
     unlike_untyped s.program.now s.method.0 s.code.now position (state_at i.store s.frame known) (state_at i.store s.frame state)
@@ -151,7 +153,7 @@ joint_fits s i j position known state (Some both) subject is states marks caught
 -- a position is given other types, and the store is as it was
 pub raised_reached : (s : Subject) (i j : Inference) (position : ℕ) (made : State) (readable : Bool) → IsSubject s → IsInference s i → position < length s.code.now.bytes → IsRaising s i position made
     → readable ≡ are_readable s.code.now (state_at i.store s.frame made) → readable ≡ true → j.states.items ≡ slice_set i.states.items position (Some made)
-    → j.marked.items ≡ slice_set i.marked.items position true → j.caught.items ≡ i.caught.items → i.store ≡ j.store → Reaches s i j position made
+    → Updates nat_cmp i.marked j.marked position true → j.caught.items ≡ i.caught.items → i.store ≡ j.store → Reaches s i j position made
 raised_reached s i j position made readable subject is within raising read passed states marks caught same =
     let operands = readable_operands s.code.now (state_at i.store s.frame made) (sym read ∙ passed) in
     let put : IsPutIn s i j position made = record {

@@ -1,7 +1,10 @@
 -- What an inference knows once a position has other types, or its store has more.
-use Rattle.std.proofs.Common.{Bool, List, None, Option, Some, [], ap, arith, false, get_or, length, refl, suc, sym, true, zero, ℕ, ◌<◌, ◌∙◌, ◌∷◌, ◌≡◌}
+use Rattle.std.proofs.Common.{List, None, Option, Some, [], ap, arith, get_or, length, refl, suc, sym, true, zero, ℕ, ◌<◌, ◌∙◌, ◌∷◌, ◌≡◌}
+use Rattle.std.specs.BTreeSet.{Updates}
+use Rattle.std.specs.Ordering.{nat_cmp}
 use Rattle.std.specs.Prelude.{option_map, slice_set}
 use Rattle.vx_list.specs.Places.{item_or}
+use Rattle.vx_verify.proofs.Marks.{mark_elsewhere, mark_here}
 use Rattle.vx_verify.proofs.Putting.{IsPutAt}
 use Rattle.vx_verify.proofs.StoreLaws.{state_kept}
 use Rattle.vx_verify.specs.Inference.{known_of, marked_of, state_of}
@@ -45,16 +48,16 @@ known_kept s i j is later (Some state) stands = ap Some (state_kept i.store j.st
 -- ---- a position is put
 
 pub known_put : (s : Subject) (i j : Inference) (position : ℕ) (made : State) → j.states.items ≡ slice_set i.states.items position (Some made)
-    → j.marked.items ≡ slice_set i.marked.items position true → position < length i.states.items → position < length i.marked.items → IsStore i.store → IsLater i.store j.store
+    → Updates nat_cmp i.marked j.marked position true → position < length i.states.items → IsStore i.store → IsLater i.store j.store
     → ((q : ℕ) (state : State) → state_of i q ≡ Some state → Stands i.store s.frame state)
     → IsPutAt (known_of s i) (known_of s j) (marked_of i) (marked_of j) position (state_at j.store s.frame made)
-known_put s i j position made states marks within marked is later stands = record {
+known_put s i j position made states marks within is later stands = record {
   here = ap (λ (xs : List (Option State)). option_map (state_at j.store s.frame) (item_or xs position None)) states
       ∙ ap (option_map (state_at j.store s.frame)) (item_set_here i.states.items position (Some made) None within);
   elsewhere = λ q other.
       ap (λ (xs : List (Option State)). option_map (state_at j.store s.frame) (item_or xs q None)) states
       ∙ ap (option_map (state_at j.store s.frame)) (item_set_elsewhere i.states.items position q (Some made) None other)
       ∙ known_kept s i j is later (state_of i q) (stands q);
-  mark = ap (λ (xs : List Bool). item_or xs position false) marks ∙ item_set_here i.marked.items position true false marked;
-  marks = λ q other. ap (λ (xs : List Bool). item_or xs q false) marks ∙ item_set_elsewhere i.marked.items position q true false other;
+  mark = mark_here i.marked j.marked position true marks;
+  marks = λ q other. mark_elsewhere i.marked j.marked position q true marks other;
 }

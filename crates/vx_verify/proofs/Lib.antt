@@ -11,6 +11,7 @@ pub mod Reaching
 pub mod Putting
 pub mod VerdictLaws
 pub mod Following
+pub mod Marks
 pub mod Known
 pub mod Reached
 pub mod Entries
@@ -22,4 +23,3 @@ pub mod Steps
 pub mod Sweeps
 pub mod SpanLaws
 pub mod QuietLaws
-pub mod RankLaws

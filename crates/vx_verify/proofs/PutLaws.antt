@@ -9,8 +9,8 @@ use Rattle.vx_list.specs.Places.{item_or}
 use Rattle.vx_numbered.proofs.Growing.{grows_by_one, grows_itself, item_last, one_longer}
 use Rattle.vx_numbered.proofs.ChainLaws.{chain_step, no_chain}
 use Rattle.vx_numbered.proofs.TreeLaws.{halves_grow, halves_of, leaves_grow, leaves_of_halves, leaves_of_leaf, made_of_pair, tree_high, tree_low, tree_of_leaf}
-use Rattle.vx_numbered.specs.Chains.{IsPushed, chain_of, words_at}
-use Rattle.vx_numbered.specs.Trees.{Grows, IsTree, pair_at}
+use Rattle.vx_numbered.specs.Chains.{IsKnownStack, IsPushed, chain_of, words_at}
+use Rattle.vx_numbered.specs.Trees.{Grows, IsPaired, pair_at}
 use Rattle.vx_numbered.specs.declared.chains.Link.{Link}
 use Rattle.vx_numbered.specs.declared.trees.Pair.{Pair}
 use Rattle.vx_types.proofs.CommonLaws.{common_of_fitted, common_of_fitting}
@@ -64,6 +64,10 @@ has_type s t number item is put trees chains e =
       is = ap (λ n. type_at t n) e ∙ ap (λ (xs : List VerType). item_or xs (length s.types.items) Top) put ∙ item_last s.types.items item Top;
     }
 
+-- a type that is known
+pub has_known_type : (s : Store) (number : ℕ) (item : VerType) → IsStore s → (number < length s.types.items) × (type_at s number ≡ item) → HasType s s number item
+has_known_type s number item is known = record { later = later_itself s is; within = known.0; is = known.1 }
+
 -- ---- operands
 
 pub has_pushed : (s t : Store) (link : Link) (stack : ℕ) → IsStore s → t.types.items ≡ s.types.items → t.trees.pairs.items ≡ s.trees.pairs.items
@@ -90,6 +94,10 @@ has_pushed s t link stack is types trees put top under words =
           ∙ ap (λ (x : VerType). x ∷ types_at t (chain_of s.chains.links.items link.under)) same_top
           ∙ ap (λ (xs : List VerType). type_at s link.top ∷ xs) (types_kept s t (chain_of s.chains.links.items link.under) g (stack_types s link.under is under));
     }
+
+-- a stack that is known
+pub has_known : (s : Store) (top under stack : ℕ) → IsStore s → IsKnownStack s.chains.links.items top under stack → HasStack s s stack (type_at s top ∷ operands_at s under)
+has_known s top under stack is known = record { later = later_itself s is; within = known.within; is = ap (types_at s) known.chain }
 
 -- ---- what two numbers have in common
 
@@ -232,28 +240,27 @@ halves_kept p s t u levels one other low high m e f =
     ∙ ap (λ k. row_at u n low ++ row_at u n k) (sym f) in
     halves_common p s t u u levels one other low high one m (later_itself u m.above.later.store) (row_kept s u levels one later m.row) has
 
--- a new pair
+-- a pair of both
 pub halves_put : (p : Program) (s t u v : Store) (levels one other low high tree : ℕ) → AreMergedHalves p s t u levels one other low high → v.types.items ≡ u.types.items
-    → v.chains.links.items ≡ u.chains.links.items → v.trees.pairs.items ≡ u.trees.pairs.items ++ record { low = low; high = high } ∷ [] → tree ≡ length u.trees.pairs.items
-    → IsCommonRow p s v levels one other tree
-halves_put p s t u v levels one other low high tree m types links pairs e =
+    → v.chains.links.items ≡ u.chains.links.items → IsPaired u.trees.pairs.items v.trees.pairs.items low high tree → IsCommonRow p s v levels one other tree
+halves_put p s t u v levels one other low high tree m types links put =
     let n = levels - 1 in
     let g : Grows u.types.items v.types.items = subst (λ (xs : List VerType). Grows u.types.items xs) (sym types) (grows_itself u.types.items) in
     let low_row : IsRow u n low = row_kept t u n low m.above.later m.below.row in
-    let made = made_of_pair u.trees.pairs.items v.trees.pairs.items levels n low high (omega (arith, m.some)) pairs low_row.is_tree m.above.row.is_tree in
+    let made = made_of_pair u.trees.pairs.items v.trees.pairs.items levels n low high tree (omega (arith, m.some)) put low_row.is_tree m.above.row.is_tree in
     let later : IsLater u v = record {
       types = g;
       pairs = made.grows;
       links = subst (λ (ls : List Link). Grows u.chains.links.items ls) (sym links) (grows_itself u.chains.links.items);
       store = store_grown u v m.above.later.store g links;
     } in
-    let whole : row_at v levels tree ≡ row_at u n low ++ row_at u n high = ap (λ k. row_at v levels k) e ∙ made.has in
+    let whole : row_at v levels tree ≡ row_at u n low ++ row_at u n high = made.has in
     let has : row_at v levels tree ≡ row_at v n low ++ row_at v n high =
     whole
     ∙ ap (λ ns. ns ++ row_at u n high) (sym (leaves_grow u.trees.pairs.items v.trees.pairs.items n low later.pairs low_row.is_tree))
     ∙ ap (λ ns. row_at v n low ++ ns) (sym (leaves_grow u.trees.pairs.items v.trees.pairs.items n high later.pairs m.above.row.is_tree)) in
     let row : IsRow v levels tree = record {
-      is_tree = subst (λ k. IsTree v.trees.pairs.items levels k) (sym e) made.is_tree;
+      is_tree = made.is_tree;
       are_types = subst (λ ns. AreTypes v ns) (sym whole)
           (subst (λ (xs : List VerType). All (λ k. k < length xs) (row_at u n low ++ row_at u n high)) (sym types)
           (All-append (λ k. k < length u.types.items) (row_at u n low) (row_at u n high) low_row.are_types m.above.row.are_types));

@@ -2,8 +2,10 @@
 use Rattle.std.proofs.Common.{Bool, List, [], ap, arith, false, refl, subst, sym, true, ℕ, ◌<◌, ◌∙◌, ◌∷◌, ◌≡◌, ◌≤◌}
 use Rattle.std.proofs.lemmas.Bool.{eqb-true, leb-true, ltb-true}
 use Rattle.std.proofs.lemmas.List.Elements.{All-cons, All-head, All-nil, All-tail, All-weaker}
+use Rattle.std.specs.BTreeSet.{Updates}
 use Rattle.std.specs.Bool.{MatchBool}
-use Rattle.std.specs.Prelude.{All, Some, nat_le, nat_lt, slice_set, ◌&&◌, ◌==◌, ◌||◌}
+use Rattle.std.specs.Ordering.{nat_cmp}
+use Rattle.std.specs.Prelude.{All, Some, nat_le, nat_lt, ◌&&◌, ◌==◌, ◌||◌}
 use Rattle.vx_class.specs.declared.class_file.Catch.{Catch}
 use Rattle.vx_java.specs.Selection.{covers}
 use Rattle.vx_types.proofs.Tests.{both_first, both_second, not_both}
@@ -112,7 +114,7 @@ quiet_looked s i j k at before q false looks h = h
 
 -- nothing is known at a position, and it loses its mark
 pub unmarked_quiet : (s : Subject) (i j : Inference) (at : ℕ) (q : Quiet) → IsSubject s → IsInference s i → j.store ≡ i.store → j.states.items ≡ i.states.items → j.caught.items ≡ i.caught.items
-    → j.marked.items ≡ slice_set i.marked.items at false → ((x : VerState) → known_of s i at ≡ Some x → IsClosedAt s.program.now s.method.0 s.code.now (known_of s i) at x) → IsQuiet s i q
+    → Updates nat_cmp i.marked j.marked at false → ((x : VerState) → known_of s i at ≡ Some x → IsClosedAt s.program.now s.method.0 s.code.now (known_of s i) at x) → IsQuiet s i q
     → QuietGoes s i j q
 unmarked_quiet s i j at q subject is store states caught marks done quiet =
     let goes = unmarked_goes s i j at subject is store states caught marks done in (goes, quiet_later s i j q subject is goes quiet)

@@ -1,6 +1,8 @@
 -- An inference after a position was given higher types: it keeps what it kept, and the position is reached.
 use Rattle.std.proofs.Common.{List, None, Option, Some, [], ap, length, length-set, subst, sym, true, ℕ, inl, inr, ◌<◌, ◌⊎◌, ◌∙◌, ◌∷◌, ◌≡◌}
+use Rattle.std.specs.BTreeSet.{Updates}
 use Rattle.std.specs.List.{AllZip}
+use Rattle.std.specs.Ordering.{nat_cmp}
 use Rattle.std.specs.Prelude.{slice_set}
 use Rattle.vx_class.specs.declared.class_file.Catch.{Catch}
 use Rattle.vx_link.specs.declared.program.Program.{Program}
@@ -9,6 +11,7 @@ use Rattle.vx_types.specs.Fits.{StateFits}
 use Rattle.vx_types.specs.Types.{VerState}
 use Rattle.vx_verify.proofs.Forcing.{same_some}
 use Rattle.vx_verify.proofs.Known.{item_set_elsewhere, item_set_here, known_put}
+use Rattle.vx_verify.proofs.Marks.{marks_within}
 use Rattle.vx_verify.proofs.Putting.{IsPutAt, is_or_not, put_inferred, put_raised}
 use Rattle.vx_verify.proofs.StoreLaws.{operands_kept, stack_kept, stands_kept}
 use Rattle.vx_verify.specs.Forced.{IsForced}
@@ -34,7 +37,7 @@ no_row = record { start = 0; end = 0; handler = 0; class = 0 }
 -- the states and the marks of an inference after a position was put
 pub record IsPutIn (s : Subject) (i j : Inference) (position : ℕ) (made : State) : Type 0 where
   pub states : j.states.items ≡ slice_set i.states.items position (Some made)
-  pub marks : j.marked.items ≡ slice_set i.marked.items position true
+  pub marks : Updates nat_cmp i.marked j.marked position true
   pub caught : j.caught.items ≡ i.caught.items
   pub within : position < length s.code.now.bytes
   pub later : IsLater i.store j.store
@@ -66,14 +69,14 @@ put_goes s i j position made subject is put =
     let p = s.program.now in
     let new = state_at j.store s.frame made in
     let at : IsPutAt (known_of s i) (known_of s j) (marked_of i) (marked_of j) position new =
-    known_put s i j position made put.states put.marks (subst (λ n. position < n) (sym is.states) put.within) (subst (λ n. position < n) (sym is.marks) put.within)
+    known_put s i j position made put.states put.marks (subst (λ n. position < n) (sym is.states) put.within)
     is.store put.later is.stands in
     let raised = put_raised p subject.ranked (known_of s i) (known_of s j) (marked_of i) (marked_of j) position new at put.above in
     record {
       inference = record {
         store = put.later.store;
         states = ap length put.states ∙ length-set i.states.items position (Some made) ∙ is.states;
-        marks = ap length put.marks ∙ length-set i.marked.items position true ∙ is.marks;
+        marks = marks_within i.marked j.marked position (length s.code.now.bytes) true put.marks (λ e. put.within) is.marks;
         stands = stands_after s i j position made is put;
         caught = subst (λ (ns : List ℕ). AllZip (IsCaught p s.method.0 j.store) s.code.now.catches ns) (sym put.caught)
             (caught_kept p s.method.0 i.store j.store is.store put.later s.code.now.catches i.caught.items is.caught);

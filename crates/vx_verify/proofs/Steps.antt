@@ -178,7 +178,7 @@ pub record IsMade (s : Subject) (i j : Inference) (row : Row) (before made : Sta
   pub stands : Stands j.store s.frame made
   pub makes : after s.program.now row (state_at i.store s.frame before) ≡ Some (state_at j.store s.frame made)
 
-pub is_made : (s : Subject) (i j : Inference) (row : Row) (before made : State) → j.states.items ≡ i.states.items → j.marked.items ≡ i.marked.items → j.caught.items ≡ i.caught.items
+pub is_made : (s : Subject) (i j : Inference) (row : Row) (before made : State) → j.states.items ≡ i.states.items → j.marked ≡ i.marked → j.caught.items ≡ i.caught.items
     → HasState i.store j.store s.frame (Some made) (after s.program.now row (state_at i.store s.frame before)) → IsMade s i j row before made
 is_made s i j row before made states marks caught h = by (after s.program.now row (state_at i.store s.frame before)) refl h
   where

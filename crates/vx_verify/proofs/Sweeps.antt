@@ -1,9 +1,10 @@
 -- Visits of marked positions, sweeps over all positions, and what is known at the beginning and at the end.
 use Rattle.std.proofs.Common.{Bool, List, None, Option, Some, [], ap, arith, false, get_or, inl, inr, length, length-set, refl, subst, suc, sym, take, true, zero, ℕ, ◌++◌, ◌+◌, ◌<◌, ◌⊎◌, ◌∙◌, ◌∷◌, ◌≡◌, ◌≤◌}
-use Rattle.std.proofs.lemmas.Bool.{cases_lt}
 use Rattle.std.proofs.lemmas.List.{take_all, take_more}
+use Rattle.std.specs.BTreeSet.{BTreeSet, IsEmpty, Updates}
 use Rattle.std.specs.Bool.{MatchBool}
 use Rattle.std.specs.List.{AllZip}
+use Rattle.std.specs.Ordering.{nat_cmp}
 use Rattle.std.specs.Prelude.{All, Err, Ok, Result, ok_or, option_map, replicate, slice_set}
 use Rattle.vx_class.specs.declared.class_file.Catch.{Catch}
 use Rattle.vx_class.specs.declared.class_file.Code.{Code}
@@ -25,11 +26,11 @@ use Rattle.vx_verify.proofs.Forcing.{same_some, start_forced}
 use Rattle.vx_verify.proofs.Inferring.{inferred_typing, leads_raised, raised_itself}
 use Rattle.vx_verify.proofs.Joints.{goes_through, state_known}
 use Rattle.vx_verify.proofs.Known.{item_set_elsewhere, item_set_here}
-use Rattle.vx_verify.proofs.LocalLaws.{item_past}
+use Rattle.vx_verify.proofs.Marks.{mark_elsewhere, mark_here, marks_within, none_within}
 use Rattle.vx_verify.proofs.Putting.{is_or_not, unmarked_inferred}
 use Rattle.vx_verify.proofs.Reached.{caught_kept}
 use Rattle.vx_verify.proofs.StoreLaws.{later_itself, later_through, stands_kept, state_kept}
-use Rattle.vx_verify.specs.Inference.{AreCaught, AreHandled, Goes, HasNoTyping, IsCaught, IsClosedIn, IsDecoded, IsFollowed, IsForcedIn, IsInference, IsLooked, IsSubject, IsSwept, known_of, marked_of, state_of}
+use Rattle.vx_verify.specs.Inference.{AreCaught, AreHandled, Goes, HasNoTyping, IsCaught, IsClosedIn, IsDecoded, IsFollowed, IsForcedIn, IsInference, IsLooked, IsNext, IsSubject, IsSwept, known_of, marked_of, state_of}
 use Rattle.vx_verify.specs.Inferred.{AreInferred, AreRaised, IsClosedAt}
 use Rattle.vx_verify.specs.States.{HasStack, IsLater, IsStore, Stands, state_at}
 use Rattle.vx_verify.specs.Typing.{AreOperands, IsCodeTyped, IsReached, caught, handler_state, start_locals, start_state}
@@ -87,18 +88,18 @@ undecoded_has_none s at x subject forced none = undecoded_untyped s.program.now 
 
 -- a position loses its mark, and all else is as it was
 pub unmarked_goes : (s : Subject) (i j : Inference) (at : ℕ) → IsSubject s → IsInference s i → j.store ≡ i.store → j.states.items ≡ i.states.items → j.caught.items ≡ i.caught.items
-    → j.marked.items ≡ slice_set i.marked.items at false → ((x : VerState) → known_of s i at ≡ Some x → IsClosedAt s.program.now s.method.0 s.code.now (known_of s i) at x) → Goes s i j
+    → Updates nat_cmp i.marked j.marked at false → ((x : VerState) → known_of s i at ≡ Some x → IsClosedAt s.program.now s.method.0 s.code.now (known_of s i) at x) → Goes s i j
 unmarked_goes s i j at subject is store states caught marks done =
     let p = s.program.now in
     let later : IsLater i.store j.store = subst (λ (st : Store). IsLater i.store st) (sym store) (later_itself i.store is.store) in
     let known : known_of s j ≡ known_of s i = λ x q. option_map (state_at (store x) s.frame) (item_or (states x) q None) in
     let others : (q : ℕ) → ¬ (q ≡ at) → marked_of j q ≡ marked_of i q =
-    λ q other. ap (λ (xs : List Bool). item_or xs q false) marks ∙ item_set_elsewhere i.marked.items at q false false other in
+    λ q other. mark_elsewhere i.marked j.marked at q false marks other in
     record {
       inference = record {
         store = later.store;
         states = ap length states ∙ is.states;
-        marks = ap length marks ∙ length-set i.marked.items at false ∙ is.marks;
+        marks = marks_within i.marked j.marked at (length s.code.now.bytes) false marks (λ e. absurd cc) is.marks;
         stands = λ q state e.
             stands_kept i.store j.store s.frame state later (is.stands q state (sym (ap (λ (xs : List (Option State)). item_or xs q None) states) ∙ e));
         caught = subst (λ (ns : List ℕ). AllZip (IsCaught p s.method.0 j.store) s.code.now.catches ns) (sym caught)
@@ -126,23 +127,21 @@ closed_later s i k at before is stands l =
 
 -- ---- sweeps
 
-pub record IsSweeping (s : Subject) (i : Inference) (at : ℕ) (found : Bool) : Type 0 where
+-- positions before one were looked at
+pub record IsSweeping (s : Subject) (i : Inference) (from : ℕ) (found : Bool) : Type 0 where
   pub inference : IsInference s i
-  pub unmarked : found ≡ false → (q : ℕ) → q < at → marked_of i q ≡ false
+  pub within : from ≤ length s.code.now.bytes
+  pub first : found ≡ false → from ≡ 0
 
 pub sweeping_start : (s : Subject) (i : Inference) → IsInference s i → IsSweeping s i 0 false
-sweeping_start s i is = record { inference = is; unmarked = λ e q l. absurd (omega (arith, l)) }
+sweeping_start s i is = record { inference = is; within = omega arith; first = λ e. refl }
 
-pub sweeping_step : (s : Subject) (i j : Inference) (at : ℕ) → Goes s i j → IsSweeping s j (at + 1) true
-sweeping_step s i j at goes = record { inference = goes.inference; unmarked = λ e q l. absurd cc }
+pub sweeping_step : (s : Subject) (i j : Inference) (at : ℕ) → Goes s i j → at < length s.code.now.bytes → IsSweeping s j (at + 1) true
+sweeping_step s i j at goes l = record { inference = goes.inference; within = omega (arith, l); first = λ e. absurd cc }
 
-pub swept : (s : Subject) (i : Inference) (at : ℕ) (found : Bool) → IsSweeping s i at found → length s.code.now.bytes ≤ at → IsSwept s i (Some found)
-swept s i at true sweeping l = sweeping.inference
-swept s i at false sweeping l = (sweeping.inference, λ q. by q (cases_lt q (length s.code.now.bytes)))
-  where
-    by : (q : ℕ) → (q < length s.code.now.bytes) ⊎ (length s.code.now.bytes ≤ q) → marked_of i q ≡ false
-    by q (inl k) = sweeping.unmarked refl q (omega (arith, k, l))
-    by q (inr k) = let marks = sweeping.inference.marks in item_past i.marked.items q false (omega (arith, marks, k))
+pub swept : (s : Subject) (i : Inference) (from : ℕ) (found : Bool) → IsSweeping s i from found → IsNext i.marked from None → IsSwept s i (Some found)
+swept s i from true sweeping next = sweeping.inference
+swept s i from false sweeping next = let first = sweeping.first refl in (sweeping.inference, λ q. next q (omega (arith, first)))
 
 -- what a sweep found
 pub some_swept : (s : Subject) (i : Inference) (o : Option Bool) (found b : Bool) → o ≡ Some found → found ≡ b → IsSwept s i o → IsSwept s i (Some b)
@@ -178,13 +177,13 @@ pub repeated_length : {A : Type 0} (n : ℕ) (d : A) → length (replicate n d) 
 repeated_length zero d = refl
 repeated_length (suc n) d = ap suc (repeated_length n d)
 
-pub beginning : (s : Subject) (i : Inference) (start : State) → IsSubject s → IsStore i.store → i.states.items ≡ slice_set (replicate (length s.code.now.bytes) None) 0 (Some start)
-    → i.marked.items ≡ slice_set (replicate (length s.code.now.bytes) false) 0 true → AllZip (IsCaught s.program.now s.method.0 i.store) s.code.now.catches i.caught.items
+pub beginning : (s : Subject) (i : Inference) (start : State) (none : BTreeSet ℕ) → IsSubject s → IsStore i.store
+    → i.states.items ≡ slice_set (replicate (length s.code.now.bytes) None) 0 (Some start) → IsEmpty none → Updates nat_cmp none i.marked 0 true → AllZip (IsCaught s.program.now s.method.0 i.store) s.code.now.catches i.caught.items
     → Stands i.store s.frame start → state_at i.store s.frame start ≡ start_state s.program.now s.method.0 s.code.now → IsInference s i
-beginning s i start subject store states marks caught stands is = record {
+beginning s i start none subject store states empty marks caught stands is = record {
   store = store;
   states = ap length states ∙ length-set (replicate n None) 0 (Some start) ∙ repeated_length n None;
-  marks = ap length marks ∙ length-set (replicate n false) 0 true ∙ repeated_length n false;
+  marks = marks_within none i.marked 0 n true marks (λ e. subject.some) (none_within none n empty);
   stands = λ q state e. standing q state e (is_or_not q 0);
   caught = caught;
   inferred = record {
@@ -213,10 +212,7 @@ beginning s i start subject store states marks caught stands is = record {
         ∙ item_set_here (replicate n None) 0 (Some start) None (subst (λ m. 0 < m) (sym (repeated_length n None)) some)
 
     marked_first : marked_of i 0 ≡ true
-    marked_first =
-        let some = subject.some in
-        ap (λ (xs : List Bool). item_or xs 0 false) marks
-        ∙ item_set_here (replicate n false) 0 true false (subst (λ m. 0 < m) (sym (repeated_length n false)) some)
+    marked_first = mark_here none i.marked 0 true marks
 
     others : (q : ℕ) → ¬ (q ≡ 0) → state_of i q ≡ None
     others q other =

@@ -1,5 +1,7 @@
 -- What an inference keeps, and what its steps do.
+use Rattle.std.specs.BTreeSet.{BTreeSet, contains}
 use Rattle.std.specs.List.{AllZip}
+use Rattle.std.specs.Ordering.{nat_cmp}
 use Rattle.std.specs.Prelude.{All, Bool, List, None, Option, Some, [], false, length, option_map, true, ℕ, ◌&&◌, ◌+◌, ◌<◌, ◌==◌, ◌^◌, ◌∷◌, ◌≡◌, ◌≤◌}
 use Rattle.vx_class.specs.declared.class_file.Catch.{Catch}
 use Rattle.vx_class.specs.declared.class_file.Code.{Code}
@@ -66,7 +68,17 @@ abbrev pub known_of : Subject → Inference → ℕ → Option VerState
 known_of s i position = option_map (state_at i.store s.frame) (state_of i position)
 
 abbrev pub marked_of : Inference → ℕ → Bool
-marked_of i position = item_or i.marked.items position false
+marked_of i position = contains nat_cmp i.marked position
+
+-- each position of a set lies in a code of so many bytes
+abbrev pub AreWithin : ℕ → BTreeSet ℕ → Type 0
+AreWithin n marked = (position : ℕ) → contains nat_cmp marked position ≡ true → position < n
+
+-- the least position of a set from one on, if there is one
+abbrev pub IsNext : BTreeSet ℕ → (from : ℕ) → Option ℕ → Type 0
+IsNext marked from None = (position : ℕ) → from ≤ position → contains nat_cmp marked position ≡ false
+IsNext marked from (Some next) =
+    (from ≤ next) × (contains nat_cmp marked next ≡ true) × ((position : ℕ) → from ≤ position → position < next → contains nat_cmp marked position ≡ false)
 
 -- the one operand with which the handler of a row begins
 abbrev pub IsCaught : Program → (method : ℕ) → Store → Catch → ℕ → Type 0
@@ -76,11 +88,11 @@ pub record AreCaught (p : Program) (m : ℕ) (s t : Store) (rows : List Catch) (
   pub later : IsLater s t
   pub these : AllZip (IsCaught p m t) rows caught
 
--- a place for each byte of the code, and what is known is had by each typing
+-- a place for each byte of the code, marks in it, and what is known is had by each typing
 pub record IsInference (s : Subject) (i : Inference) : Type 0 where
   pub store : IsStore i.store
   pub states : length i.states.items ≡ length s.code.now.bytes
-  pub marks : length i.marked.items ≡ length s.code.now.bytes
+  pub marks : AreWithin (length s.code.now.bytes) i.marked
   pub stands : (position : ℕ) (state : State) → state_of i position ≡ Some state → Stands i.store s.frame state
   pub caught : AllZip (IsCaught s.program.now s.method.0 i.store) s.code.now.catches i.caught.items
   pub inferred : AreInferred s.program.now s.method.0 s.code.now (known_of s i) (marked_of i)

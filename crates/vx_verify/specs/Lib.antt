@@ -8,4 +8,3 @@ pub mod Joining
 pub mod Inference
 pub mod Spans
 pub mod Quieting
-pub mod Ranks

@@ -3,11 +3,11 @@
 
 ghost use Rattle.std.specs.Bool.{MatchBool};
 ghost use Rattle.std.specs.List.{list_all};
-ghost use Rattle.std.specs.Prelude.{◌≡◌, ◌<◌, ◌≤◌, ◌^◌, ◌&&◌, ◌==◌, IfOk, None, Some, false, length, nat_le, nat_lt, replicate, true};
+ghost use Rattle.std.specs.Prelude.{◌≡◌, ◌<◌, ◌≤◌, ◌^◌, ◌&&◌, ◌==◌, IfOk, None, Some, length, nat_le, nat_lt, replicate, true};
 ghost use Rattle.vx_java.specs.Ids.{HasClassNumbers};
 ghost use Rattle.vx_types.specs.Flow.{stack_size, targets_of};
 ghost use Rattle.vx_types.specs.Ranked.{IsRanked};
-ghost use Rattle.vx_verify.specs.Inference.{AreCaught, AreForced, AreHandled, AreReached, Goes, HasMerged, HasNoTyping, IsCaught, IsClosedIn, IsDecoded, IsFollowed, IsForcedIn, IsHandled, IsInference, IsJoint, IsLooked, IsRaising, IsSubject, IsSwept, Leads, Reaches, caught_state, is_last, joint_of, known_of, state_of};
+ghost use Rattle.vx_verify.specs.Inference.{AreCaught, AreForced, AreHandled, AreReached, Goes, HasMerged, HasNoTyping, IsCaught, IsClosedIn, IsDecoded, IsFollowed, IsForcedIn, IsHandled, IsInference, IsJoint, IsLooked, IsNext, IsRaising, IsSubject, IsSwept, Leads, Reaches, caught_state, is_last, joint_of, known_of, state_of};
 ghost use Rattle.vx_verify.specs.Quieting.{IsQuiet, QuietGoes, QuietHandled, QuietLooked};
 ghost use Rattle.vx_verify.specs.States.{IsStack, IsStore, Stands, operands_at, state_at};
 ghost use Rattle.vx_verify.specs.Typing.{IsCodeTyped, is_known};
@@ -17,6 +17,7 @@ use crate::rows::{Frame, State, after};
 use crate::start::{caught_by, levels_of, start_state};
 use crate::store::Store;
 use std::alloc::{AllocError, Global};
+use std::collections::BTreeSet;
 use vx_class::{Catch, Code};
 use vx_java::decoding::operation;
 use vx_java::{Operation, covers};
@@ -31,7 +32,7 @@ use vx_value::MethodId;
 struct Inference {
     store: Store,
     states: Vec<Option<State>>,
-    marked: Vec<bool>,
+    marked: BTreeSet<u32>,
     /// The operands with which the handler of each catch row begins.
     caught: Vec<u32>,
 }
@@ -150,13 +151,6 @@ fn no_states(alloc: Global, count: usize) -> Result<Vec<Option<State>>, AllocErr
     vec![in alloc; None; count]
 }
 
-/// No marks.
-fn no_marks(alloc: Global, count: usize) -> Result<Vec<bool>, AllocError>
-    ensures { IfOk result (λ marks. marks.items ≡ replicate count false) }
-{
-    vec![in alloc; false; count]
-}
-
 impl Inference {
     /// Nothing is known but the types at the start of the code.
     fn new(alloc: Global, subject: &Subject) -> Result<Inference, AllocError>
@@ -170,9 +164,9 @@ impl Inference {
         let caught = caught_by_rows(alloc, &mut store, program, method, rows)?;
         let start = start_state(alloc, &mut store, program, method, subject.frame)?;
         let mut states = no_states(alloc, subject.code.bytes.len())?;
-        let mut marked = no_marks(alloc, subject.code.bytes.len())?;
+        let mut marked = BTreeSet::new(alloc);
         states[0] = Some(start);
-        marked[0] = true;
+        marked.insert(0)?;
         Ok(Inference {
             store,
             states,
@@ -205,19 +199,19 @@ impl Inference {
     }
 
     /// Puts higher types at a position of the code. The answer is false where no method can have them.
-    fn raise(&mut self, subject: &Subject, position: u32, made: State) -> bool
+    fn raise(&mut self, subject: &Subject, position: u32, made: State) -> Result<bool, AllocError>
         requires subject { IsSubject subject.now }
         requires inference { IsInference subject.now self.old }
         requires position { position < length subject.now.code.now.bytes }
         requires raising { IsRaising subject.now self.old position made }
-        ensures { MatchBool result (Reaches subject.now self.old self.new position made) (HasNoTyping subject.now) }
+        ensures { IfOk result (λ raised. MatchBool raised (Reaches subject.now self.old self.new position made) (HasNoTyping subject.now)) }
     {
         if !is_readable(&self.store, subject.code.max_stack, made.operands) {
-            return false;
+            return Ok(false);
         }
         self.states[position as usize] = Some(made);
-        self.marked[position as usize] = true;
-        true
+        self.marked.insert(position)?;
+        Ok(true)
     }
 
     /// Merges types into those of a position. The answer is false where the method then has no typing, as where the position lies
@@ -242,7 +236,7 @@ impl Inference {
         match joint {
             Joint::Unlike => Ok(false),
             Joint::Same => Ok(true),
-            Joint::Raised(made) => Ok(self.raise(subject, position, made)),
+            Joint::Raised(made) => self.raise(subject, position, made),
         }
     }
 
@@ -443,7 +437,7 @@ impl Inference {
         if !is_same(now, before) {
             return;
         }
-        self.marked[at as usize] = false;
+        self.marked.remove(&at);
     }
 
     /// Looks at a marked position, which loses its mark unless that raises its own types.
@@ -461,7 +455,7 @@ impl Inference {
         ensures { IfOk result (λ looked. MatchBool looked (QuietGoes subject.now self.old self.new quiet.new) (HasNoTyping subject.now)) }
     {
         let Some(before) = self.states[at as usize] else {
-            self.marked[at as usize] = false;
+            self.marked.remove(&at);
             return Ok(true);
         };
         let looked = self.visit(alloc, subject, at, before, quiet)?;
@@ -472,6 +466,13 @@ impl Inference {
         Ok(true)
     }
 
+    /// The least marked position from one on.
+    fn next_marked(&self, from: u32) -> Option<u32>
+        ensures { IsNext self.now.marked from result }
+    {
+        self.marked.range(from..).next().copied()
+    }
+
     /// Looks at each marked position once, ascending. The answer is whether there was one, or `None` where the method has no typing.
     fn sweep(&mut self, alloc: Global, subject: &Subject) -> Result<Option<bool>, AllocError>
         requires subject { IsSubject subject.now }
@@ -480,15 +481,14 @@ impl Inference {
     {
         let mut found = false;
         let mut quiet = none_quiet();
-        for at in 0..subject.code.bytes.len() {
-            if !self.marked[at] {
-                continue;
-            }
+        let mut from = 0;
+        while let Some(at) = self.next_marked(from) {
             found = true;
-            let looked = self.step(alloc, subject, at as u32, &mut quiet)?;
+            let looked = self.step(alloc, subject, at, &mut quiet)?;
             if !looked {
                 return Ok(None);
             }
+            from = at + 1;
         }
         Ok(Some(found))
     }

@@ -3,10 +3,10 @@
 
 mod inference;
 mod quiet;
-mod ranks;
 mod rows;
 mod start;
 mod store;
+mod type_keys;
 mod verdict;
 
 pub use verdict::{Verdict, verify};

@@ -1,16 +1,19 @@
 //! The types of local variables and operands at many positions: each type by a number, local variables as the leaves of trees, and operands
-//! as chains.
+//! as chains. What comes again has its number again, so that equal rows and stacks are mostly the same ones, and are compared at once.
 
-ghost use Rattle.std.specs.Prelude.{◌≡◌, ◌<◌, ◌≤◌, ◌∷◌, All, IfOk, length};
+ghost use Rattle.std.specs.Prelude.{◌≡◌, ◌<◌, ◌≤◌, ◌∷◌, All, IfOk, IfSome, length};
 ghost use Rattle.vx_java.specs.Ids.{HasClassNumbers};
 ghost use Rattle.vx_types.specs.Ranked.{IsRanked};
+ghost use Rattle.vx_types.specs.declared.types.VerType.TheVariants.{Ref};
 ghost use Rattle.vx_verify.specs.Joining.{AreJoined, ArePartedStacks, IsApart, IsJoined, words_with};
 ghost use Rattle.vx_verify.specs.States.{AreCommonStacks, HasStack, HasType, IsCommonNumber, IsCommonRow, IsRow, IsStack, IsStore, operands_at, type_at};
 
+use crate::type_keys::{TypeKey, is_same_type, key_of};
+use indexmap::IndexMap;
 use std::alloc::{AllocError, Global};
 use vx_link::Program;
 use vx_numbered::{Chains, Trees, next_number};
-use vx_types::{VerType, common, fits};
+use vx_types::{ElementType, VerType, common, fits};
 
 /// The numbers of the four types that name no class.
 pub const TOP: u32 = 0;
@@ -52,6 +55,8 @@ struct Parted {
 #[derive(Drop)]
 pub struct Store {
     pub types: Vec<VerType>,
+    /// Under which number a type that names a class may be found. What is found there is looked at.
+    numbers: IndexMap<TypeKey, u32>,
     pub trees: Trees,
     pub chains: Chains,
 }
@@ -68,6 +73,7 @@ impl Store {
         types.push(VerType::Null)?;
         Ok(Store {
             types,
+            numbers: IndexMap::new(alloc),
             trees: Trees::new(alloc),
             chains: Chains::new(alloc),
         })
@@ -81,6 +87,42 @@ impl Store {
         &self.types[number as usize]
     }
 
+    /// The number of a type, if it is known.
+    fn known_type(&self, key: TypeKey, item: &VerType) -> Option<u32>
+        ensures { IfSome result (λ number. (number < length self.now.types.items) × (type_at self.now number ≡ item.now)) }
+    {
+        let number = *self.numbers.get(&key)?;
+        let known = self.types.get(number as usize)?;
+        if is_same_type(known, item) {
+            return Some(number);
+        }
+        None
+    }
+
+    /// A new number for a type.
+    fn put_anew(&mut self, key: TypeKey, item: VerType) -> Result<u32, AllocError>
+        requires { IsStore self.old }
+        ensures { IfOk result (λ number. HasType self.old self.new number item) }
+    {
+        let number = next_number(self.types.len())?;
+        self.numbers.insert(key, number)?;
+        self.types.push(item)?;
+        Ok(number)
+    }
+
+    /// The number of a type that names a class, which may be known.
+    fn put_ref(&mut self, dimensions: u32, element: ElementType) -> Result<u32, AllocError>
+        requires { IsStore self.old }
+        ensures { IfOk result (λ number. HasType self.old self.new number (Ref dimensions element)) }
+    {
+        let key = key_of(dimensions, &element);
+        let item = VerType::Ref(dimensions, element);
+        match self.known_type(key, &item) {
+            Some(number) => Ok(number),
+            None => self.put_anew(key, item),
+        }
+    }
+
     /// The number of a type.
     pub fn put_type(&mut self, item: VerType) -> Result<u32, AllocError>
         requires { IsStore self.old }
@@ -91,16 +133,25 @@ impl Store {
             VerType::Int => Ok(INT),
             VerType::Long => Ok(LONG),
             VerType::Null => Ok(NULL),
-            VerType::Ref(_, _) => {
-                let number = next_number(self.types.len())?;
-                self.types.push(item)?;
-                Ok(number)
-            }
+            VerType::Ref(dimensions, element) => self.put_ref(dimensions, element),
         }
     }
 
-    /// An operand on others.
+    /// An operand on others, as a stack that may be known.
     pub fn pushed(&mut self, top: u32, under: u32) -> Result<u32, AllocError>
+        requires store { IsStore self.old }
+        requires top { top < length self.old.types.items }
+        requires under { IsStack self.old under }
+        ensures { IfOk result (λ stack. HasStack self.old self.new stack (type_at self.old top ∷ operands_at self.old under)) }
+    {
+        match self.chains.known(top, under) {
+            Some(stack) => Ok(stack),
+            None => self.pushed_anew(top, under),
+        }
+    }
+
+    /// The same, as a stack of its own.
+    fn pushed_anew(&mut self, top: u32, under: u32) -> Result<u32, AllocError>
         requires store { IsStore self.old }
         requires top { top < length self.old.types.items }
         requires under { IsStack self.old under }
@@ -181,7 +232,7 @@ impl Store {
                 return Ok(one);
             }
         }
-        let tree = self.trees.put(low, high)?;
+        let tree = self.trees.paired(low, high)?;
         Ok(tree)
     }
 

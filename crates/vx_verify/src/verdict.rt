@@ -5,11 +5,11 @@ ghost use Rattle.std.specs.List.{list_all};
 ghost use Rattle.std.specs.Prelude.{◌≡◌, IfOk, option_copied, true};
 ghost use Rattle.vx_java.specs.Ids.{HasClassNumbers};
 ghost use Rattle.vx_link.specs.Parts.{method_at};
+ghost use Rattle.vx_types.specs.Ranked.{HasRanks};
 ghost use Rattle.vx_verify.specs.Typing.{IsTyped};
 ghost use Rattle.vx_verify.specs.Verdict.{CanBeTyped, IsVerdict, has_short_code};
 
 use crate::inference::is_typed;
-use crate::ranks::{are_ranked, ranks_of};
 use std::alloc::{AllocError, Global};
 use vx_class::Code;
 use vx_link::Program;
@@ -48,10 +48,12 @@ fn code_of(program: &Program, method: MethodId) -> Option<&Code>
     }
 }
 
-/// The verdict over a program whose classes have ranks.
-fn verdict_of(alloc: Global, program: &Program) -> Result<Verdict, AllocError>
-    requires { CanBeTyped program.now }
-    ensures { IfOk result (IsVerdict program.now) }
+/// Infers the types of each method that has code, in the order of their numbers. Memory may run out; a verdict is then not given.
+pub fn verify(alloc: Global, program: &Program) -> Result<Verdict, AllocError>
+    requires classes { HasClassNumbers program.now }
+    requires ranked { HasRanks program.now }
+    requires codes { list_all (λ m. has_short_code m.code) program.now.methods ≡ true }
+    ensures exact { IfOk result (IsVerdict program.now) }
 {
     for place in 0..program.methods.len() {
         let number = next_number(place)?;
@@ -62,19 +64,4 @@ fn verdict_of(alloc: Global, program: &Program) -> Result<Verdict, AllocError>
         }
     }
     Ok(Verdict::Yes)
-}
-
-/// Infers the types of each method that has code, in the order of their numbers. Memory may run out; a verdict is then not given. A
-/// program with a class above itself, which linking refuses, counts as one for which memory lacks.
-pub fn verify(alloc: Global, program: &Program) -> Result<Verdict, AllocError>
-    requires classes { HasClassNumbers program.now }
-    requires codes { list_all (λ m. has_short_code m.code) program.now.methods ≡ true }
-    ensures exact { IfOk result (IsVerdict program.now) }
-{
-    let ranks = ranks_of(alloc, program)?;
-    let ranked = are_ranked(program, &ranks)?;
-    if !ranked {
-        return Err(AllocError);
-    }
-    verdict_of(alloc, program)
 }

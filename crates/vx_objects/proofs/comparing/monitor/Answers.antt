@@ -1,4 +1,5 @@
 use Rattle.std.proofs.Common.{◌-◌, ◌<◌, ◌≤◌, ◌∙◌, arith, length}
+use Rattle.std.proofs.lemmas.Result.{IfOk-weaker}
 use Rattle.vx_families.proofs.Given.{IsGiven-extends, given_ready}
 use Rattle.vx_group_states.specs.Answers.{answer_cmp}
 use Rattle.vx_group_states.specs.Sites.{here}
@@ -18,7 +19,7 @@ use Rattle.vx_objects.proofs.comparing.monitor.Goals as goal
 pub returns-then-len-eq0-clause-ok : goal.returns-then-len-eq0-clause-ok
 returns-then-len-eq0-clause-ok g c =
     let none : length c.args.group.top.stack.conds < 1 = rw (← c.top_frame.ensures, ← c.len.ensures) (omega arith) in
-    few-attempts c.args.site.now Monitor monitor c.args.heap.now c.args.group c.requires 1 _ none monitor_none (c.in_ok-ended.ensures _)
+    IfOk-weaker c.illegal.result _ _ (λ r gives. few-attempts c.args.site.now Monitor monitor c.args.heap.now c.args.group c.requires 1 r.items.items none monitor_none (gives _)) c.illegal.ensures
 
 pub core_class-null-requires : goal.core_class-null-requires
 core_class-null-requires g c = c.requires.bounded.classes
@@ -39,7 +40,7 @@ pub carry_out-requires-clause-scope : goal.carry_out-requires-clause-scope
 carry_out-requires-clause-scope g c = c.in_ok-answers.ensures.scope ∙ operand_scope _ c.args.group _ c.top_operand.result.now c.requires.is_group c.top_operand.ensures
 
 pub returns-clause-extends : goal.returns-clause-extends
-returns-clause-extends g c = Extends-trans c.in_ok-answers.ensures.extends c.in_ok-outcomes.ensures.extends
+returns-clause-extends g c = Extends-trans c.in_ok-answers.ensures.extends c.carry_out.ensures.extends
 
 pub returns-clause-ok : goal.returns-clause-ok
 returns-clause-ok g c =
@@ -49,8 +50,10 @@ returns-clause-ok g c =
     let group = c.args.group in
     let null = c.core_class-null.result in
     let some : 1 ≤ length group.top.stack.conds = rw (← c.top_frame.ensures, ← c.len.ensures) (omega arith) in
-    made-attempts site Monitor monitor heap group c.requires 1 _ c.in_ok-answers.answers (λ slots. monitored null (item_or slots 0 Top)) some c.in_ok-answers.ensures.extends c.in_ok-outcomes.ensures.extends
+    IfOk-weaker c.carry_out.result _ _
+    (λ r gives. made-attempts site Monitor monitor heap group c.requires 1 r.items.items c.in_ok-answers.answers (λ slots. monitored null (item_or slots 0 Top)) some c.in_ok-answers.ensures.extends c.carry_out.ensures.extends
     (one_made Illegal answer_cmp s0 _ group (length group.top.stack.conds - 1) 0 c.top_operand.result.now (monitored null) _ c.in_ok-answers.answers (λ s a h. h) c.requires.is_group c.top_operand.ensures (omega (arith, some)) c.in_ok-answers.ensures.ok)
     (λ sets d slots h. monitor_held sets heap d null (item_or slots 0 Top))
     (λ tree d slots l h. monitor_row s0 heap d (here site (state_at s0 heap tree group d)) null slots c.core_class-null.ensures l)
-    c.in_ok-outcomes.ensures.gives
+    gives)
+    c.carry_out.ensures.gives

@@ -1,9 +1,9 @@
 use Rattle.std.proofs.Common.{ap, sym, ◌∙◌}
 use Rattle.vx_plain.specs.Views.{state_of}
 use Rattle.vx_plain_here.proofs.Comes.{comes_as}
+use Rattle.vx_plain_here.specs.Arguments.{are_on_top}
 use Rattle.vx_plain_here.specs.Rows.{here_in}
 use Rattle.vx_plain_natives.proofs.Given.{nothing_given, receiver_given, static_given}
-use Rattle.vx_plain_natives.specs.Arguments.{are_on_top}
 use Rattle.vx_plain_natives.proofs.carrying.carry_out.Goals as goal
 
 pub returns-then-not-are_there : goal.returns-then-not-are_there

@@ -6,6 +6,6 @@ use Rattle.vx_plain_rows.proofs.attempt.row_at.Goals as goal
 pub returns : goal.returns
 returns c =
     comes_as c.row_of.result _ _ _ _
-    (row_seen c.args.program.now (state_of c.args.state.now) c.args.code.now c.args.instruction.now c.pool_of-pool.result.now c.class_on_top-class.result.0 c.operation-does.result
-    c.class_on_top-class.ensures c.pool_of-pool.ensures c.operation-does.ensures)
+    (row_seen c.args.program.now (state_of c.args.state.now) c.args.code.now c.args.instruction.now c.pool_of-pool.result.now c.current_class-class.result.0 c.operation-does.result
+    c.current_class-class.ensures c.pool_of-pool.ensures c.operation-does.ensures)
     c.row_of.ensures

@@ -9,6 +9,6 @@ size_at-size-requires c = short_or_none c.args.program.now (state_of c.args.stat
 pub returns : goal.returns
 returns c =
     comes_as c.carry_out_by.result _ _ _ _
-    (at_call c.args.program.now (state_of c.args.state.now) c.args.method.0 c.code_at_call-code.result.now c.pool_of-pool.result.now c.class_on_top-class.result.0 c.position-position.result c.size_at-size.result
-    c.code_at_call-code.ensures c.class_on_top-class.ensures c.pool_of-pool.ensures c.position-position.ensures c.size_at-size.ensures)
+    (at_call c.args.program.now (state_of c.args.state.now) c.args.method.0 c.code_at_call-code.result.now c.pool_of-pool.result.now c.current_class-class.result.0 c.position-position.result c.size_at-size.result
+    c.code_at_call-code.ensures c.current_class-class.ensures c.pool_of-pool.ensures c.position-position.ensures c.size_at-size.ensures)
     c.carry_out_by.ensures

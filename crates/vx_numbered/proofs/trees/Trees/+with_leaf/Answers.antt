@@ -1,6 +1,6 @@
-use Rattle.std.proofs.Common.{arith, sym, suc, length, ◌-◌, ◌≡◌, ◌∙◌, ◌++◌, ◌∷◌, [], ℕ, slice_set}
-use Rattle.vx_numbered.proofs.TreeLaws.{above_half, made_alone, made_high, made_low, paired_high, paired_low, put_made, tree_high, tree_low, tree_within}
-use Rattle.vx_numbered.specs.Trees.{IsMade, leaves, pair_at}
+use Rattle.std.proofs.Common.{arith, suc, ◌-◌, ◌≡◌}
+use Rattle.std.proofs.lemmas.Result.{IfOk-weaker}
+use Rattle.vx_numbered.proofs.TreeLaws.{above_half, made_alone, made_high, made_low, paired_high, paired_low, tree_high, tree_low, tree_within}
 use Rattle.vx_numbered.proofs.trees.Trees.+with_leaf.Goals as goal
 
 pub returns-then-levels-eq0 : goal.returns-then-levels-eq0
@@ -29,12 +29,9 @@ returns-then-low-pair t c =
 
 pub returns-then-place-half : goal.returns-then-place-half
 returns-then-place-half t c =
-    let xs = c.args.self.now.pairs.items in
     let below : c.args.levels ≡ suc (c.args.levels - 1) = omega arith in
-    put_made (λ (made : ℕ). IsMade xs c.put.new.self.pairs.items c.args.levels made (slice_set (leaves xs c.args.levels c.args.tree) c.args.place c.args.leaf)) _ c.put.result
-    (length c.with_leaf.new.self.pairs.items) c.put.ensures.number c.put.ensures.pairs
-    (λ is. paired_low xs c.with_leaf.new.self.pairs.items c.put.new.self.pairs.items c.args.levels (c.args.levels - 1) c.args.tree c.args.place c.args.leaf c.in_ok-low.low below
-    (omega (arith, c.half_of-half.ensures)) c.requires.tree (rw c.pair-pair.ensures at c.in_ok-low.ensures) (rw c.pair-pair.ensures at is))
+    IfOk-weaker c.paired.result _ _ (λ number put. paired_low c.args.self.now.pairs.items c.with_leaf.new.self.pairs.items c.paired.new.self.pairs.items c.args.levels (c.args.levels - 1) c.args.tree c.args.place c.args.leaf c.in_ok-low.low number below
+    (omega (arith, c.half_of-half.ensures)) c.requires.tree (rw c.pair-pair.ensures at c.in_ok-low.ensures) (rw c.pair-pair.ensures at put)) c.paired.ensures
 
 pub with_leaf-requires-2 : goal.with_leaf-requires-2
 with_leaf-requires-2 t c = (
@@ -56,9 +53,6 @@ returns-then-high-pair t c =
 
 pub returns : goal.returns
 returns t c =
-    let xs = c.args.self.now.pairs.items in
     let below : c.args.levels ≡ suc (c.args.levels - 1) = omega arith in
-    put_made (λ (made : ℕ). IsMade xs c.put-2.new.self.pairs.items c.args.levels made (slice_set (leaves xs c.args.levels c.args.tree) c.args.place c.args.leaf)) _ c.put-2.result
-    (length c.with_leaf-2.new.self.pairs.items) c.put-2.ensures.number c.put-2.ensures.pairs
-    (λ is. paired_high xs c.with_leaf-2.new.self.pairs.items c.put-2.new.self.pairs.items c.args.levels (c.args.levels - 1) c.args.tree c.args.place c.args.leaf c.in_ok-high.high below
-    (omega (arith, c.half_of-half.ensures)) c.requires.tree (rw (c.pair-pair.ensures, c.half_of-half.ensures) at c.in_ok-high.ensures) (rw c.pair-pair.ensures at is))
+    IfOk-weaker c.paired-2.result _ _ (λ number put. paired_high c.args.self.now.pairs.items c.with_leaf-2.new.self.pairs.items c.paired-2.new.self.pairs.items c.args.levels (c.args.levels - 1) c.args.tree c.args.place c.args.leaf c.in_ok-high.high number below
+    (omega (arith, c.half_of-half.ensures)) c.requires.tree (rw (c.pair-pair.ensures, c.half_of-half.ensures) at c.in_ok-high.ensures) (rw c.pair-pair.ensures at put)) c.paired-2.ensures

@@ -12,4 +12,4 @@ pub returns : goal.returns
 returns c =
     let s = c.args.subject.now in
     raised_reached s c.args.self.now _ c.args.position c.args.made c.is_readable.result c.requires.subject c.requires.inference c.requires.position c.requires.raising c.is_readable.ensures
-    c.if-not-is_readable.false refl refl refl refl
+    c.if-not-is_readable.false refl c.in_ok-insert.ensures.updates refl refl

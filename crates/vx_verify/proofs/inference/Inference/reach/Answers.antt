@@ -1,5 +1,6 @@
 use Rattle.std.proofs.Common.{sym, ◌∙◌}
 use Rattle.std.proofs.lemmas.Bool.{ltb-false, ltb-true}
+use Rattle.std.proofs.lemmas.Result.{IfOk-weaker}
 use Rattle.std.specs.Prelude.{length}
 use Rattle.vx_verify.proofs.Joints.{outside_has_none, reach_through}
 use Rattle.vx_verify.specs.States.{state_at}
@@ -31,4 +32,6 @@ raise-requires-clause-raising c = let rises = rw c.in-Raised.is at c.in_ok-joint
 
 pub returns-in-Raised : goal.returns-in-Raised
 returns-in-Raised c =
-    reach_through c.args.subject.now c.args.self.now _ _ c.args.position c.args.state c.in-Raised.made c.raise.result c.requires.subject (rw c.in-Raised.is at c.in_ok-joint.ensures) c.raise.ensures
+    IfOk-weaker c.raise.result _ _
+    (λ raised h. reach_through c.args.subject.now c.args.self.now _ _ c.args.position c.args.state c.in-Raised.made raised c.requires.subject (rw c.in-Raised.is at c.in_ok-joint.ensures) h)
+    c.raise.ensures

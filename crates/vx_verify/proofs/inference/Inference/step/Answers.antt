@@ -43,7 +43,7 @@ pub returns-in_default : goal.returns-in_default
 returns-in_default c =
     let s = c.args.subject.now in
     let i = c.args.self.now in
-    unmarked_quiet s i _ c.args.at c.args.quiet.now c.requires.subject c.requires.inference refl refl refl refl
+    unmarked_quiet s i _ c.args.at c.args.quiet.now c.requires.subject c.requires.inference refl refl refl c.remove.ensures.updates
     (unknown_done s i c.args.at
     (sym (item_read i.states.items c.args.at c.index.result.now None (omega (arith, c.requires.position, c.requires.inference.states)) c.index.ensures) ∙ c.in_default.is))
     c.requires.quiet

@@ -12,13 +12,31 @@ loop-at-init c = record {
 pub step-requires-clause-inference : goal.step-requires-clause-inference
 step-requires-clause-inference c = c.loop-at.invariant.sweeping.inference
 
+pub step-requires-clause-position : goal.step-requires-clause-position
+step-requires-clause-position c = c.loop-at.invariant.sweeping.inference.marks c.in-Some.at c.in-Some.ensures.1
+
 pub returns-then-not-looked : goal.returns-then-not-looked
 returns-then-not-looked c = rw c.if-not-looked.true at c.in_ok-looked.ensures
+
+pub overflow_add-from : goal.overflow_add-from
+overflow_add-from c =
+    let within = c.loop-at.invariant.sweeping.inference.marks c.in-Some.at c.in-Some.ensures.1 in
+    let short = c.requires.subject.short in
+    omega (arith, within, short)
+
+pub loop-at-smaller : goal.loop-at-smaller
+loop-at-smaller c =
+    let within = c.loop-at.invariant.sweeping.inference.marks c.in-Some.at c.in-Some.ensures.1 in
+    omega (arith, within, c.in-Some.ensures.0)
 
 pub loop-at-preserved : goal.loop-at-preserved
 loop-at-preserved c =
     let g = rw c.if-not-looked.false at c.in_ok-looked.ensures in
-    record { sweeping = sweeping_step c.args.subject.now c.loop-at.self c.step.new.self c.loop-at.at g.0; quiet = g.1 }
+    record {
+      sweeping = sweeping_step c.args.subject.now c.loop-at.self c.step.new.self c.in-Some.at g.0
+          (c.loop-at.invariant.sweeping.inference.marks c.in-Some.at c.in-Some.ensures.1);
+      quiet = g.1;
+    }
 
 pub returns : goal.returns
-returns c = swept c.args.subject.now c.loop-at.self c.loop-at.at c.loop-at.found c.loop-at.invariant.sweeping (omega arith)
+returns c = swept c.args.subject.now c.loop-at.self c.loop-at.from c.loop-at.found c.loop-at.invariant.sweeping c.in_default.ensures

@@ -1,9 +1,13 @@
+use Rattle.std.proofs.Common.{length, ◌-◌}
 use Rattle.vx_verify.specs.Quieting.{IsQuiet}
 use Rattle.vx_verify.proofs.Sweeps.{IsSweeping}
 use Rattle.vx_verify.proofs.inference.Inference.sweep.Given as goal
 
 abbrev pub invariant-loop-at : goal.invariant-loop-at
 invariant-loop-at l = record {
-  sweeping : IsSweeping l.subject l.self l.at l.found;
+  sweeping : IsSweeping l.subject l.self l.from l.found;
   quiet : IsQuiet l.subject l.self l.quiet;
 }
+
+abbrev pub decreases-loop-at : goal.decreases-loop-at
+decreases-loop-at l = length l.subject.code.now.bytes - l.from

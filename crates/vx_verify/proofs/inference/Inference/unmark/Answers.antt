@@ -18,4 +18,4 @@ returns c =
     sym (item_read i.states.items c.args.at c.index.result.now None (omega (arith, c.requires.position, c.requires.inference.states)) c.index.ensures)
     ∙ c.in-Some.is
     ∙ ap Some (same_states c.in-Some.now c.args.before c.is_same.result c.is_same.ensures c.if-not-is_same.false) in
-    unmarked_goes c.args.subject.now i _ c.args.at c.requires.subject c.requires.inference refl refl refl refl (known_done c.args.subject.now i c.args.at c.args.before here (c.requires.closed here))
+    unmarked_goes c.args.subject.now i _ c.args.at c.requires.subject c.requires.inference refl refl refl c.remove.ensures.updates (known_done c.args.subject.now i c.args.at c.args.before here (c.requires.closed here))

@@ -1,0 +1,31 @@
+//! Ints as lengths and indices, of arrays and of texts.
+
+ghost use Rattle.std.specs.Prelude.{◌≡◌, IfOk, pos};
+ghost use Rattle.vx_java.specs.Checks.{is_within};
+ghost use Rattle.vx_value.specs.Arithmetic.{natural};
+
+use std::alloc::AllocError;
+
+/// A number that is not negative, and 0 for a negative one.
+pub fn natural(n: i32) -> usize
+    ensures { result ≡ natural n }
+{
+    n.max(0) as usize
+}
+
+/// Whether an index is within a length.
+pub fn is_within(index: i32, length: usize) -> bool
+    ensures { result ≡ is_within index length }
+{
+    index >= 0 && (index as usize) < length
+}
+
+/// A length as an int. One that doesn't fit is refused as want of memory.
+pub fn int_of(length: usize) -> Result<i32, AllocError>
+    ensures { IfOk result (λ n. n ≡ pos length) }
+{
+    if length > 2_147_483_647 {
+        return Err(AllocError);
+    }
+    Ok(length as i32)
+}

@@ -1,4 +1,0 @@
-use Rattle.vx_verify.proofs.ranks.depth_of.Given as goal
-
-abbrev pub invariant-loop-step : goal.invariant-loop-step
-invariant-loop-step l = Unit {0}
