@@ -31,13 +31,12 @@ STOPPED = (None, -signal.SIGXCPU, -signal.SIGKILL)
 BOUNDS = {
     'folder: 32 files of texts': 9.5, 'folder: 32 files of static fields': 5.5, 'folder: 32 files of methods': 4,
     'folder: 32 files of constant values': 7, 'folder: 32 files of jumps to the end': 2.5, 'folder: 32 files of catch rows': 1.5,
-    'class file: 4,000 native methods of one long descriptor': 1, 'verify: 4,000 native methods of one long descriptor': 1,
-    'replay: 4,000 native methods of one long descriptor': 1,
     'model: rules of pairs': 1, 'model: nested rules': 1, 'clauses: clauses of pairs': 1,
     'program: a loop under 4,000 operands': 3.5, 'program: frames of 1,024 local variables': 4, 'program: a text looked for in one of 32,768 units': 3.5,
     'program: ends of a text of 262,144 units': 2, 'program: sums of 1,024 values': 5.5, 'program: a print of 1,024 values': 2.5,
     'program: an exception through 4,000,000 catch rows': 4.5, 'replay: a text looked for in one of 32,768 units': 4,
-    'replay: an exception through 4,000,000 catch rows': 4.5,
+    'replay: an exception through 4,000,000 catch rows': 4.5, 'program: the same among 901 classes': 4.5, 'replay: the same among 901 classes': 4.5,
+    'program: calls in a class of 20,000 methods': 3.5, 'replay: calls in a class of 20,000 methods': 3.5,
     'verify: long code': 1, 'verify: 150,000 calls of a descriptor of 3,000 bytes': 7,
     'verify: 120,000 casts to a name of 6,000 bytes': 8, 'verify: 100,000 reads of a field with a name of 12,000 bytes': 3,
     'verify: 4,000 catch rows of own starts': 3, 'verify: a loop of 500 copies': 2.5,
@@ -188,17 +187,25 @@ def is_report(ended):
     return ended.status == 0 and is_whole and not ended.err
 
 
+def assembled(varexj, source):
+    put_text('s', source)
+    made = trying.called([varexj, 'asm', 's'], '.')
+    assert made.status == 0, made.told()
+    return made.out
+
+
 def programs(varexj):
     """Programs whose attempts are dear, run for all configurations, and replayed where none of their options is on."""
     for name, make in dear_programs.PROGRAMS.items():
         program = make()
 
         def files(program=program):
-            put_text('s', program.source)
             put_text('model', program.model)
-            made = trying.called([varexj, 'asm', 's'], '.')
-            assert made.status == 0, made.told()
-            put_text('f/Main.class', made.out)
+            put_text('f/Main.class', assembled(varexj, program.source))
+            if program.more_classes:
+                other = assembled(varexj, 'class 0021 C000 java/lang/Object\n')
+                for number in range(program.more_classes):
+                    put_text(f'f/C{number:03}.class', other.replace(b'C000', b'C%03d' % number))
         words = ['f', 'model', 'Main', str(program.limit)]
         yield Dear(f'program: {name}', files, ['run', *words, '1'], is_report)
         yield Dear(f'replay: {name}', files, ['replay', *words, '-'], is_replay)

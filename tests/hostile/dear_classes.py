@@ -261,10 +261,9 @@ def copies_in_a_loop():
 
 
 def native_methods_of_one_long_descriptor():
-    """More of them would take too much memory: each keeps its descriptor."""
     made = started()
     descriptor = '(L' + 'a' * (MOST_TEXT - 5) + ';)V'
-    for number in range(4000):
+    for number in range(37000):
         made.method(NATIVE | STATIC, f'f{number}', descriptor)
     return made
 
@@ -317,7 +316,7 @@ FILES = {
     'names and types of one long descriptor': types_of_one_long_descriptor, 'methods of one long descriptor': methods_of_one_long_descriptor,
     'fields of one long name': fields_of_one_long_name, 'method types of one long descriptor': method_types_of_one_long_descriptor,
     'strings': many_strings, 'interfaces': many_interfaces, 'static fields': many_static_fields, 'instance fields': many_instance_fields,
-    'native methods': many_native_methods, '4,000 native methods of one long descriptor': native_methods_of_one_long_descriptor, 'methods': many_methods, 'constant values': many_constant_values, 'constant values of one long text': constant_values_of_one_long_text,
+    'native methods': many_native_methods, '37,000 native methods of one long descriptor': native_methods_of_one_long_descriptor, 'methods': many_methods, 'constant values': many_constant_values, 'constant values of one long text': constant_values_of_one_long_text,
     'attributes': many_attributes, 'one long attribute': one_long_attribute,
     'descriptors of 255 arguments': longest_descriptors, 'long code': long_code, 'jumps to the end': jumps_to_the_end,
     'table switches': table_switch, 'lookup switches': lookup_switch, 'catch rows': many_catch_rows, 'jumps that run': jumps_that_run}

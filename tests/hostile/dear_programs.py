@@ -11,9 +11,11 @@ FRAMES = 1000
 
 
 class Program(NamedTuple):
+    """A program of one class, beside which so many more classes without members may stand."""
     source: str
     limit: int
     model: str = ''
+    more_classes: int = 0
 
 
 def loop_under_operands(operands=4000):
@@ -66,16 +68,31 @@ def printed_values(options=10):
     return Program(f'{front}{OUT}iload_1\n{PRINT}return\nend\n', 1000, model)
 
 
-def thrown_through_catch_rows(rows=4000):
+def thrown_through_catch_rows(rows=4000, more_classes=0):
     """An exception that leaves frames whose method has many catch rows, none of which takes it."""
     catches = 'catch A B B java/lang/ClassCastException\n' * rows
     body = ('A:\niload_0\nifne Deeper\naconst_null\nathrow\nDeeper:\niload_0\niconst_1\nisub\ninvokestatic Main f (I)V\nreturn\n'
             f'B:\nathrow\n{catches}end\n')
-    return Program(f'{FRONT}{MAIN} 1 1\nsipush {FRAMES}\ninvokestatic Main f (I)V\nreturn\nend\nmethod 0009 f (I)V 2 1\n{body}', 100000)
+    source = f'{FRONT}{MAIN} 1 1\nsipush {FRAMES}\ninvokestatic Main f (I)V\nreturn\nend\nmethod 0009 f (I)V 2 1\n{body}'
+    return Program(source, 100000, more_classes=more_classes)
+
+
+def thrown_among_many_classes():
+    """The same in a program of many classes."""
+    return thrown_through_catch_rows(more_classes=900)
+
+
+def calls_in_a_large_class(methods=20000, calls=2500):
+    """Calls of the last method of a class that has many."""
+    loop = f'sipush {calls}\nistore_1\nAgain:\ninvokestatic Main m{methods - 1} ()V\niinc 1 -1\niload_1\nifne Again\nreturn\nend\n'
+    others = ''.join(f'method 0009 m{number} ()V 0 0\nreturn\nend\n' for number in range(methods))
+    return Program(f'{FRONT}{MAIN} 1 2\n{loop}{others}', 100000)
 
 
 PROGRAMS = {
     'a loop under 4,000 operands': loop_under_operands, 'frames of 1,024 local variables': frames_of_many_locals,
     'a text looked for in one of 32,768 units': text_looked_for, 'ends of a text of 262,144 units': ends_of_a_text,
     'sums of 1,024 values': sums_of_many_values, 'a print of 1,024 values': printed_values,
-    'an exception through 4,000,000 catch rows': thrown_through_catch_rows}
+    'an exception through 4,000,000 catch rows': thrown_through_catch_rows,
+    'the same among 901 classes': thrown_among_many_classes,
+    'calls in a class of 20,000 methods': calls_in_a_large_class}

@@ -2,9 +2,9 @@
 
 use std::alloc::{AllocError, Global};
 use vx_class::Code;
-use vx_link::{AccessFlags, LinkedMethod, Program};
+use vx_link::{AccessFlags, ClassList, LinkedMethod, Program, SharedName};
 use vx_list::Items;
-use vx_value::{ClassId, MethodId, Name};
+use vx_value::{ClassId, MethodId};
 
 /// A method with four locals.
 fn method(alloc: Global) -> Result<LinkedMethod, AllocError> {
@@ -16,8 +16,8 @@ fn method(alloc: Global) -> Result<LinkedMethod, AllocError> {
     };
     Ok(LinkedMethod {
         class: ClassId(0),
-        name: Name::of(alloc, b"m")?,
-        descriptor: Name::of(alloc, b"(JI)V")?,
+        name: SharedName::of(alloc, b"m")?,
+        descriptor: SharedName::of(alloc, b"(JI)V")?,
         flags: AccessFlags(0),
         code: Some(code),
         native: 0,
@@ -30,7 +30,7 @@ pub(crate) fn program(alloc: Global) -> Result<Program, AllocError> {
     methods.push(method(alloc)?)?;
     methods.push(method(alloc)?)?;
     Ok(Program {
-        classes: Items::of(Vec::new(alloc)),
+        classes: ClassList::of(alloc, Items::of(Vec::new(alloc)))?,
         methods: Items::of(methods),
         fields: Items::of(Vec::new(alloc)),
         main: MethodId(0),

@@ -38,7 +38,7 @@ fn array_of(program: &Program, class: ClassId) -> ClassId
     ClassId(program.classes.len() as u32 + (8 + class.0))
 }
 
-/// The core classes of a program; it looks at each class in turn.
+/// The core classes of a program, each found by its name.
 pub fn core_classes(program: &Program) -> CoreClasses
     requires { HasClassNumbers program.now }
     ensures { AreCoreClasses program.now result }

@@ -1,6 +1,6 @@
 //! The class that a name or a descriptor names (JVMS 4.2.1, 4.3.2, 5.3.3).
 
-ghost use Rattle.std.specs.Prelude.{◌≡◌, ◌<◌, ◌+◌, ◌^◌, bytes_eq, IfSome, length, option_map};
+ghost use Rattle.std.specs.Prelude.{◌≡◌, ◌<◌, ◌+◌, ◌^◌, IfSome, length, option_map};
 ghost use Rattle.vx_java.specs.Ids.{as_class, HasClassNumbers};
 ghost use Rattle.vx_link.specs.ClassNames.{class_named, class_of_name, class_of_type, core_class, element_of_base, object_class, primitive_element};
 ghost use Rattle.vx_link.specs.Parts.{class_count};
@@ -8,27 +8,20 @@ ghost use Rattle.vx_link.specs.Signature.{class_in};
 
 use vx_code::is_array;
 use vx_desc::{Base, JavaType, field_type};
-use vx_link::{LinkedClass, Program};
+use vx_link::Program;
 use vx_value::ClassId;
 
 /// The elements of arrays that are no classes: the primitive types.
 const PRIMITIVE_ELEMENTS: u32 = 8;
 
-fn has_name(class: &LinkedClass, name: &[u8]) -> bool
-    ensures { result ≡ bytes_eq class.now.name name.now }
-{
-    class.name.bytes() == name
-}
-
 fn place_of_class(program: &Program, name: &[u8]) -> Option<usize>
     ensures value { result ≡ class_of_name program.now name.now }
     ensures within { IfSome result (λ place. place < class_count program.now) }
 {
-    let classes = program.classes.as_slice();
-    classes.iter().position(|class| has_name(class, name))
+    program.classes.place_of(name)
 }
 
-/// The class of a name; it looks at each class in turn.
+/// The class of a name, found by the hash of the name.
 pub fn class_of_name(program: &Program, name: &[u8]) -> Option<ClassId>
     requires { HasClassNumbers program.now }
     ensures { result ≡ option_map as_class (class_of_name program.now name.now) }
@@ -112,7 +105,7 @@ fn element_of(program: &Program, descriptor: &[u8], item: &JavaType) -> Option<u
     }
 }
 
-/// The class of a type of a descriptor, or `None` where it isn't there and for a primitive type. It looks at each class in turn.
+/// The class of a type of a descriptor, or `None` where it isn't there and for a primitive type. It is found by the hash of its name.
 pub fn class_of_type(program: &Program, descriptor: &[u8], item: &JavaType) -> Option<ClassId>
     requires { HasClassNumbers program.now }
     ensures { result ≡ option_map as_class (class_of_type program.now descriptor.now item.now) }
@@ -134,7 +127,7 @@ pub fn class_of_type(program: &Program, descriptor: &[u8], item: &JavaType) -> O
 }
 
 /// The class of a class name or of the descriptor of an array, or `None` where it isn't there: an array class is there where
-/// its element is. It looks at each class in turn, and takes no memory.
+/// its element is. It is found by the hash of its name, and takes no memory.
 pub fn class_named(program: &Program, name: &[u8]) -> Option<ClassId>
     requires classes { HasClassNumbers program.now }
     requires text { length name.now < 2 ^ 32 }

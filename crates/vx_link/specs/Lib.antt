@@ -11,3 +11,4 @@ pub mod CoreFiles
 pub mod Faults
 pub mod Linked
 pub mod Tables
+pub mod ClassPlaces

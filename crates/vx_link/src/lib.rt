@@ -3,13 +3,17 @@
 #![tactic(auto)]
 
 pub mod access_flags;
+pub mod class_list;
 pub mod class_names;
 pub mod core_list;
 pub mod fault;
 pub mod program;
+pub mod shared_name;
 
 pub use access_flags::AccessFlags;
+pub use class_list::ClassList;
 pub use class_names::class_name;
 pub use core_list::CoreList;
 pub use fault::LinkFault;
 pub use program::{LinkedClass, LinkedField, LinkedMethod, Program};
+pub use shared_name::SharedName;

@@ -3,6 +3,8 @@
 ghost use Rattle.std.specs.Prelude.{◌≡◌, option_copied, slice_get};
 
 use crate::access_flags::AccessFlags;
+use crate::class_list::ClassList;
+use crate::shared_name::SharedName;
 use vx_class::Code;
 use vx_list::Items;
 use vx_pool::Pool;
@@ -12,7 +14,7 @@ use vx_value::{ClassId, FieldId, MethodId, Name};
 /// a place in its list.
 #[derive(Drop)]
 pub struct Program {
-    pub classes: Items<LinkedClass>,
+    pub classes: ClassList,
     pub methods: Items<LinkedMethod>,
     pub fields: Items<LinkedField>,
     /// The method with which a run begins.
@@ -68,8 +70,8 @@ pub struct LinkedClass {
 #[derive(Drop)]
 pub struct LinkedMethod {
     pub class: ClassId,
-    pub name: Name,
-    pub descriptor: Name,
+    pub name: SharedName,
+    pub descriptor: SharedName,
     /// A `<clinit>` has `STATIC`, and neither `ABSTRACT` nor `NATIVE`.
     pub flags: AccessFlags,
     pub code: Option<Code>,
@@ -81,8 +83,8 @@ pub struct LinkedMethod {
 #[derive(Drop)]
 pub struct LinkedField {
     pub class: ClassId,
-    pub name: Name,
-    pub descriptor: Name,
+    pub name: SharedName,
+    pub descriptor: SharedName,
     /// A field of an interface has `STATIC`.
     pub flags: AccessFlags,
     /// The place of an instance field among the cells of an object, or 0 for a static field.

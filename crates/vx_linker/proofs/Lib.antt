@@ -6,3 +6,4 @@ pub mod Found
 pub mod Layouts
 pub mod Numbering
 pub mod FieldRuns
+pub mod Texts

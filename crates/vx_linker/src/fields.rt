@@ -4,14 +4,16 @@ ghost use Rattle.std.specs.Prelude.{◌≡◌, ◌<◌, ◌^◌, ◌++◌, lengt
 ghost use Rattle.vx_link.specs.Faults.{name_of};
 ghost use Rattle.vx_link.specs.Names.{utf8};
 ghost use Rattle.vx_link.specs.Linked.{is_place, option_of, field_flags, linked_field};
+ghost use Rattle.vx_linker.specs.Texts.{AreTexts};
 
 use crate::judging::BOOLEAN;
+use crate::shared_texts::SharedTexts;
 use std::alloc::{AllocError, Global};
 use vx_class::{ClassFile, Field, STATIC};
 use vx_link::class_names::{is_interface, name_of, utf8};
 use vx_link::{AccessFlags, LinkedField};
 use vx_model::{FieldPlace, OptionField};
-use vx_value::{ClassId, Name};
+use vx_value::ClassId;
 
 fn is_place(class: &[u8], field: &[u8], place: &Option<FieldPlace>) -> bool
     ensures { result ≡ is_place class.now field.now place.now }
@@ -61,15 +63,18 @@ fn linked_field(
     options: &[OptionField],
     number: ClassId,
     class: &ClassFile,
+    texts: &mut SharedTexts,
     field: Field,
 ) -> Result<LinkedField, AllocError>
-    requires { length options.now < 2 ^ 16 }
-    ensures { IfOk result (λ linked. linked ≡ linked_field options.now number.0 class.now field) }
+    requires options { length options.now < 2 ^ 16 }
+    requires texts { AreTexts class.now.pool texts.old.known.items }
+    ensures linked { IfOk result (λ linked. linked ≡ linked_field options.now number.0 class.now field) }
+    ensures texts { AreTexts class.now.pool texts.new.known.items }
 {
     Ok(LinkedField {
         class: number,
-        name: Name::of(alloc, utf8(&class.pool, field.name))?,
-        descriptor: Name::of(alloc, utf8(&class.pool, field.descriptor))?,
+        name: texts.text(alloc, &class.pool, field.name)?,
+        descriptor: texts.text(alloc, &class.pool, field.descriptor)?,
         flags: field_flags(class, field.flags),
         cell: 0,
         constant: field.constant,
@@ -88,8 +93,13 @@ pub fn add_fields(
     requires { length options.now < 2 ^ 16 }
     ensures { OnOk result (linked.new.items ≡ linked.old.items ++ map (linked_field options.now number.0 class.now) class.now.fields) }
 {
-    for field in class.fields.as_slice() {
-        linked.push(linked_field(alloc, options, number, class, *field)?)?;
+    let fields = class.fields.as_slice();
+    if fields.is_empty() {
+        return Ok(());
+    }
+    let mut texts = SharedTexts::none(alloc, &class.pool)?;
+    for field in fields {
+        linked.push(linked_field(alloc, options, number, class, &mut texts, *field)?)?;
     }
     Ok(())
 }

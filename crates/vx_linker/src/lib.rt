@@ -12,6 +12,7 @@ mod layout;
 pub mod linking;
 mod methods;
 mod parts;
+mod shared_texts;
 mod whole;
 
 pub use files::Files;

@@ -3,15 +3,17 @@
 ghost use Rattle.std.specs.Prelude.{◌≡◌, ◌<◌, ◌++◌, drop, length, IfOk, IfSome, OnOk, unwrap_or};
 ghost use Rattle.vx_list.specs.Places.{item_or};
 ghost use Rattle.vx_link.specs.Linked.{is_clinit_file, own_clinit, method_flags, linked_method, linked_methods, empty_clinit};
+ghost use Rattle.vx_linker.specs.Texts.{AreTexts};
 
+use crate::shared_texts::SharedTexts;
 use std::alloc::{AllocError, Global};
 use vx_class::{ClassFile, Code, Method, STATIC};
 use vx_desc::is_clinit;
 use vx_link::class_names::utf8;
-use vx_link::{AccessFlags, LinkedMethod};
+use vx_link::{AccessFlags, LinkedMethod, SharedName};
 use vx_list::Items;
 use vx_pool::Pool;
-use vx_value::{ClassId, Name};
+use vx_value::ClassId;
 
 const CLINIT: &[u8] = b"<clinit>";
 
@@ -53,17 +55,19 @@ fn linked_method(
     alloc: Global,
     class: ClassId,
     pool: &Pool,
+    texts: &mut SharedTexts,
     method: Method,
     native: u32,
 ) -> Result<LinkedMethod, AllocError>
-    ensures { IfOk result (λ linked. linked ≡ linked_method class.0 pool.now method native) }
+    requires { AreTexts pool.now texts.old.known.items }
+    ensures linked { IfOk result (λ linked. linked ≡ linked_method class.0 pool.now method native) }
+    ensures texts { AreTexts pool.now texts.new.known.items }
 {
-    let name = utf8(pool, method.name);
     Ok(LinkedMethod {
         class,
-        name: Name::of(alloc, name)?,
-        descriptor: Name::of(alloc, utf8(pool, method.descriptor))?,
-        flags: method_flags(name, method.flags),
+        name: texts.text(alloc, pool, method.name)?,
+        descriptor: texts.text(alloc, pool, method.descriptor)?,
+        flags: method_flags(utf8(pool, method.name), method.flags),
         code: method.code,
         native,
     })
@@ -94,10 +98,14 @@ pub fn add_methods(
 ) -> Result<(), AllocError>
     ensures { OnOk result (linked.new.items ≡ linked.old.items ++ linked_methods class.0 pool.now methods.items natives.now) }
 {
+    if methods.is_empty() {
+        return Ok(());
+    }
+    let mut texts = SharedTexts::none(alloc, pool)?;
     let mut numbers = natives;
     for method in methods {
         let native = first_number(numbers);
-        linked.push(linked_method(alloc, class, pool, method, native)?)?;
+        linked.push(linked_method(alloc, class, pool, &mut texts, method, native)?)?;
         numbers = behind_first(numbers);
     }
     Ok(())
@@ -115,8 +123,8 @@ pub fn empty_initialiser(alloc: Global, class: ClassId) -> Result<LinkedMethod, 
     };
     Ok(LinkedMethod {
         class,
-        name: Name::of(alloc, CLINIT)?,
-        descriptor: Name::of(alloc, NOTHING)?,
+        name: SharedName::of(alloc, CLINIT)?,
+        descriptor: SharedName::of(alloc, NOTHING)?,
         flags: AccessFlags(STATIC),
         code: Some(code),
         native: 0,

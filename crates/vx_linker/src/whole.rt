@@ -11,7 +11,7 @@ use crate::files::Files;
 use crate::layout::with_layout;
 use crate::parts::{Parts, add_classes};
 use std::alloc::{AllocError, Global};
-use vx_link::Program;
+use vx_link::{ClassList, Program};
 use vx_list::Items;
 use vx_model::OptionField;
 
@@ -64,7 +64,7 @@ fn without_layout(
     let main = main_method(parts.classes.as_slice(), parts.methods.as_slice(), main);
     let options = option_fields(alloc, parts.fields.as_slice(), options.len() as u32)?;
     Ok(Program {
-        classes: parts.classes,
+        classes: ClassList::of(alloc, parts.classes)?,
         methods: parts.methods,
         fields: parts.fields,
         main,

@@ -12,7 +12,7 @@ use vx_plain::{State, Value};
 use vx_value::ClassId;
 
 impl<'a> Here<'a> {
-    /// The core class of a name. It looks at each class in turn.
+    /// The core class of a name, found by the hash of the name.
     pub fn core(&self, name: &[u8]) -> ClassId
         ensures { result.0 ≡ unwrap_or (class_of_name self.now.program.now name.now) 0 }
     {

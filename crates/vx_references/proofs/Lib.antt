@@ -1,5 +1,4 @@
 pub mod Numbers
-pub mod Places
 pub mod Tables
 pub mod FieldLaws
 pub mod CallLaws

@@ -1,5 +1,7 @@
 -- What the entries of a pool name, from the classes of its texts.
-use Rattle.std.proofs.Common.{◌≡◌, ℕ, List, [], refl, ◌∙◌, ap, map, Option, Some, None}
+use Rattle.std.proofs.Common.{◌≡◌, ℕ, ◌+◌, ◌<◌, suc, List, [], ◌∷◌, ◌++◌, arith, get_or, length, refl, sym, take, ◌∙◌, ap, map, Option, Some, None}
+use Rattle.std.proofs.Math.Seq.{take-suc}
+use Rattle.std.proofs.lemmas.List.{map-append}
 use Rattle.std.proofs.lemmas.Option.{slice_get-map}
 use Rattle.std.specs.Prelude.{option_and_then, option_map, slice_get, unwrap_or}
 use Rattle.vx_code.specs.Lookups.{class, entry_of, text}
@@ -44,3 +46,12 @@ class_there p c x e = ap (λ o. unwrap_or o no_class) e
 
 pub class_missing : (p : Program) (c : ℕ) → None ≡ slice_get p.classes c → no_class ≡ class_at p c
 class_missing p c e = ap (λ (o : Option LinkedClass). unwrap_or o no_class) e
+
+-- the step of a loop that puts down a row for each class
+pub row_more : {R : Type 0} (f : LinkedClass → R) (classes : List LinkedClass) (i : ℕ) (c : LinkedClass) (rows more : List R) → i < length classes → c ≡ get_or classes i c
+    → rows ≡ map f (take i classes) → more ≡ rows ++ f c ∷ [] → more ≡ map f (take (i + 1) classes)
+row_more f classes i c rows more within is so_far made =
+    let next : suc i ≡ i + 1 = omega arith in
+    made ∙ ap (λ r. r ++ f c ∷ []) so_far
+    ∙ sym (map-append f (take i classes) (c ∷ []))
+    ∙ ap (map f) (ap (λ x. take i classes ++ x ∷ []) is ∙ sym (take-suc classes i c within) ∙ ap (λ n. take n classes) next)

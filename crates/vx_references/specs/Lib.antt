@@ -1,4 +1,3 @@
 pub mod Named
-pub mod ClassPlaces
 pub mod Fields
 pub mod Calls

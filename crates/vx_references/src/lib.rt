@@ -4,7 +4,6 @@
 #![tactic(auto)]
 
 pub mod calls;
-pub mod class_places;
 pub mod fields;
 pub mod members;
 pub mod named;

@@ -4,26 +4,24 @@ ghost use Rattle.std.specs.Prelude.{◌≡◌, IfOk, None, Some, map};
 ghost use Rattle.vx_java.specs.Ids.{HasClassNumbers};
 ghost use Rattle.vx_link.specs.Names.{class_name, member};
 ghost use Rattle.vx_link.specs.Parts.{class_at};
-ghost use Rattle.vx_references.specs.ClassPlaces.{ArePlaces};
 ghost use Rattle.vx_references.specs.Named.{class_by_texts, class_of_entry, class_of_text, class_table};
 
-use crate::class_places::{ClassPlaces, class_found, class_places};
 use std::alloc::{AllocError, Global};
 use vx_code::entry_of;
+use vx_java::class_named;
 use vx_link::Program;
 use vx_list::Items;
 use vx_pool::{Entry, Pool};
 use vx_value::ClassId;
 
 /// The class of a text.
-fn class_of_text(program: &Program, known: &ClassPlaces, entry: &Entry) -> Option<ClassId>
-    requires classes { HasClassNumbers program.now }
-    requires known { ArePlaces program.now.classes known.now.names known.now.places.items }
+fn class_of_text(program: &Program, entry: &Entry) -> Option<ClassId>
+    requires { HasClassNumbers program.now }
     ensures { result ≡ class_of_text program.now (Some entry.now) }
 {
     match entry {
-        Entry::Utf8(text) => class_found(program, known, text.as_slice()),
-        _ => class_found(program, known, &[]),
+        Entry::Utf8(text) => class_named(program, text.as_slice()),
+        _ => class_named(program, &[]),
     }
 }
 
@@ -31,16 +29,14 @@ fn class_of_text(program: &Program, known: &ClassPlaces, entry: &Entry) -> Optio
 fn classes_of_texts(
     alloc: Global,
     program: &Program,
-    known: &ClassPlaces,
     pool: &Pool,
 ) -> Result<Vec<Option<ClassId>>, AllocError>
-    requires classes { HasClassNumbers program.now }
-    requires known { ArePlaces program.now.classes known.now.names known.now.places.items }
+    requires { HasClassNumbers program.now }
     ensures { IfOk result (λ row. row.items ≡ map (λ e. class_of_text program.now (Some e)) pool.now.entries) }
 {
     let mut row = Vec::new(alloc);
     for entry in pool.entries.as_slice() {
-        row.push(class_of_text(program, known, entry))?;
+        row.push(class_of_text(program, entry))?;
     }
     Ok(row)
 }
@@ -62,15 +58,13 @@ fn class_by_texts(
 fn row_of(
     alloc: Global,
     program: &Program,
-    known: &ClassPlaces,
     pool: &Pool,
 ) -> Result<Items<Option<ClassId>>, AllocError>
-    requires classes { HasClassNumbers program.now }
-    requires known { ArePlaces program.now.classes known.now.names known.now.places.items }
+    requires { HasClassNumbers program.now }
     ensures { IfOk result (λ row. row ≡ map (λ e. class_of_entry program.now pool.now (Some e)) pool.now.entries) }
 {
-    let texts = classes_of_texts(alloc, program, known, pool)?;
-    let nothing = class_found(program, known, &[]);
+    let texts = classes_of_texts(alloc, program, pool)?;
+    let nothing = class_named(program, &[]);
     let mut row = Vec::new(alloc);
     for entry in pool.entries.as_slice() {
         row.push(class_by_texts(&texts, nothing, entry))?;
@@ -86,10 +80,9 @@ pub fn class_table(
     requires { HasClassNumbers program.now }
     ensures { IfOk result (λ table. table.items ≡ class_table program.now) }
 {
-    let known = class_places(alloc, program)?;
     let mut table = Vec::new(alloc);
     for class in program.classes.as_slice() {
-        table.push(row_of(alloc, program, &known, &class.pool)?)?;
+        table.push(row_of(alloc, program, &class.pool)?)?;
     }
     Ok(table)
 }

@@ -12,7 +12,7 @@ ghost use Rattle.vx_plain_tables.specs.Tables.{AreTables};
 
 use std::alloc::Global;
 use vx_class::Code;
-use vx_link::{AccessFlags, LinkedMethod, Program};
+use vx_link::{AccessFlags, LinkedMethod, Program, SharedName};
 use vx_list::Items;
 use vx_opcode::decode;
 use vx_plain::State;
@@ -21,7 +21,7 @@ use vx_plain_natives::carry_out;
 use vx_plain_rows::{code_on_top, pool_of};
 use vx_plain_tables::{Seen, Tables};
 use vx_pool::Pool;
-use vx_value::{ClassId, MethodId, Name};
+use vx_value::{ClassId, MethodId};
 
 /// The code of the method on top; a method without code has none that could stand at a call.
 fn code_at_call<'a>(program: &'a Program, state: &State, none: &'a Code) -> &'a Code
@@ -60,10 +60,11 @@ fn method_of<'a>(program: &'a Program, method: MethodId, none: &'a LinkedMethod)
 fn carry_out_by(seen: &Seen<'_>, state: &mut State, method: MethodId) -> Made
     ensures { let s = state_of state.old in let h = here_in seen.now.here s in IfOk result (ComesTo (carried_out h (method_at h.program method.0)) s (state_of state.new)) }
 {
+    let nothing = SharedName::of(seen.here.alloc, &[])?;
     let none = LinkedMethod {
         class: ClassId(0),
-        name: Name::from_vec(Vec::new(seen.here.alloc)),
-        descriptor: Name::from_vec(Vec::new(seen.here.alloc)),
+        name: nothing.share()?,
+        descriptor: nothing,
         flags: AccessFlags(0),
         code: None,
         native: 0,

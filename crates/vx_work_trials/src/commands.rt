@@ -89,11 +89,16 @@ fn comes(rt: &impl Abort, alloc: Global, case: (&str, u8, &str, &str)) -> bool {
         && answer.err.written() == line.as_bytes()
 }
 
+/// Calls each of these commands, and aborts where one doesn't come to what it has to.
+fn all_come(rt: &impl Abort, alloc: Global, cases: &[(&str, u8, &str, &str)]) {
+    for &case in cases {
+        assert!(rt; comes(rt, alloc, case), "{case:?}");
+    }
+}
+
 #[test]
 fn summaries_and_refusals(rt: HostRuntime) {
-    for case in CASES {
-        assert!(rt; comes(&rt, rt.alloc(), case), "{case:?}");
-    }
+    all_come(&rt, rt.alloc(), &CASES);
 }
 
 /// A sink that takes at most 10 bytes at a time, of which the second call fails.

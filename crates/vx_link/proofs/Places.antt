@@ -12,7 +12,7 @@ use Rattle.std.specs.Prelude.{option_map, position, slice_index, ◌||◌}
 use Rattle.vx_link.specs.declared.program.LinkedClass.{LinkedClass}
 use Rattle.vx_names.proofs.Keys.{position-append, position-cons}
 use Rattle.vx_names.specs.Names.{has_name, place_of, with_name}
-use Rattle.vx_references.specs.ClassPlaces.{ArePlaces}
+use Rattle.vx_link.specs.ClassPlaces.{ArePlaces}
 
 pub no_places : ArePlaces [] [] []
 no_places = record { count = refl; found = λ name. refl }
