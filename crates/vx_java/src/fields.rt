@@ -1,32 +1,24 @@
 //! Resolution of fields (JVMS 5.4.3.2).
 
-ghost use Rattle.std.specs.Prelude.{◌≡◌, ◌∷◌, ◌&&◌, bytes_eq, option_map};
+ghost use Rattle.std.specs.Prelude.{◌≡◌, ◌∷◌, option_map};
 ghost use Rattle.vx_java.specs.Ids.{as_field};
 ghost use Rattle.vx_java.specs.Silent.{AreSilent};
 ghost use Rattle.vx_link.specs.Hierarchy.{interfaces_below};
-ghost use Rattle.vx_link.specs.Parts.{field_at};
 ghost use Rattle.vx_link.specs.Resolution.{first_given, own_field, resolve_field};
 
-use crate::parts::{descriptor_of_field, fields_of, is_array, name_of_field, superclass_of};
+use crate::between::first_between;
+use crate::parts::{fields_of, is_array, superclass_of};
 use crate::questions::{Marks, Question, ask_below, no_marks};
 use vx_link::Program;
 use vx_value::{ClassId, FieldId};
 
-fn is_field(program: &Program, field: FieldId, name: &[u8], descriptor: &[u8]) -> bool
-    ensures { result ≡ (bytes_eq (field_at program.now field.0).name name.now && bytes_eq (field_at program.now field.0).descriptor descriptor.now) }
-{
-    name_of_field(program, field) == name && descriptor_of_field(program, field) == descriptor
-}
-
 fn own_field(program: &Program, name: &[u8], descriptor: &[u8], class: ClassId) -> Option<FieldId>
     ensures { result ≡ option_map as_field (own_field program.now name.now descriptor.now class.0) }
 {
-    for field in fields_of(program, class) {
-        if is_field(program, *field, name, descriptor) {
-            return Some(*field);
-        }
-    }
-    None
+    let first = program.classes.fields_of(class.0 as usize).first;
+    let last = fields_of(program, class).last()?.0;
+    let field = first_between(&program.fields, name, descriptor, first, last)?;
+    Some(FieldId(field))
 }
 
 /// Whether a class declares a field.

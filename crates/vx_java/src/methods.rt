@@ -1,15 +1,15 @@
 //! Methods by their names and descriptors, in classes and in superinterfaces.
 
-ghost use Rattle.std.specs.Prelude.{◌≡◌, ◌&&◌, bytes_eq, option_map};
+ghost use Rattle.std.specs.Prelude.{◌≡◌, find, option_map};
 ghost use Rattle.vx_java.specs.Ids.{as_method};
+ghost use Rattle.vx_java.specs.MemberNumbers.{is_method, numbers_between};
 ghost use Rattle.vx_java.specs.Specific.{passes};
 ghost use Rattle.vx_link.specs.Hierarchy.{superclasses};
 ghost use Rattle.vx_link.specs.Parts.{is_inherited, method_at};
 ghost use Rattle.vx_link.specs.Resolution.{first_given, own_method};
 
-use crate::parts::{
-    descriptor_of_method, flags_of_method, methods_of, name_of_method, superclass_of,
-};
+use crate::between::first_between;
+use crate::parts::{flags_of_method, methods_of, superclass_of};
 use crate::questions::Question;
 use bitflags::Flags;
 use vx_link::{AccessFlags, Program};
@@ -45,12 +45,29 @@ fn passes(program: &Program, among: Among, method: MethodId) -> bool
     }
 }
 
-fn is_method(program: &Program, among: Among, signature: &Signature, method: MethodId) -> bool
-    ensures { result ≡ (bytes_eq (method_at program.now method.0).name signature.now.name.now && (bytes_eq (method_at program.now method.0).descriptor signature.now.descriptor.now && passes among (method_at program.now method.0))) }
+/// The first method from a number on through another that a search takes.
+fn method_between(
+    program: &Program,
+    among: Among,
+    signature: &Signature,
+    mut from: u32,
+    last: u32,
+) -> Option<MethodId>
+    ensures { result ≡ option_map as_method (find (is_method program.now (passes among) signature.now.name.now signature.now.descriptor.now) (numbers_between from last)) }
 {
-    name_of_method(program, method) == signature.name
-        && descriptor_of_method(program, method) == signature.descriptor
-        && passes(program, among, method)
+    loop {
+        let number = first_between(
+            &program.methods,
+            signature.name,
+            signature.descriptor,
+            from,
+            last,
+        )?;
+        if passes(program, among, MethodId(number)) {
+            return Some(MethodId(number));
+        }
+        from = number.checked_add(1)?;
+    }
 }
 
 /// The method that a class declares.
@@ -62,12 +79,9 @@ pub fn own_method(
 ) -> Option<MethodId>
     ensures { result ≡ option_map as_method (own_method program.now (passes among) signature.now.name.now signature.now.descriptor.now class.0) }
 {
-    for method in methods_of(program, class) {
-        if is_method(program, among, signature, *method) {
-            return Some(*method);
-        }
-    }
-    None
+    let first = program.classes.methods_of(class.0 as usize).first;
+    let last = methods_of(program, class).last()?.0;
+    method_between(program, among, signature, first, last)
 }
 
 /// The method of a class or of the first of its superclasses that declares one.

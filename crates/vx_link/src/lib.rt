@@ -7,13 +7,16 @@ pub mod class_list;
 pub mod class_names;
 pub mod core_list;
 pub mod fault;
+mod member_index;
+pub mod member_list;
 pub mod program;
 pub mod shared_name;
 
 pub use access_flags::AccessFlags;
-pub use class_list::ClassList;
+pub use class_list::{ClassList, Run};
 pub use class_names::class_name;
 pub use core_list::CoreList;
 pub use fault::LinkFault;
+pub use member_list::{Member, MemberList};
 pub use program::{LinkedClass, LinkedField, LinkedMethod, Program};
 pub use shared_name::SharedName;

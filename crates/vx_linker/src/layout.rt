@@ -12,7 +12,7 @@ use crate::counting::{count_in_run, running_counts, runs};
 use crate::methods::{behind_first, first_number};
 use bitflags::Flags;
 use std::alloc::{AllocError, Global};
-use vx_link::{AccessFlags, LinkedClass, LinkedField, Program};
+use vx_link::{AccessFlags, LinkedClass, LinkedField, MemberList, Program};
 use vx_list::Items;
 use vx_value::{ClassId, FieldId};
 
@@ -250,9 +250,7 @@ pub fn with_layout(alloc: Global, program: Program) -> Result<Program, AllocErro
     let counts = instance_counts(alloc, &program)?;
     let above = cells_above(alloc, &program, &counts)?;
     let cells = all_cells(alloc, &program, &above)?;
-    let fields = with_cells(alloc, program.fields.into_vec(), &cells)?;
-    Ok(Program {
-        fields: Items::of(fields),
-        ..program
-    })
+    let laid_out = with_cells(alloc, program.fields.into_vec(), &cells)?;
+    let fields = MemberList::of(alloc, Items::of(laid_out))?;
+    Ok(Program { fields, ..program })
 }

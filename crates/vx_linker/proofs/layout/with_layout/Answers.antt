@@ -7,5 +7,5 @@ use Rattle.vx_linker.proofs.layout.with_layout.Goals as goal
 pub returns : goal.returns
 returns c =
     let p = c.args.program in
-    let e = c.of.ensures ∙ c.in_ok-fields.ensures ∙ ap (λ fs. with_cells fs c.deref-3.result.now) c.into_vec.ensures ∙ ap (with_cells p.fields) (c.deref-3.ensures.value ∙ c.in_ok-cells.ensures) ∙ fields_laid_out p 0 p.fields in
+    let e = c.in_ok-fields.ensures ∙ c.of-2.ensures ∙ c.in_ok-laid_out.ensures ∙ ap (λ fs. with_cells fs c.deref-3.result.now) c.into_vec.ensures ∙ ap (with_cells p.fields) (c.deref-3.ensures.value ∙ c.in_ok-cells.ensures) ∙ fields_laid_out p 0 p.fields in
     ap (λ (fs : List LinkedField). record p { fields = fs }) e
