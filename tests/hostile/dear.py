@@ -29,16 +29,15 @@ STOPPED = (None, -signal.SIGXCPU, -signal.SIGKILL)
 
 # What has no line has the least bound.
 BOUNDS = {
-    'folder: 32 files of texts': 9.5, 'folder: 32 files of static fields': 5.5, 'folder: 32 files of methods': 4,
+    'folder: 32 files of texts': 9.5, 'folder: 32 files of static fields': 8.5, 'folder: 32 files of methods': 6,
     'folder: 32 files of constant values': 7, 'folder: 32 files of jumps to the end': 2.5, 'folder: 32 files of catch rows': 1.5,
     'model: rules of pairs': 1, 'model: nested rules': 1, 'clauses: clauses of pairs': 1,
     'program: a loop under 4,000 operands': 3.5, 'program: frames of 1,024 local variables': 4, 'program: a text looked for in one of 32,768 units': 3.5,
     'program: ends of a text of 262,144 units': 2, 'program: sums of 1,024 values': 5.5, 'program: a print of 1,024 values': 2.5,
     'program: an exception through 4,000,000 catch rows': 4.5, 'replay: a text looked for in one of 32,768 units': 4,
     'replay: an exception through 4,000,000 catch rows': 4.5, 'program: the same among 901 classes': 4.5, 'replay: the same among 901 classes': 4.5,
-    'program: calls in a class of 20,000 methods': 3.5, 'replay: calls in a class of 20,000 methods': 3.5,
-    'verify: long code': 1, 'verify: 150,000 calls of a descriptor of 3,000 bytes': 7,
-    'verify: 120,000 casts to a name of 6,000 bytes': 8, 'verify: 100,000 reads of a field with a name of 12,000 bytes': 3,
+    'verify: long code': 1, 'verify: 150,000 calls of a descriptor of 3,000 bytes': 10, 'verify: 150,000 calls in a class of 20,000 methods': 1,
+    'verify: 120,000 casts to a name of 6,000 bytes': 8, 'verify: 100,000 reads of a field with a name of 12,000 bytes': 8,
     'verify: 4,000 catch rows of own starts': 3, 'verify: a loop of 500 copies': 2.5,
     'source: jumps and labels': 1, 'source: jumps to the last label': 1, 'source: fields': 1, 'source: methods': 1, 'source: numbers': 1,
     'source: strings': 1, 'source: members': 1,

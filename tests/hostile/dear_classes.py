@@ -286,6 +286,16 @@ def calls_of_one_long_descriptor(length=3000):
     return with_long_bodies(made, struct.pack('>BH', INVOKESTATIC, called))
 
 
+def calls_of_the_last_method(methods=20000):
+    """Calls of the last one of many methods, which differ in their names alone."""
+    made = ClassFile()
+    descriptor = '(Ljava/lang/Object;)V'
+    called = made.add(struct.pack('>BHH', 10, made.own, made.name_and_type(f'g{methods - 1}', descriptor)))
+    for number in range(methods):
+        made.method(STATIC | NATIVE, f'g{number}', descriptor)
+    return with_long_bodies(made, struct.pack('>BH', INVOKESTATIC, called))
+
+
 def casts_to_one_long_name(length=6000):
     made = ClassFile()
     return with_long_bodies(made, struct.pack('>BHB', CHECKCAST, made.class_entry('a' * length), POP))
@@ -308,7 +318,8 @@ def catch_rows_of_own_starts(rows=4000):
 # Those that are dear to verify.
 VERIFIED = {
     'jumps back': jumps_back, 'many locals': many_locals, 'the last local': last_local, 'a loop of 500 copies': copies_in_a_loop,
-    '150,000 calls of a descriptor of 3,000 bytes': calls_of_one_long_descriptor, '120,000 casts to a name of 6,000 bytes': casts_to_one_long_name,
+    '150,000 calls of a descriptor of 3,000 bytes': calls_of_one_long_descriptor,
+    '150,000 calls in a class of 20,000 methods': calls_of_the_last_method, '120,000 casts to a name of 6,000 bytes': casts_to_one_long_name,
     '100,000 reads of a field with a name of 12,000 bytes': fields_of_one_long_name_read, '4,000 catch rows of own starts': catch_rows_of_own_starts}
 
 FILES = {
@@ -322,18 +333,18 @@ FILES = {
     'table switches': table_switch, 'lookup switches': lookup_switch, 'catch rows': many_catch_rows, 'jumps that run': jumps_that_run}
 
 
-def reading_main(superclass='Top'):
-    """A main that reads the field x of Main again and again."""
+def reading_main(superclass='Top', field='x'):
+    """A main that reads a field of Main again and again."""
     made = ClassFile(superclass=superclass)
-    index = made.field_entry('Main', 'x', 'I')
+    index = made.field_entry('Main', field, 'I')
     made.main(struct.pack('>BHBBh', GETSTATIC, index, POP, GOTO, -4))
     return made
 
 
-def top():
-    """The class that has the field x."""
+def top(field='x'):
+    """The class that has the field."""
     made = ClassFile('Top')
-    made.field(STATIC, 'x', 'I')
+    made.field(STATIC, field, 'I')
     return made
 
 
@@ -350,6 +361,16 @@ def superclass_chain():
     made = {'Main': reading_main(names[0]), 'Top': top()}
     for below, above in zip(names, names[1:]):
         made[below] = ClassFile(below, superclass=above)
+    return made
+
+
+def superclass_chain_of_fields(length=10000):
+    """The same, where each class has a field of its own, and the one that is read has a long name."""
+    field = 'x' * length
+    made = superclass_chain()
+    for between in made.values():
+        between.field(STATIC, 'y', 'I')
+    made['Main'], made['Top'] = reading_main('C0000', field), top(field)
     return made
 
 
@@ -409,7 +430,7 @@ def long_lists_and_a_cycle():
 
 
 FOLDERS = {
-    'a chain of superclasses': superclass_chain, 'a chain of interfaces': interface_chain, 'interfaces in diamonds': all_diamonds,
+    'a chain of superclasses': superclass_chain, 'a chain of superclasses with fields': superclass_chain_of_fields, 'a chain of interfaces': interface_chain, 'interfaces in diamonds': all_diamonds,
     'interfaces in diamonds, and a blocking one': diamonds_and_a_blocking_interface, 'a cycle at the end of a chain': cycle_at_the_end,
     'long lists of interfaces, and a cycle': long_lists_and_a_cycle}
 

@@ -2,7 +2,7 @@
 
 use std::alloc::{AllocError, Global};
 use vx_class::Code;
-use vx_link::{AccessFlags, ClassList, LinkedMethod, Program, SharedName};
+use vx_link::{AccessFlags, ClassList, LinkedMethod, MemberList, Program, SharedName};
 use vx_list::Items;
 use vx_value::{ClassId, MethodId};
 
@@ -31,8 +31,8 @@ pub(crate) fn program(alloc: Global) -> Result<Program, AllocError> {
     methods.push(method(alloc)?)?;
     Ok(Program {
         classes: ClassList::of(alloc, Items::of(Vec::new(alloc)))?,
-        methods: Items::of(methods),
-        fields: Items::of(Vec::new(alloc)),
+        methods: MemberList::of(alloc, Items::of(methods))?,
+        fields: MemberList::of(alloc, Items::of(Vec::new(alloc)))?,
         main: MethodId(0),
         options: Items::of(Vec::new(alloc)),
     })

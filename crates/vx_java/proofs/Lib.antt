@@ -8,3 +8,5 @@ pub mod Walks
 pub mod Silence
 pub mod Chains
 pub mod Specifics
+pub mod MemberNumbers
+pub mod OwnMembers

@@ -27,3 +27,4 @@ pub mod Ids
 pub mod Named
 pub mod Specific
 pub mod Silent
+pub mod MemberNumbers

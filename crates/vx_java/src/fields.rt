@@ -1,46 +1,37 @@
 //! Resolution of fields (JVMS 5.4.3.2).
 
-ghost use Rattle.std.specs.Prelude.{◌≡◌, ◌∷◌, ◌&&◌, bytes_eq, option_map};
+ghost use Rattle.std.specs.Prelude.{◌≡◌, ◌∷◌, option_map};
 ghost use Rattle.vx_java.specs.Ids.{as_field};
 ghost use Rattle.vx_java.specs.Silent.{AreSilent};
 ghost use Rattle.vx_link.specs.Hierarchy.{interfaces_below};
-ghost use Rattle.vx_link.specs.Parts.{field_at};
 ghost use Rattle.vx_link.specs.Resolution.{first_given, own_field, resolve_field};
 
-use crate::parts::{descriptor_of_field, fields_of, is_array, name_of_field, superclass_of};
+use crate::between::first_between;
+use crate::parts::{fields_of, is_array, superclass_of};
 use crate::questions::{Marks, Question, ask_below, no_marks};
-use vx_link::Program;
+use vx_link::{Program, Sought};
 use vx_value::{ClassId, FieldId};
 
-fn is_field(program: &Program, field: FieldId, name: &[u8], descriptor: &[u8]) -> bool
-    ensures { result ≡ (bytes_eq (field_at program.now field.0).name name.now && bytes_eq (field_at program.now field.0).descriptor descriptor.now) }
+fn own_field(program: &Program, sought: &Sought, class: ClassId) -> Option<FieldId>
+    ensures { result ≡ option_map as_field (own_field program.now sought.now.0 sought.now.1 class.0) }
 {
-    name_of_field(program, field) == name && descriptor_of_field(program, field) == descriptor
-}
-
-fn own_field(program: &Program, name: &[u8], descriptor: &[u8], class: ClassId) -> Option<FieldId>
-    ensures { result ≡ option_map as_field (own_field program.now name.now descriptor.now class.0) }
-{
-    for field in fields_of(program, class) {
-        if is_field(program, *field, name, descriptor) {
-            return Some(*field);
-        }
-    }
-    None
+    let first = program.classes.fields_of(class.0 as usize).first;
+    let last = fields_of(program, class).last()?.0;
+    let field = first_between(&program.fields, sought, first, last)?;
+    Some(FieldId(field))
 }
 
 /// Whether a class declares a field.
 #[derive(Clone, Copy)]
-struct Declares<'a> {
-    name: &'a [u8],
-    descriptor: &'a [u8],
+struct Declares<'a, 'b> {
+    sought: &'a Sought<'b>,
 }
 
-impl<'a> Question for Declares<'a> {
-    ghost answer = { λ s p i. own_field p s.name.now s.descriptor.now i };
+impl<'a, 'b> Question for Declares<'a, 'b> {
+    ghost answer = { λ s p i. own_field p s.sought.now.0 s.sought.now.1 i };
 
     fn ask(&self, program: &Program, class: ClassId) -> Option<u32> {
-        match own_field(program, self.name, self.descriptor, class) {
+        match own_field(program, self.sought, class) {
             Some(field) => Some(field.0),
             None => None,
         }
@@ -54,9 +45,9 @@ fn own_or_below(
     class: ClassId,
     silent: &mut Marks,
 ) -> Option<u32>
-    requires { AreSilent (own_field program.now question.now.name.now question.now.descriptor.now) program.now silent.old }
-    ensures answer { result ≡ first_given (own_field program.now question.now.name.now question.now.descriptor.now) (class.0 ∷ interfaces_below program.now class.0) }
-    ensures silent { AreSilent (own_field program.now question.now.name.now question.now.descriptor.now) program.now silent.new }
+    requires { AreSilent (own_field program.now question.now.sought.now.0 question.now.sought.now.1) program.now silent.old }
+    ensures answer { result ≡ first_given (own_field program.now question.now.sought.now.0 question.now.sought.now.1) (class.0 ∷ interfaces_below program.now class.0) }
+    ensures silent { AreSilent (own_field program.now question.now.sought.now.0 question.now.sought.now.1) program.now silent.new }
 {
     match question.ask(program, class) {
         Some(field) => Some(field),
@@ -77,7 +68,8 @@ pub fn resolve_field(
     if is_array(program, class) {
         return None;
     }
-    let question = Declares { name, descriptor };
+    let sought = Sought::of(name, descriptor);
+    let question = Declares { sought: &sought };
     let mut silent = no_marks();
     let mut left = program.classes.len();
     let mut next = Some(class);

@@ -5,6 +5,7 @@
 
 pub mod arrays;
 mod assignability;
+mod between;
 pub mod decoding;
 mod fields;
 mod handlers;

@@ -1,26 +1,19 @@
 //! Methods by their names and descriptors, in classes and in superinterfaces.
 
-ghost use Rattle.std.specs.Prelude.{◌≡◌, ◌&&◌, bytes_eq, option_map};
+ghost use Rattle.std.specs.Prelude.{◌≡◌, find, option_map};
 ghost use Rattle.vx_java.specs.Ids.{as_method};
+ghost use Rattle.vx_java.specs.MemberNumbers.{is_method, numbers_between};
 ghost use Rattle.vx_java.specs.Specific.{passes};
 ghost use Rattle.vx_link.specs.Hierarchy.{superclasses};
 ghost use Rattle.vx_link.specs.Parts.{is_inherited, method_at};
 ghost use Rattle.vx_link.specs.Resolution.{first_given, own_method};
 
-use crate::parts::{
-    descriptor_of_method, flags_of_method, methods_of, name_of_method, superclass_of,
-};
+use crate::between::first_between;
+use crate::parts::{flags_of_method, methods_of, superclass_of};
 use crate::questions::Question;
 use bitflags::Flags;
-use vx_link::{AccessFlags, Program};
+use vx_link::{AccessFlags, Program, Sought};
 use vx_value::{ClassId, MethodId};
-
-/// The name and the descriptor of a method.
-#[derive(Clone, Copy)]
-pub struct Signature<'a> {
-    pub name: &'a [u8],
-    pub descriptor: &'a [u8],
-}
 
 /// The methods that a search takes.
 #[derive(Clone, Copy)]
@@ -45,39 +38,47 @@ fn passes(program: &Program, among: Among, method: MethodId) -> bool
     }
 }
 
-fn is_method(program: &Program, among: Among, signature: &Signature, method: MethodId) -> bool
-    ensures { result ≡ (bytes_eq (method_at program.now method.0).name signature.now.name.now && (bytes_eq (method_at program.now method.0).descriptor signature.now.descriptor.now && passes among (method_at program.now method.0))) }
+/// The first method from a number on through another that a search takes.
+fn method_between(
+    program: &Program,
+    among: Among,
+    sought: &Sought,
+    mut from: u32,
+    last: u32,
+) -> Option<MethodId>
+    ensures { result ≡ option_map as_method (find (is_method program.now (passes among) sought.now.0 sought.now.1) (numbers_between from last)) }
 {
-    name_of_method(program, method) == signature.name
-        && descriptor_of_method(program, method) == signature.descriptor
-        && passes(program, among, method)
+    loop {
+        let number = first_between(&program.methods, sought, from, last)?;
+        if passes(program, among, MethodId(number)) {
+            return Some(MethodId(number));
+        }
+        from = number.checked_add(1)?;
+    }
 }
 
 /// The method that a class declares.
 pub fn own_method(
     program: &Program,
     among: Among,
-    signature: &Signature,
+    sought: &Sought,
     class: ClassId,
 ) -> Option<MethodId>
-    ensures { result ≡ option_map as_method (own_method program.now (passes among) signature.now.name.now signature.now.descriptor.now class.0) }
+    ensures { result ≡ option_map as_method (own_method program.now (passes among) sought.now.0 sought.now.1 class.0) }
 {
-    for method in methods_of(program, class) {
-        if is_method(program, among, signature, *method) {
-            return Some(*method);
-        }
-    }
-    None
+    let first = program.classes.methods_of(class.0 as usize).first;
+    let last = methods_of(program, class).last()?.0;
+    method_between(program, among, sought, first, last)
 }
 
 /// The method of a class or of the first of its superclasses that declares one.
 pub fn inherited_method(
     program: &Program,
     among: Among,
-    signature: &Signature,
+    sought: &Sought,
     class: ClassId,
 ) -> Option<MethodId>
-    ensures { result ≡ option_map as_method (first_given (own_method program.now (passes among) signature.now.name.now signature.now.descriptor.now) (superclasses program.now class.0)) }
+    ensures { result ≡ option_map as_method (first_given (own_method program.now (passes among) sought.now.0 sought.now.1) (superclasses program.now class.0)) }
 {
     let mut left = program.classes.len();
     let mut next = Some(class);
@@ -85,7 +86,7 @@ pub fn inherited_method(
         let Some(class) = next else {
             return None;
         };
-        if let Some(method) = own_method(program, among, signature, class) {
+        if let Some(method) = own_method(program, among, sought, class) {
             return Some(method);
         }
         next = superclass_of(program, class);
@@ -96,15 +97,15 @@ pub fn inherited_method(
 
 /// Whether an interface declares a method that is neither private nor static.
 #[derive(Clone, Copy)]
-pub struct Declares<'a> {
-    pub signature: Signature<'a>,
+pub struct Declares<'a, 'b> {
+    pub sought: &'a Sought<'b>,
 }
 
-impl<'a> Question for Declares<'a> {
-    ghost answer = { λ s p i. own_method p is_inherited s.signature.name.now s.signature.descriptor.now i };
+impl<'a, 'b> Question for Declares<'a, 'b> {
+    ghost answer = { λ s p i. own_method p is_inherited s.sought.now.0 s.sought.now.1 i };
 
     fn ask(&self, program: &Program, class: ClassId) -> Option<u32> {
-        match own_method(program, Among::Inherited, &self.signature, class) {
+        match own_method(program, Among::Inherited, self.sought, class) {
             Some(method) => Some(method.0),
             None => None,
         }

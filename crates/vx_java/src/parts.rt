@@ -45,16 +45,6 @@ pub fn fields_of(program: &Program, class: ClassId) -> &[FieldId]
     }
 }
 
-/// The name of a field.
-pub fn name_of_field(program: &Program, field: FieldId) -> &[u8]
-    ensures { result.now ≡ (field_at program.now field.0).name }
-{
-    match program.field(field) {
-        Some(field) => field.name.bytes(),
-        None => &[],
-    }
-}
-
 /// The descriptor of a field.
 pub fn descriptor_of_field(program: &Program, field: FieldId) -> &[u8]
     ensures { result.now ≡ (field_at program.now field.0).descriptor }

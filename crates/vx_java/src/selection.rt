@@ -8,13 +8,13 @@ ghost use Rattle.vx_link.specs.Hierarchy.{superclasses};
 ghost use Rattle.vx_link.specs.Parts.{method_at};
 ghost use Rattle.vx_link.specs.Resolution.{first_given, own_method, specific_methods};
 
-use crate::methods::{Among, Signature, inherited_method};
+use crate::methods::{Among, inherited_method};
 use crate::naming::object_id;
 use crate::parts::{descriptor_of_method, flags_of_method, is_array, is_interface, name_of_method};
 use crate::selected::Selected;
 use crate::specific::specific_method;
 use bitflags::Flags;
-use vx_link::{AccessFlags, Program};
+use vx_link::{AccessFlags, Program, Sought};
 use vx_value::{ClassId, MethodId};
 
 /// A method, or `Abstract` where it has no body.
@@ -31,13 +31,13 @@ pub fn selected_if_concrete(program: &Program, method: MethodId) -> Selected
 fn found_from(program: &Program, among: Among, class: ClassId, method: MethodId) -> Selected
     ensures { result ≡ found_or program.now (first_given (own_method program.now (passes among) (method_at program.now method.0).name (method_at program.now method.0).descriptor) (superclasses program.now class.0)) (specific_methods program.now (method_at program.now method.0).name (method_at program.now method.0).descriptor class.0) }
 {
-    let signature = Signature {
-        name: name_of_method(program, method),
-        descriptor: descriptor_of_method(program, method),
-    };
-    match inherited_method(program, among, &signature, class) {
+    let sought = Sought::of(
+        name_of_method(program, method),
+        descriptor_of_method(program, method),
+    );
+    match inherited_method(program, among, &sought, class) {
         Some(found) => selected_if_concrete(program, found),
-        None => specific_method(program, &signature, class),
+        None => specific_method(program, &sought, class),
     }
 }
 

@@ -12,3 +12,5 @@ pub mod Faults
 pub mod Linked
 pub mod Tables
 pub mod ClassPlaces
+pub mod Members
+pub mod MemberKeys

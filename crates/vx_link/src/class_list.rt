@@ -1,7 +1,10 @@
 //! The classes of a program, each found by the hash of its name.
 
-ghost use Rattle.std.specs.Prelude.{◌≡◌, ◌++◌, ◌<◌, ◌∷◌, [], IfOk, IfSome, OnOk, bytes_eq, if◌then◌else◌, length, option_copied, position, slice_get};
+ghost use Rattle.std.specs.Prelude.{◌≡◌, ◌++◌, ◌<◌, ◌∷◌, [], All, IfOk, IfSome, OnOk, bytes_eq, if◌then◌else◌, length, map, option_copied, position, slice_get};
 ghost use Rattle.vx_link.specs.ClassPlaces.{ArePlaces};
+ghost use Rattle.vx_link.specs.Members.{HaveRuns, numbers_of};
+ghost use Rattle.vx_link.specs.Parts.{no_class};
+ghost use Rattle.vx_list.specs.Places.{item_or};
 ghost use Rattle.vx_names.specs.Names.{has_name, with_name};
 
 use crate::program::LinkedClass;
@@ -9,6 +12,7 @@ use std::alloc::{AllocError, Global};
 use std::marker::Model;
 use vx_list::Items;
 use vx_names::NameTable;
+use vx_value::{FieldId, MethodId};
 
 /// The names of classes, each once, and for each name the place of its first class.
 #[derive(Drop)]
@@ -58,6 +62,31 @@ fn places_of(alloc: Global, classes: &[LinkedClass]) -> Result<ClassPlaces, Allo
     Ok(known)
 }
 
+/// Numbers that follow one another: the first one, or 0 where there is none, and how many there are.
+#[derive(Clone, Copy)]
+pub struct Run {
+    pub first: u32,
+    pub count: usize,
+}
+
+fn first_method(methods: &[MethodId]) -> u32
+    ensures { result ≡ item_or (map (λ m. m.0) methods.now) 0 0 }
+{
+    match methods.first() {
+        Some(method) => method.0,
+        None => 0,
+    }
+}
+
+fn first_field(fields: &[FieldId]) -> u32
+    ensures { result ≡ item_or (map (λ f. f.0) fields.now) 0 0 }
+{
+    match fields.first() {
+        Some(field) => field.0,
+        None => 0,
+    }
+}
+
 /// The classes of a program in order, with a table in which the place of a class is found by its name. Contracts see the list of them.
 #[derive(Drop)]
 pub struct ClassList {
@@ -66,20 +95,22 @@ pub struct ClassList {
 }
 
 impl Model for ClassList {
-    ghost use Rattle.std.specs.Prelude.{List};
+    ghost use Rattle.std.specs.Prelude.{All, List};
     ghost use Rattle.vx_link.specs.ClassPlaces.{ArePlaces};
+    ghost use Rattle.vx_link.specs.Members.{HaveRuns};
     ghost use Rattle.vx_link.specs.declared.program.LinkedClass.{LinkedClass};
 
     ghost Value = { List LinkedClass };
 
     ghost view = { λ list. list.classes };
 
-    ghost invariant = { λ list. ArePlaces list.classes list.known.names list.known.places.items };
+    ghost invariant = { λ list. ArePlaces list.classes list.known.names list.known.places.items × All HaveRuns list.classes };
 }
 
 impl ClassList {
     /// A list of these classes.
     pub fn of(alloc: Global, classes: Items<LinkedClass>) -> Result<ClassList, AllocError>
+        requires { All HaveRuns classes }
         ensures { IfOk result (λ list. list ≡ classes) }
     {
         let known = places_of(alloc, classes.as_slice())?;
@@ -105,6 +136,32 @@ impl ClassList {
         ensures { result.now ≡ self.now }
     {
         self.classes.as_slice()
+    }
+
+    /// The numbers of the methods of the class at a place, and none past the last class.
+    pub fn methods_of(&self, place: usize) -> Run
+        ensures { map (λ m. m.0) (item_or self.now place no_class).methods ≡ numbers_of result }
+    {
+        match self.classes.get(place) {
+            Some(class) => Run {
+                first: first_method(class.methods.as_slice()),
+                count: class.methods.len(),
+            },
+            None => Run { first: 0, count: 0 },
+        }
+    }
+
+    /// The numbers of the fields of the class at a place, and none past the last class.
+    pub fn fields_of(&self, place: usize) -> Run
+        ensures { map (λ f. f.0) (item_or self.now place no_class).fields ≡ numbers_of result }
+    {
+        match self.classes.get(place) {
+            Some(class) => Run {
+                first: first_field(class.fields.as_slice()),
+                count: class.fields.len(),
+            },
+            None => Run { first: 0, count: 0 },
+        }
     }
 
     /// The place of the first class that has a name, if there is one. It is found by the hash of the name.

@@ -4,6 +4,7 @@ ghost use Rattle.std.specs.Prelude.{◌≡◌, option_copied, slice_get};
 
 use crate::access_flags::AccessFlags;
 use crate::class_list::ClassList;
+use crate::member_list::MemberList;
 use crate::shared_name::SharedName;
 use vx_class::Code;
 use vx_list::Items;
@@ -15,8 +16,8 @@ use vx_value::{ClassId, FieldId, MethodId, Name};
 #[derive(Drop)]
 pub struct Program {
     pub classes: ClassList,
-    pub methods: Items<LinkedMethod>,
-    pub fields: Items<LinkedField>,
+    pub methods: MemberList<LinkedMethod>,
+    pub fields: MemberList<LinkedField>,
     /// The method with which a run begins.
     pub main: MethodId,
     /// The field of each option of the model, or `None` for an option without a field.

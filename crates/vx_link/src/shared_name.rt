@@ -1,24 +1,30 @@
 //! Names that several members have.
 
 ghost use Rattle.std.specs.Prelude.{◌≡◌, IfOk};
+ghost use Rattle.vx_link.specs.MemberKeys.{hash_of};
 
+use crate::member_keys::hash_of;
 use std::alloc::{AllocError, Global};
 use std::marker::Model;
 use std::rc::Rc;
 use vx_value::Name;
 
-/// Bytes that name a member, kept once for all that have the name. Contracts see the list of them.
+/// Bytes that name a member, kept once with their hash for all that have the name. Contracts see the list of them.
 #[derive(Drop)]
 pub struct SharedName {
     name: Rc<Name, Global>,
+    hash: u64,
 }
 
 impl Model for SharedName {
-    ghost use Rattle.std.specs.Prelude.{ℕ, List};
+    ghost use Rattle.std.specs.Prelude.{◌≡◌, ℕ, List};
+    ghost use Rattle.vx_link.specs.MemberKeys.{hash_of};
 
     ghost Value = { List ℕ };
 
     ghost view = { λ shared. shared.name.value };
+
+    ghost invariant = { λ shared. shared.hash ≡ hash_of shared.name.value };
 }
 
 impl SharedName {
@@ -27,8 +33,9 @@ impl SharedName {
         ensures { IfOk result (λ shared. shared ≡ bytes.now) }
     {
         let name = Name::of(alloc, bytes)?;
+        let hash = hash_of(bytes);
         match Rc::new(alloc, name) {
-            Ok(name) => Ok(SharedName { name }),
+            Ok(name) => Ok(SharedName { name, hash }),
             Err(_) => Err(AllocError),
         }
     }
@@ -39,6 +46,7 @@ impl SharedName {
     {
         Ok(SharedName {
             name: self.name.clone()?,
+            hash: self.hash,
         })
     }
 
@@ -47,5 +55,12 @@ impl SharedName {
         ensures { result.now ≡ self.now }
     {
         self.name.as_ref().bytes()
+    }
+
+    /// The hash of its bytes.
+    pub(crate) fn hash(&self) -> u64
+        ensures { result ≡ hash_of self.now }
+    {
+        self.hash
     }
 }

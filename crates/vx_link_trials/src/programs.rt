@@ -5,7 +5,7 @@ use std::alloc::Global;
 use std::test::Fail;
 use vx_class::{ClassFile, read_class};
 use vx_core::core;
-use vx_link::Program;
+use vx_link::{Program, Sought};
 use vx_linker::link;
 use vx_model::read_model;
 use vx_value::{ClassId, FieldId, MethodId};
@@ -76,5 +76,25 @@ fn a_folder_is_linked_in_its_order(rt: HostRuntime) -> Result<(), Fail> {
     assert!(rt; are_cells(&program));
     assert!(rt; are_options(&program));
     assert!(rt; are_core_classes_last(&program));
+    Ok(())
+}
+
+/// Whether a field of a name and a descriptor has a number among those of the folder's classes.
+fn is_field(program: &Program, name: &[u8], descriptor: &[u8], number: Option<u32>) -> bool {
+    let sought = Sought::of(name, descriptor);
+    program.fields.first(&sought, 0, 4) == number
+}
+
+#[test]
+fn classes_and_members_are_found_by_their_names(rt: HostRuntime) -> Result<(), Fail> {
+    let program = program(rt.alloc())?;
+    let main = Sought::of(b"main", b"([Ljava/lang/String;)V");
+    assert!(rt; program.methods.first(&main, 0, 2) == Some(1));
+    assert!(rt; program.methods.first(&main, 2, 2) == None);
+    assert!(rt; is_field(&program, b"b", b"J", Some(2)) && is_field(&program, b"b", b"I", None));
+    assert!(rt; program.classes.place_of(b"Main") == Some(1));
+    assert!(rt;
+        program.classes.methods_of(1).first == 1 && program.classes.fields_of(1).first == 3
+    );
     Ok(())
 }

@@ -172,3 +172,11 @@ numbered_more f from n k xs more x h e i j =
 pub fields_laid_out : (p : Program) (from : ℕ) (fields : List LinkedField) → with_cells fields (map (layout p) (range_with_len from (length fields))) ≡ fields_with_layout p from fields
 fields_laid_out p from [] = refl
 fields_laid_out p from (f ∷ fields) = ap (λ rest. record f { cell = layout p from } ∷ rest) (ap (λ n. with_cells fields (map (layout p) (range_with_len n (length fields)))) (add-one from) ∙ fields_laid_out p (suc from) fields)
+
+-- a field with another cell has the same name and descriptor
+abbrev pub signature_of_field : LinkedField → List ℕ × List ℕ
+signature_of_field f = (f.name, f.descriptor)
+
+pub same_signatures : (fields : List LinkedField) (cells : List ℕ) → map signature_of_field (with_cells fields cells) ≡ map signature_of_field fields
+same_signatures [] cells = refl
+same_signatures (f ∷ fields) cells = ap (λ rest. (f.name, f.descriptor) ∷ rest) (same_signatures fields (drop 1 cells))

@@ -7,3 +7,4 @@ pub mod Layouts
 pub mod Numbering
 pub mod FieldRuns
 pub mod Texts
+pub mod Runs

@@ -182,7 +182,7 @@ pub all_members : (xs ys : List ClassFile) → AllByRecursion HasFewMembers xs �
 all_members [] ys h k = k
 all_members (x ∷ xs) ys h k = (h.0, all_members xs ys h.1 k)
 
-all-cons : {X : Type 0} (P : X → Type 0) (x : X) (xs : List X) → P x → All P xs → All P (x ∷ xs)
+pub all-cons : {X : Type 0} (P : X → Type 0) (x : X) (xs : List X) → P x → All P xs → All P (x ∷ xs)
 all-cons P x xs h t zero d below = h
 all-cons P x xs h t (suc k) d below = t k d (omega (arith, below))
 

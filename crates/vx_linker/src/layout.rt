@@ -12,7 +12,7 @@ use crate::counting::{count_in_run, running_counts, runs};
 use crate::methods::{behind_first, first_number};
 use bitflags::Flags;
 use std::alloc::{AllocError, Global};
-use vx_link::{AccessFlags, LinkedClass, LinkedField, Program};
+use vx_link::{AccessFlags, LinkedClass, LinkedField, MemberList, Program};
 use vx_list::Items;
 use vx_value::{ClassId, FieldId};
 
@@ -250,9 +250,8 @@ pub fn with_layout(alloc: Global, program: Program) -> Result<Program, AllocErro
     let counts = instance_counts(alloc, &program)?;
     let above = cells_above(alloc, &program, &counts)?;
     let cells = all_cells(alloc, &program, &above)?;
-    let fields = with_cells(alloc, program.fields.into_vec(), &cells)?;
-    Ok(Program {
-        fields: Items::of(fields),
-        ..program
-    })
+    let (fields, keys) = program.fields.into_parts();
+    let laid_out = with_cells(alloc, fields, &cells)?;
+    let fields = MemberList::from_parts(Items::of(laid_out), keys);
+    Ok(Program { fields, ..program })
 }

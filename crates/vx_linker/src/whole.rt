@@ -1,9 +1,10 @@
 //! The whole program of class files that have no fault.
 
-ghost use Rattle.std.specs.Prelude.{◌≡◌, ◌+◌, ◌<◌, ◌^◌, ◌++◌, [], length, IfOk};
+ghost use Rattle.std.specs.Prelude.{◌≡◌, ◌+◌, ◌<◌, ◌^◌, ◌++◌, [], length, All, IfOk};
 ghost use Rattle.std.specs.List.{AllByRecursion};
 ghost use Rattle.vx_linker.specs.Few.{AreFew, HasFewMembers};
 ghost use Rattle.vx_link.specs.Linked.{linked_classes, methods_from, fields_from, program_with, program_of};
+ghost use Rattle.vx_link.specs.Members.{HaveRuns};
 ghost use Rattle.vx_link.specs.Tables.{names_of};
 
 use crate::entries::{main_method, option_fields};
@@ -11,7 +12,7 @@ use crate::files::Files;
 use crate::layout::with_layout;
 use crate::parts::{Parts, add_classes};
 use std::alloc::{AllocError, Global};
-use vx_link::{ClassList, Program};
+use vx_link::{ClassList, MemberList, Program};
 use vx_list::Items;
 use vx_model::OptionField;
 
@@ -59,14 +60,15 @@ fn without_layout(
 ) -> Result<Program, AllocError>
     requires options { length options.now < 2 ^ 16 }
     requires fields { length parts.fields < 2 ^ 32 }
+    requires runs { All HaveRuns parts.classes }
     ensures { IfOk result (λ p. p ≡ program_with parts.classes parts.methods parts.fields options.now main.now) }
 {
     let main = main_method(parts.classes.as_slice(), parts.methods.as_slice(), main);
     let options = option_fields(alloc, parts.fields.as_slice(), options.len() as u32)?;
     Ok(Program {
         classes: ClassList::of(alloc, parts.classes)?,
-        methods: parts.methods,
-        fields: parts.fields,
+        methods: MemberList::of(alloc, parts.methods)?,
+        fields: MemberList::of(alloc, parts.fields)?,
         main,
         options,
     })

@@ -7,9 +7,9 @@ use Rattle.vx_java.proofs.fields.resolve_field.Given as goal
 
 abbrev pub invariant-loop-left : goal.invariant-loop-left
 invariant-loop-left l =
-    (first_given (own_field l.program l.name l.descriptor) (field_order l.program l.fn.class.0)
-    ≡ first_given (own_field l.program l.name l.descriptor) (with_below (interfaces_below l.program) (chain_from l.program l.left l.next)))
-    × AreSilent (own_field l.program l.name l.descriptor) l.program l.silent
+    (first_given (own_field l.program l.question.sought.now.0 l.question.sought.now.1) (field_order l.program l.fn.class.0)
+    ≡ first_given (own_field l.program l.question.sought.now.0 l.question.sought.now.1) (with_below (interfaces_below l.program) (chain_from l.program l.left l.next)))
+    × AreSilent (own_field l.program l.question.sought.now.0 l.question.sought.now.1) l.program l.silent
 
 abbrev pub decreases-loop-left : goal.decreases-loop-left
 decreases-loop-left l = l.left

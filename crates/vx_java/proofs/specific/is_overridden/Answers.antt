@@ -8,5 +8,5 @@ use Rattle.vx_java.proofs.specific.is_overridden.Goals as goal
 pub returns : goal.returns
 returns c =
     let p = c.args.program.now in
-    let s = c.args.signature.now in
-    c.is_some.ensures ∙ ap is_some c.ask_superinterfaces.ensures ∙ some_first (overrides p s.name.now s.descriptor.now c.args.interface.0) (superinterfaces p c.args.class.0)
+    let s = c.args.sought.now in
+    c.is_some.ensures ∙ ap is_some c.ask_superinterfaces.ensures ∙ some_first (overrides p s.0 s.1 c.args.interface.0) (superinterfaces p c.args.class.0)

@@ -8,7 +8,7 @@ use Rattle.vx_java.proofs.specific.others_give.Goals as goal
 pub returns : goal.returns
 returns c =
     let p = c.args.program.now in
-    let s = c.args.signature.now in
+    let s = c.args.sought.now in
     c.is_some.ensures
     ∙ ap is_some c.ask_superinterfaces.ensures
-    ∙ some_first (gives_beside (specific_in p s.name.now s.descriptor.now c.args.class.0) c.args.first.0) (superinterfaces p c.args.class.0)
+    ∙ some_first (gives_beside (specific_in p s.0 s.1 c.args.class.0) c.args.first.0) (superinterfaces p c.args.class.0)

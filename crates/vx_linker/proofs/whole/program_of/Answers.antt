@@ -1,7 +1,9 @@
 use Rattle.std.proofs.Common.{◌++◌, ap, sym, subst, ◌∙◌, arith, List, length}
 use Rattle.std.specs.List.{All}
 use Rattle.std.proofs.lemmas.List.{length-append}
+use Rattle.vx_linker.proofs.Runs.{have_runs}
 use Rattle.vx_linker.specs.Few.{HasFewFields}
+use Rattle.vx_link.specs.Members.{HaveRuns}
 use Rattle.vx_link.specs.Tables.{names_of}
 use Rattle.vx_link.specs.declared.program.LinkedClass.{LinkedClass}
 use Rattle.vx_linker.proofs.Numbering.{all_members, few_fields, so_many_classes}
@@ -29,3 +31,9 @@ pub with_layout-requires-clause-fields : goal.with_layout-requires-clause-fields
 with_layout-requires-clause-fields c =
     let all = c.args.files.classes.items ++ c.args.files.core.items in
     omega (arith, ap (λ p. length p.fields) c.in_ok-program.ensures, c.in_ok-parts.ensures.few.fields, so_many_classes (names_of all) all c.in_ok-parts.parts.classes c.in_ok-parts.ensures.classes, length-append c.args.files.classes.items c.args.files.core.items, c.requires.few)
+
+pub without_layout-requires-clause-runs : goal.without_layout-requires-clause-runs
+without_layout-requires-clause-runs c =
+    let all = c.args.files.classes.items ++ c.args.files.core.items in
+    let P : List LinkedClass → Type 0 = All HaveRuns in
+    subst P (sym c.in_ok-parts.ensures.classes) (have_runs (names_of all) all 0 0)
