@@ -296,6 +296,19 @@ def calls_of_the_last_method(methods=20000):
     return with_long_bodies(made, struct.pack('>BH', INVOKESTATIC, called))
 
 
+def calls_of_methods_of_one_long_descriptor(methods=15000, length=10000):
+    """A call of each of many methods, which differ in their names alone."""
+    made = ClassFile()
+    descriptor = '(L' + 'a' * length + ';)V'
+    code = b''
+    for number in range(methods):
+        made.method(STATIC | NATIVE, f'g{number}', descriptor)
+        called = made.add(struct.pack('>BHH', 10, made.own, made.name_and_type(f'g{number}', descriptor)))
+        code += struct.pack('>BBH', ACONST_NULL, INVOKESTATIC, called)
+    made.main(code + bytes([RETURN]))
+    return made
+
+
 def casts_to_one_long_name(length=6000):
     made = ClassFile()
     return with_long_bodies(made, struct.pack('>BHB', CHECKCAST, made.class_entry('a' * length), POP))
@@ -319,7 +332,8 @@ def catch_rows_of_own_starts(rows=4000):
 VERIFIED = {
     'jumps back': jumps_back, 'many locals': many_locals, 'the last local': last_local, 'a loop of 500 copies': copies_in_a_loop,
     '150,000 calls of a descriptor of 3,000 bytes': calls_of_one_long_descriptor,
-    '150,000 calls in a class of 20,000 methods': calls_of_the_last_method, '120,000 casts to a name of 6,000 bytes': casts_to_one_long_name,
+    '150,000 calls in a class of 20,000 methods': calls_of_the_last_method,
+    'calls of 15,000 methods of one descriptor of 10,000 bytes': calls_of_methods_of_one_long_descriptor, '120,000 casts to a name of 6,000 bytes': casts_to_one_long_name,
     '100,000 reads of a field with a name of 12,000 bytes': fields_of_one_long_name_read, '4,000 catch rows of own starts': catch_rows_of_own_starts}
 
 FILES = {

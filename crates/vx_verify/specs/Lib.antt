@@ -8,3 +8,4 @@ pub mod Joining
 pub mod Inference
 pub mod Spans
 pub mod Quieting
+pub mod KnownRows

@@ -3,15 +3,18 @@
 
 ghost use Rattle.std.specs.Bool.{MatchBool};
 ghost use Rattle.std.specs.List.{list_all};
-ghost use Rattle.std.specs.Prelude.{◌≡◌, ◌<◌, ◌≤◌, ◌^◌, ◌&&◌, ◌==◌, IfOk, None, Some, length, nat_le, nat_lt, replicate, true};
+ghost use Rattle.std.specs.Prelude.{◌≡◌, ◌<◌, ◌≤◌, ◌^◌, ◌&&◌, ◌==◌, IfOk, None, OnOk, Some, length, nat_le, nat_lt, replicate, true};
 ghost use Rattle.vx_java.specs.Ids.{HasClassNumbers};
 ghost use Rattle.vx_types.specs.Flow.{stack_size, targets_of};
 ghost use Rattle.vx_types.specs.Ranked.{IsRanked};
+ghost use Rattle.vx_types.specs.Rows.{row_of};
 ghost use Rattle.vx_verify.specs.Inference.{AreCaught, AreForced, AreHandled, AreReached, Goes, HasMerged, HasNoTyping, IsCaught, IsClosedIn, IsDecoded, IsFollowed, IsForcedIn, IsHandled, IsInference, IsJoint, IsLooked, IsNext, IsRaising, IsSubject, IsSwept, Leads, Reaches, caught_state, is_last, joint_of, known_of, state_of};
+ghost use Rattle.vx_verify.specs.KnownRows.{AreKnown};
 ghost use Rattle.vx_verify.specs.Quieting.{IsQuiet, QuietGoes, QuietHandled, QuietLooked};
 ghost use Rattle.vx_verify.specs.States.{IsStack, IsStore, Stands, operands_at, state_at};
 ghost use Rattle.vx_verify.specs.Typing.{IsCodeTyped, is_known};
 
+use crate::known_rows::KnownRows;
 use crate::quiet::{Quiet, around, is_quiet, none_quiet};
 use crate::rows::{Frame, State, after};
 use crate::start::{caught_by, levels_of, start_state};
@@ -288,14 +291,15 @@ impl Inference {
         self.reach_all(alloc, subject, &targets, made)
     }
 
-    /// What an operation makes, merged into the positions to which it leads.
-    fn follow(
+    /// What an operation with a row makes, merged into the positions to which it leads.
+    fn follow_row(
         &mut self,
         alloc: Global,
         subject: &Subject,
         at: u32,
         size: u32,
         operation: Operation,
+        row: &Row,
         before: State,
     ) -> Result<bool, AllocError>
         requires subject { IsSubject subject.now }
@@ -303,10 +307,10 @@ impl Inference {
         requires known { known_of subject.now self.old at ≡ Some (state_at self.old.store subject.now.frame before) }
         requires stands { Stands self.old.store subject.now.frame before }
         requires decoded { IsDecoded subject.now at size operation }
+        requires row { row.now ≡ row_of subject.now.program.now subject.now.method.0 operation }
         ensures { IfOk result (λ followed. MatchBool followed (IsFollowed subject.now self.old self.new at before) (HasNoTyping subject.now)) }
     {
-        let row = row_of(alloc, subject.program, subject.method, operation)?;
-        let is_last = is_last(&row);
+        let is_last = is_last(row);
         let store = &mut self.store;
         let found = after(alloc, store, subject.program, subject.frame, row, before)?;
         let Some(made) = found else {
@@ -316,6 +320,34 @@ impl Inference {
             return Ok(true);
         }
         self.lead(alloc, subject, at, size, operation, made)
+    }
+
+    /// What an operation makes, merged into the positions to which it leads. Its row is kept where it names an entry of the pool.
+    fn follow(
+        &mut self,
+        alloc: Global,
+        subject: &Subject,
+        at: u32,
+        size: u32,
+        operation: Operation,
+        before: State,
+        known: &mut KnownRows,
+    ) -> Result<bool, AllocError>
+        requires subject { IsSubject subject.now }
+        requires inference { IsInference subject.now self.old }
+        requires known { known_of subject.now self.old at ≡ Some (state_at self.old.store subject.now.frame before) }
+        requires stands { Stands self.old.store subject.now.frame before }
+        requires decoded { IsDecoded subject.now at size operation }
+        requires rows { AreKnown subject.now.program.now subject.now.method.0 known.old.rows.items }
+        ensures followed { IfOk result (λ followed. MatchBool followed (IsFollowed subject.now self.old self.new at before) (HasNoTyping subject.now)) }
+        ensures rows { OnOk result (AreKnown subject.now.program.now subject.now.method.0 known.new.rows.items) }
+    {
+        known.make(alloc, subject.program, subject.method, operation)?;
+        if let Some(row) = known.get(subject.program, subject.method, operation) {
+            return self.follow_row(alloc, subject, at, size, operation, row, before);
+        }
+        let row = row_of(alloc, subject.program, subject.method, operation)?;
+        self.follow_row(alloc, subject, at, size, operation, &row, before)
     }
 
     /// The local variables before an instruction, merged into the handler of a row, which begins with these operands.
@@ -403,20 +435,23 @@ impl Inference {
         at: u32,
         before: State,
         quiet: &mut Quiet,
+        rows: &mut KnownRows,
     ) -> Result<bool, AllocError>
         requires subject { IsSubject subject.now }
         requires inference { IsInference subject.now self.old }
         requires known { known_of subject.now self.old at ≡ Some (state_at self.old.store subject.now.frame before) }
         requires stands { Stands self.old.store subject.now.frame before }
         requires quiet { IsQuiet subject.now self.old quiet.old }
-        ensures { IfOk result (λ looked. MatchBool looked (QuietLooked subject.now self.old self.new at before quiet.new) (HasNoTyping subject.now)) }
+        requires rows { AreKnown subject.now.program.now subject.now.method.0 rows.old.rows.items }
+        ensures looked { IfOk result (λ looked. MatchBool looked (QuietLooked subject.now self.old self.new at before quiet.new) (HasNoTyping subject.now)) }
+        ensures rows { OnOk result (AreKnown subject.now.program.now subject.now.method.0 rows.new.rows.items) }
     {
         let Ok(instruction) = decode(subject.code.bytes.as_slice(), at) else {
             return Ok(false);
         };
         let size = instruction.length;
         let operation = operation(&instruction);
-        let followed = self.follow(alloc, subject, at, size, operation, before)?;
+        let followed = self.follow(alloc, subject, at, size, operation, before, rows)?;
         if !followed {
             return Ok(false);
         }
@@ -447,18 +482,21 @@ impl Inference {
         subject: &Subject,
         at: u32,
         quiet: &mut Quiet,
+        rows: &mut KnownRows,
     ) -> Result<bool, AllocError>
         requires subject { IsSubject subject.now }
         requires inference { IsInference subject.now self.old }
         requires position { at < length subject.now.code.now.bytes }
         requires quiet { IsQuiet subject.now self.old quiet.old }
-        ensures { IfOk result (λ looked. MatchBool looked (QuietGoes subject.now self.old self.new quiet.new) (HasNoTyping subject.now)) }
+        requires rows { AreKnown subject.now.program.now subject.now.method.0 rows.old.rows.items }
+        ensures looked { IfOk result (λ looked. MatchBool looked (QuietGoes subject.now self.old self.new quiet.new) (HasNoTyping subject.now)) }
+        ensures rows { OnOk result (AreKnown subject.now.program.now subject.now.method.0 rows.new.rows.items) }
     {
         let Some(before) = self.states[at as usize] else {
             self.marked.remove(&at);
             return Ok(true);
         };
-        let looked = self.visit(alloc, subject, at, before, quiet)?;
+        let looked = self.visit(alloc, subject, at, before, quiet, rows)?;
         if !looked {
             return Ok(false);
         }
@@ -474,17 +512,24 @@ impl Inference {
     }
 
     /// Looks at each marked position once, ascending. The answer is whether there was one, or `None` where the method has no typing.
-    fn sweep(&mut self, alloc: Global, subject: &Subject) -> Result<Option<bool>, AllocError>
+    fn sweep(
+        &mut self,
+        alloc: Global,
+        subject: &Subject,
+        rows: &mut KnownRows,
+    ) -> Result<Option<bool>, AllocError>
         requires subject { IsSubject subject.now }
         requires inference { IsInference subject.now self.old }
-        ensures { IfOk result (λ found. IsSwept subject.now self.new found) }
+        requires rows { AreKnown subject.now.program.now subject.now.method.0 rows.old.rows.items }
+        ensures swept { IfOk result (λ found. IsSwept subject.now self.new found) }
+        ensures rows { OnOk result (AreKnown subject.now.program.now subject.now.method.0 rows.new.rows.items) }
     {
         let mut found = false;
         let mut quiet = none_quiet();
         let mut from = 0;
         while let Some(at) = self.next_marked(from) {
             found = true;
-            let looked = self.step(alloc, subject, at, &mut quiet)?;
+            let looked = self.step(alloc, subject, at, &mut quiet, rows)?;
             if !looked {
                 return Ok(None);
             }
@@ -501,8 +546,9 @@ fn is_inferred(alloc: Global, subject: &Subject) -> Result<bool, AllocError>
     ensures { IfOk result (λ typed. MatchBool typed (IsCodeTyped subject.now.program.now subject.now.method.0 (Some subject.now.code.now)) (¬ IsCodeTyped subject.now.program.now subject.now.method.0 (Some subject.now.code.now))) }
 {
     let mut inference = Inference::new(alloc, subject)?;
+    let mut rows = KnownRows::new(alloc, subject.program, subject.method);
     for _sweep in 0..u64::MAX {
-        let swept = inference.sweep(alloc, subject)?;
+        let swept = inference.sweep(alloc, subject, &mut rows)?;
         let Some(found) = swept else {
             return Ok(false);
         };

@@ -2,6 +2,7 @@
 #![tactic(auto)]
 
 mod inference;
+mod known_rows;
 mod quiet;
 mod rows;
 mod start;

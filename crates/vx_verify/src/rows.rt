@@ -369,7 +369,7 @@ fn load_component(
     let found = component(alloc, store.type_at(array))?;
     match found {
         Some(item) => {
-            let stack = store.pushed_type(item, rest)?;
+            let stack = store.pushed_type(alloc, &item, rest)?;
             Ok(Some(stack))
         }
         None => Ok(None),
@@ -442,33 +442,39 @@ fn store_top(
 }
 
 /// Puts a value of a type there, or none.
-fn put_given(store: &mut Store, given: Option<VerType>, under: u32) -> Result<u32, AllocError>
+fn put_given(
+    alloc: Global,
+    store: &mut Store,
+    given: &Option<VerType>,
+    under: u32,
+) -> Result<u32, AllocError>
     requires store { IsStore store.old }
     requires under { IsStack store.old under }
-    ensures { IfOk result (λ stack. HasStack store.old store.new stack (put given (operands_at store.old under))) }
+    ensures { IfOk result (λ stack. HasStack store.old store.new stack (put given.now (operands_at store.old under))) }
 {
     match given {
-        Some(item) => store.pushed_type(item, under),
+        Some(item) => store.pushed_type(alloc, item, under),
         None => Ok(under),
     }
 }
 
 /// Takes what is wanted, and puts a value of a type there, or none.
 fn exchanged(
+    alloc: Global,
     store: &mut Store,
     program: &Program,
     wants: &[Want],
-    given: Option<VerType>,
+    given: &Option<VerType>,
     operands: u32,
 ) -> Result<Option<u32>, AllocError>
     requires classes { HasClassNumbers program.now }
     requires store { IsStore store.old }
     requires operands { IsStack store.old operands }
-    ensures { IfOk result (λ made. HasOperands store.old store.new made (option_map (put given) (taken program.now wants.now (operands_at store.old operands)))) }
+    ensures { IfOk result (λ made. HasOperands store.old store.new made (option_map (put given.now) (taken program.now wants.now (operands_at store.old operands)))) }
 {
     match taken(store, program, wants, operands) {
         Some(under) => {
-            let stack = put_given(store, given, under)?;
+            let stack = put_given(alloc, store, given, under)?;
             Ok(Some(stack))
         }
         None => Ok(None),
@@ -513,7 +519,7 @@ pub fn after(
     store: &mut Store,
     program: &Program,
     frame: Frame,
-    row: Row,
+    row: &Row,
     state: State,
 ) -> Result<Option<State>, AllocError>
     requires classes { HasClassNumbers program.now }
@@ -521,24 +527,25 @@ pub fn after(
     requires few { frame.levels ≤ 16 }
     requires locals { frame.locals ≤ 2 ^ frame.levels }
     requires state { Stands store.old frame state }
-    ensures { IfOk result (λ made. HasState store.old store.new frame made (after program.now row (state_at store.old frame state))) }
+    ensures { IfOk result (λ made. HasState store.old store.new frame made (after program.now row.now (state_at store.old frame state))) }
 {
     match row {
         Row::Refused => Ok(None),
         Row::Ends => Ok(Some(state)),
         Row::Leaves(wants) => Ok(left(store, program, wants.as_slice(), state)),
         Row::Takes(wants, given) => {
-            let operands = exchanged(store, program, wants.as_slice(), given, state.operands)?;
+            let wants = wants.as_slice();
+            let operands = exchanged(alloc, store, program, wants, given, state.operands)?;
             Ok(with_operands(state, operands))
         }
-        Row::Load(sort, place) => load(store, frame, sort, place, state),
-        Row::Store(sort, place) => store_top(store, frame, sort, place, state),
+        Row::Load(sort, place) => load(store, frame, *sort, *place, state),
+        Row::Store(sort, place) => store_top(store, frame, *sort, *place, state),
         Row::Increase(place) => {
-            let item = local(store, frame, state.locals, u32::from(place));
+            let item = local(store, frame, state.locals, u32::from(*place));
             Ok(if_int(store, item, state))
         }
         Row::Move(form) => {
-            let operands = moved(alloc, store, form, state.operands)?;
+            let operands = moved(alloc, store, *form, state.operands)?;
             Ok(with_operands(state, operands))
         }
         Row::LoadReference => {

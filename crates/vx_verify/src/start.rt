@@ -54,13 +54,18 @@ fn put_unread(numbers: &mut Vec<u32>, item: &JavaType) -> Result<(), AllocError>
 }
 
 /// A value in the local variables behind those that are there: a long takes two.
-fn put_value(store: &mut Store, item: VerType, numbers: &mut Vec<u32>) -> Result<(), AllocError>
+fn put_value(
+    alloc: Global,
+    store: &mut Store,
+    item: VerType,
+    numbers: &mut Vec<u32>,
+) -> Result<(), AllocError>
     requires store { IsStore store.old }
     requires numbers { AreTypes store.old numbers.old.items }
     ensures { OnOk result (HasNumbers store.old store.new numbers.new.items (types_at store.old numbers.old.items ++ value_locals item)) }
 {
     let is_long = is_of(Sort::Long, &item);
-    let number = store.put_type(item)?;
+    let number = store.put_type(alloc, &item)?;
     numbers.push(number)?;
     if !is_long {
         return Ok(());
@@ -85,7 +90,7 @@ fn put_argument(
 {
     let found = type_of(alloc, program, descriptor, item)?;
     match found {
-        Some(value) => put_value(store, value, numbers),
+        Some(value) => put_value(alloc, store, value, numbers),
         None => put_unread(numbers, item),
     }
 }
@@ -113,7 +118,7 @@ fn receiver(
         return Ok(numbers);
     }
     let item = class_type(program, current_class(program, method));
-    put_value(store, item, &mut numbers)?;
+    put_value(alloc, store, item, &mut numbers)?;
     Ok(numbers)
 }
 
@@ -220,5 +225,5 @@ pub fn caught_by(
 {
     let name = caught_name(program, method, row);
     let item = ref_of(alloc, program, name)?;
-    store.pushed_type(item, EMPTY)
+    store.pushed_type(alloc, &item, EMPTY)
 }

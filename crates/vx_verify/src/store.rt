@@ -13,7 +13,7 @@ use indexmap::IndexMap;
 use std::alloc::{AllocError, Global};
 use vx_link::Program;
 use vx_numbered::{Chains, Trees, next_number};
-use vx_types::{ElementType, VerType, common, fits};
+use vx_types::{ElementType, VerType, common, element_copy, fits};
 
 /// The numbers of the four types that name no class.
 pub const TOP: u32 = 0;
@@ -110,30 +110,39 @@ impl Store {
         Ok(number)
     }
 
-    /// The number of a type that names a class, which may be known.
-    fn put_ref(&mut self, dimensions: u32, element: ElementType) -> Result<u32, AllocError>
-        requires { IsStore self.old }
-        ensures { IfOk result (λ number. HasType self.old self.new number (Ref dimensions element)) }
+    /// The number of a type that names a class, which may be known. It is copied where it is not.
+    fn put_ref(
+        &mut self,
+        alloc: Global,
+        dimensions: u32,
+        element: &ElementType,
+        item: &VerType,
+    ) -> Result<u32, AllocError>
+        requires store { IsStore self.old }
+        requires item { item.now ≡ Ref dimensions element.now }
+        ensures { IfOk result (λ number. HasType self.old self.new number item.now) }
     {
-        let key = key_of(dimensions, &element);
-        let item = VerType::Ref(dimensions, element);
-        match self.known_type(key, &item) {
+        let key = key_of(dimensions, element);
+        match self.known_type(key, item) {
             Some(number) => Ok(number),
-            None => self.put_anew(key, item),
+            None => {
+                let element = element_copy(alloc, element)?;
+                self.put_anew(key, VerType::Ref(dimensions, element))
+            }
         }
     }
 
     /// The number of a type.
-    pub fn put_type(&mut self, item: VerType) -> Result<u32, AllocError>
+    pub fn put_type(&mut self, alloc: Global, item: &VerType) -> Result<u32, AllocError>
         requires { IsStore self.old }
-        ensures { IfOk result (λ number. HasType self.old self.new number item) }
+        ensures { IfOk result (λ number. HasType self.old self.new number item.now) }
     {
         match item {
             VerType::Top => Ok(TOP),
             VerType::Int => Ok(INT),
             VerType::Long => Ok(LONG),
             VerType::Null => Ok(NULL),
-            VerType::Ref(dimensions, element) => self.put_ref(dimensions, element),
+            VerType::Ref(dimensions, element) => self.put_ref(alloc, *dimensions, element, item),
         }
     }
 
@@ -164,12 +173,17 @@ impl Store {
     }
 
     /// An operand of a type on others.
-    pub fn pushed_type(&mut self, item: VerType, under: u32) -> Result<u32, AllocError>
+    pub fn pushed_type(
+        &mut self,
+        alloc: Global,
+        item: &VerType,
+        under: u32,
+    ) -> Result<u32, AllocError>
         requires store { IsStore self.old }
         requires under { IsStack self.old under }
-        ensures { IfOk result (λ stack. HasStack self.old self.new stack (item ∷ operands_at self.old under)) }
+        ensures { IfOk result (λ stack. HasStack self.old self.new stack (item.now ∷ operands_at self.old under)) }
     {
-        let top = self.put_type(item)?;
+        let top = self.put_type(alloc, item)?;
         self.pushed(top, under)
     }
 
@@ -197,7 +211,7 @@ impl Store {
             return Ok(one);
         }
         let found = common(alloc, program, first, second)?;
-        self.put_type(found)
+        self.put_type(alloc, &found)
     }
 
     /// What two rows of local variables have in common, one by one: the first itself where the other fits it.

@@ -20,7 +20,7 @@ returns-in_ok-operands-in-Takes c =
     rw c.in-Takes.is
     (operands_made c.args.store.now c.exchanged.new.store c.args.frame c.args.state c.in_ok-operands-in-Takes.operands c.with_operands.result
     (option_map (put c.in-Takes.given) (taken c.args.program.now c.in-Takes.wants (operands_at c.args.store.now c.args.state.operands))) c.requires.store c.requires.state
-    (rw c.as_slice-in-Takes.ensures at c.in_ok-operands-in-Takes.ensures) c.with_operands.ensures)
+    (rw c.as_slice-wants.ensures at c.in_ok-operands-in-Takes.ensures) c.with_operands.ensures)
 
 pub returns-in-Load : goal.returns-in-Load
 returns-in-Load c = rw c.in-Load.is c.load.ensures

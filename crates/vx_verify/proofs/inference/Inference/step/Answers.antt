@@ -17,11 +17,11 @@ visit-requires-clause-stands c =
     c.requires.inference.stands c.args.at c.in-Some.before
     (sym (item_read i.states.items c.args.at c.index.result.now None (omega (arith, c.requires.position, c.requires.inference.states)) c.index.ensures) ∙ c.in-Some.is)
 
-pub returns-then-not-looked : goal.returns-then-not-looked
-returns-then-not-looked c = rw c.if-not-looked.true at c.in_ok-looked.ensures
+pub returns-then-not-looked-clause-looked : goal.returns-then-not-looked-clause-looked
+returns-then-not-looked-clause-looked c = rw c.if-not-looked.true at c.in_ok-looked.ensures.looked
 
 pub unmark-requires-clause-inference : goal.unmark-requires-clause-inference
-unmark-requires-clause-inference c = let l = rw c.if-not-looked.false at c.in_ok-looked.ensures in l.0.goes.inference
+unmark-requires-clause-inference c = let l = rw c.if-not-looked.false at c.in_ok-looked.ensures.looked in l.0.goes.inference
 
 pub unmark-requires-clause-closed : goal.unmark-requires-clause-closed
 unmark-requires-clause-closed c =
@@ -29,18 +29,18 @@ unmark-requires-clause-closed c =
     λ there. closed_later c.args.subject.now i c.visit.new.self c.args.at c.in-Some.before c.requires.inference
     (c.requires.inference.stands c.args.at c.in-Some.before
     (sym (item_read i.states.items c.args.at c.index.result.now None (omega (arith, c.requires.position, c.requires.inference.states)) c.index.ensures) ∙ c.in-Some.is))
-    (rw c.if-not-looked.false at c.in_ok-looked.ensures).0
+    (rw c.if-not-looked.false at c.in_ok-looked.ensures.looked).0
 
-pub returns : goal.returns
-returns c =
+pub returns-clause-looked : goal.returns-clause-looked
+returns-clause-looked c =
     let s = c.args.subject.now in
-    let l = rw c.if-not-looked.false at c.in_ok-looked.ensures in (
+    let l = rw c.if-not-looked.false at c.in_ok-looked.ensures.looked in (
       goes_through s c.args.self.now c.visit.new.self c.unmark.new.self c.requires.subject l.0.goes c.unmark.ensures,
       quiet_later s c.visit.new.self c.unmark.new.self c.visit.new.quiet c.requires.subject l.0.goes.inference c.unmark.ensures l.1,
     )
 
-pub returns-in_default : goal.returns-in_default
-returns-in_default c =
+pub returns-in_default-clause-looked : goal.returns-in_default-clause-looked
+returns-in_default-clause-looked c =
     let s = c.args.subject.now in
     let i = c.args.self.now in
     unmarked_quiet s i _ c.args.at c.args.quiet.now c.requires.subject c.requires.inference refl refl refl c.remove.ensures.updates

@@ -1,4 +1,5 @@
 use Rattle.std.proofs.Common.{length, ◌-◌}
+use Rattle.vx_verify.specs.KnownRows.{AreKnown}
 use Rattle.vx_verify.specs.Quieting.{IsQuiet}
 use Rattle.vx_verify.proofs.Sweeps.{IsSweeping}
 use Rattle.vx_verify.proofs.inference.Inference.sweep.Given as goal
@@ -7,6 +8,7 @@ abbrev pub invariant-loop-at : goal.invariant-loop-at
 invariant-loop-at l = record {
   sweeping : IsSweeping l.subject l.self l.from l.found;
   quiet : IsQuiet l.subject l.self l.quiet;
+  rows : AreKnown l.subject.program.now l.subject.method.0 l.rows.rows.items;
 }
 
 abbrev pub decreases-loop-at : goal.decreases-loop-at

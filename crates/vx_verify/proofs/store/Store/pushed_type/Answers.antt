@@ -15,4 +15,4 @@ pushed-requires-clause-under c = stack_kept c.args.self.now c.put_type.new.self 
 pub returns : goal.returns
 returns c =
     IfOk-weaker c.pushed.result _ _
-    (λ stack h. put_on c.args.self.now c.put_type.new.self _ c.in_ok-top.top stack c.args.under c.args.item c.requires.store c.requires.under c.in_ok-top.ensures h) c.pushed.ensures
+    (λ stack h. put_on c.args.self.now c.put_type.new.self _ c.in_ok-top.top stack c.args.under c.args.item.now c.requires.store c.requires.under c.in_ok-top.ensures h) c.pushed.ensures
