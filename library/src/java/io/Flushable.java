@@ -1,0 +1,6 @@
+package java.io;
+
+/** As in the class library. */
+public interface Flushable {
+    void flush() throws IOException;
+}

@@ -1,0 +1,4 @@
+package java.lang;
+
+/** As in the class library. */
+public @interface Override {}

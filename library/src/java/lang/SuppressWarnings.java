@@ -1,0 +1,6 @@
+package java.lang;
+
+/** As in the class library. */
+public @interface SuppressWarnings {
+    String[] value();
+}

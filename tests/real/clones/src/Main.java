@@ -1,0 +1,79 @@
+import java.util.Arrays;
+
+/** Copies by `super.clone()`. */
+public class Main {
+    static boolean DEEP;
+    static boolean LOWER;
+
+    static class Part implements Cloneable {
+        int size;
+        long wide = 5;
+        String name = "part";
+        int[] marks = {1, 2};
+        static int made;
+
+        Part(int size) {
+            this.size = size;
+            made++;
+        }
+
+        @Override
+        public Part clone() {
+            try {
+                Part copy = (Part) super.clone();
+                if (DEEP) {
+                    copy.marks = marks.clone();
+                }
+                return copy;
+            } catch (CloneNotSupportedException e) {
+                throw new AssertionError(e);
+            }
+        }
+
+        @Override
+        public String toString() {
+            return name + size + wide + Arrays.toString(marks);
+        }
+    }
+
+    static class Lower extends Part {
+        private final boolean flag = true;
+        private Part inner = new Part(7);
+
+        Lower() {
+            super(3);
+        }
+
+        @Override
+        public String toString() {
+            return "lower " + flag + super.toString() + inner;
+        }
+    }
+
+    static class Plain {
+        Object copy() throws CloneNotSupportedException {
+            return super.clone();
+        }
+    }
+
+    public static void main(String[] args) {
+        Part first = LOWER ? new Lower() : new Part(9);
+        Part second = first.clone();
+        second.size = 1;
+        second.marks[0] = 50;
+        System.out.println(first + " " + second + " " + Part.made + " " + (second.getClass() == first.getClass()));
+        System.out.println((first.name == second.name) + " " + (first == second));
+        if (first instanceof Lower) {
+            System.out.println(((Lower) first).inner == ((Lower) second).inner);
+        }
+        try {
+            new Plain().copy();
+        } catch (CloneNotSupportedException e) {
+            System.out.println(e.getMessage());
+        }
+        int[][] grid = {{1}, {2, 3}};
+        int[][] same = grid.clone();
+        same[0] = new int[4];
+        System.out.println(grid[0].length + same[1].length);
+    }
+}
