@@ -56,4 +56,5 @@ def main(names):
         print(f'{program.name}: {texts["expected"].count(b"config ")} configurations')
 
 
-main(sys.argv[1:])
+if __name__ == '__main__':
+    main(sys.argv[1:])

@@ -49,7 +49,9 @@ class Program:
 
 def programs():
     found = [path for pattern in FOLDERS for path in glob.glob(pattern, root_dir=TOP)]
-    return [Program(path) for path in sorted(found) if os.path.isdir(os.path.join(TOP, path, 'src'))]
+    there = [path for path in sorted(found) if os.path.isdir(os.path.join(TOP, path, 'src'))]
+    # One that `prepare` made names its main class in a file; ../real has these.
+    return [Program(path) for path in there if not os.path.exists(os.path.join(TOP, path, 'main'))]
 
 
 class Model:

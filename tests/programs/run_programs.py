@@ -35,14 +35,14 @@ def differences(varexj, program, report):
     return found
 
 
-def judged(varexj, program, folder):
+def judged(varexj, program, folder, limit=LIMIT):
     """What is wrong with a program, or nothing."""
     if [configuration for configuration, _ in expected(program)] != list(program.model().configurations()):
         return 'expected has other configurations than the model'
-    done = called(varexj, 'run', program.place('classes'), program.model_place(), program.main(), LIMIT, '1')
+    done = called(varexj, 'run', program.place('classes'), program.model_place(), program.main(), limit, '1')
     if done.returncode != 0:
         return f'status {done.returncode}: {done.stderr.decode()}'
-    report = os.path.join(folder, program.name)
+    report = os.path.join(folder, program.name + '.report')
     with open(report, 'wb') as file:
         file.write(done.stdout)
     found = differences(varexj, program, report)

@@ -1,6 +1,7 @@
 -- Parts of a plain state by their places.
-use Rattle.std.proofs.Common.{◌≡◌, ℕ, ◌+◌, ◌<◌, ◌≤◌, List, [], ◌∷◌, ◌++◌, Option, Some, None, length, map, refl, reverse, suc, sym, ap, ◌∙◌, arith, add-one, drop, drop-cons, get_or}
+use Rattle.std.proofs.Common.{◌≡◌, ℕ, zero, ◌+◌, ◌-◌, ◌<◌, ◌≤◌, List, [], ◌∷◌, ◌++◌, Option, Some, None, length, map, refl, reverse, suc, sym, ap, ◌∙◌, arith, add-one, drop, drop-cons, get_or}
 use Rattle.std.specs.Prelude.{option_map, slice_get, slice_set, unwrap_or}
+use Rattle.std.specs.List.{remove}
 use Rattle.std.proofs.lemmas.List.{length-map, length-reverse, map-append, map-set, reverse-append, set_past}
 use Rattle.std.proofs.lemmas.Option.{slice_get-get_or, slice_get-map}
 use Rattle.vx_java.specs.Machine as machine
@@ -23,6 +24,20 @@ no_units (Int n ∷ cells) = refl
 no_units (Long n ∷ cells) = refl
 no_units (Null ∷ cells) = refl
 no_units (Ref r ∷ cells) = refl
+
+-- a cell behind the first one
+pub behind_first : (first : machine.Value) (cells : List machine.Value) (place : ℕ) → 0 < place → item_or cells (place - 1) TopValue ≡ item_or (first ∷ cells) place TopValue
+behind_first first cells zero lt = absurd (omega (arith, lt))
+behind_first first cells (suc n) lt = let same : suc n - 1 ≡ n = omega arith in ap (λ k. item_or cells k TopValue) same
+
+pub set_behind : (first v : machine.Value) (cells : List machine.Value) (place : ℕ) → 0 < place → first ∷ slice_set cells (place - 1) v ≡ slice_set (first ∷ cells) place v
+set_behind first v cells zero lt = absurd (omega (arith, lt))
+set_behind first v cells (suc n) lt = let same : suc n - 1 ≡ n = omega arith in ap (λ k. first ∷ slice_set cells k v) same
+
+-- the first cell, where there is one
+pub first_set : (values : List Value) (t : machine.Value) → 0 < length values → t ∷ values_of (remove values 0) ≡ slice_set (values_of values) 0 t
+first_set [] t some = absurd (omega (arith, some))
+first_set (v ∷ values) t some = refl
 
 pub frame_added : (callers : List Frame) (c : Frame) → reverse (map frame_of (callers ++ c ∷ [])) ≡ frame_of c ∷ reverse (map frame_of callers)
 frame_added callers c = ap reverse (map-append frame_of callers (c ∷ [])) ∙ reverse-append (map frame_of callers) (frame_of c ∷ [])

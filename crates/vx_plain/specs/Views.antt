@@ -1,10 +1,10 @@
 -- What the plain types stand for: a state of the ordinary machine.
-use Rattle.std.specs.Prelude.{List, [], map, reverse, ◌∷◌}
+use Rattle.std.specs.Global.{Vec}
+use Rattle.std.specs.Prelude.{List, None, Option, Some, map, option_map, reverse, ℕ, ◌∷◌}
 use Rattle.vx_java.specs.Machine as machine
 use Rattle.vx_java.specs.Machine.{Int as IntValue, Long as LongValue, Null as NullValue, Ref as RefValue, Text as TextValue, Top as TopValue}
 use Rattle.vx_plain.specs.declared.frame.Frame.{Frame}
 use Rattle.vx_plain.specs.declared.object.Body.{Body}
-use Rattle.vx_plain.specs.declared.object.Body.TheVariants.{Cells, Text}
 use Rattle.vx_plain.specs.declared.object.Object.{Object}
 use Rattle.vx_plain.specs.declared.state.State.{State}
 use Rattle.vx_plain.specs.declared.value.Value.{Value}
@@ -20,10 +20,16 @@ value_of (Ref object) = RefValue object
 abbrev pub values_of : List Value → List machine.Value
 values_of values = map value_of values
 
--- an object with a text has one cell
+abbrev pub units_of : Option (Vec ℕ) → Option (List ℕ)
+units_of text = option_map (λ units. units.items) text
+
+-- a text stands in the first cell
+abbrev pub behind_text : Option (List ℕ) → List machine.Value → List machine.Value
+behind_text None cells = cells
+behind_text (Some units) cells = TextValue units ∷ cells
+
 abbrev pub cells_of : Body → List machine.Value
-cells_of (Cells cells) = values_of cells.items
-cells_of (Text units) = TextValue units.items ∷ []
+cells_of b = behind_text (units_of b.text) (values_of b.values.items)
 
 abbrev pub object_of : Object → machine.Object
 object_of o = record { class = o.class.0; size = o.size; cells = cells_of o.body }

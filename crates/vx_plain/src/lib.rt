@@ -3,11 +3,13 @@
 #![tactic(auto)]
 
 mod frame;
+mod limits;
 mod object;
 mod state;
 mod value;
 
 pub use frame::Frame;
+pub use limits::held;
 pub use object::{Body, Object};
 pub use state::State;
 pub use value::Value;

@@ -1,68 +1,147 @@
 //! Objects (JVMS 2.7).
 
 ghost use Rattle.std.specs.Prelude.{◌≡◌, ◌∷◌, [], IfOk, OnOk, length, slice_set};
+ghost use Rattle.vx_java.specs.Library.{number_in};
 ghost use Rattle.vx_java.specs.Machine.{Text as TextValue, Top};
 ghost use Rattle.vx_java.specs.Texts.{units_in};
 ghost use Rattle.vx_list.specs.Places.{item_or};
-ghost use Rattle.vx_plain.specs.Views.{cells_of, object_of, value_of, values_of};
+ghost use Rattle.vx_plain.specs.Views.{cells_of, object_of, units_of, value_of, values_of};
 
 use crate::value::Value;
 use std::alloc::{AllocError, Global};
 use vx_value::ClassId;
 
-/// What an object holds: a cell for each index of an array, or for each instance field of its class and superclasses; an object
-/// with a text holds just that.
+/// What an object holds: a cell for each index of an array, or for each instance field of its class and superclasses. Of a String or
+/// StringBuilder the first cell holds a text, which is no value; the cells behind it hold values.
 #[derive(Drop)]
-pub enum Body {
-    Cells(Vec<Value>),
-    Text(Vec<u16>),
+pub struct Body {
+    pub text: Option<Vec<u16>>,
+    pub values: Vec<Value>,
+}
+
+/// Writes one of some values; one that isn't there stays.
+#[tactic(auto, using(crate::proofs::Heaps::value_set))]
+fn set(values: &mut Vec<Value>, place: usize, value: Value)
+    ensures { values_of values.new.items ≡ slice_set (values_of values.old.items) place (value_of value) }
+{
+    if place < values.len() {
+        values[place] = value;
+    }
+}
+
+/// The number at a place of some values; 0 where there is none.
+#[tactic(auto, using(crate::proofs::Heaps::value_there))]
+fn number_in(values: &[Value], place: usize) -> i32
+    ensures { result ≡ number_in (item_or (values_of values.now) place Top) }
+{
+    values.get(place).copied().unwrap_or(Value::Top).number()
+}
+
+/// A second text like it.
+fn text_copied(alloc: Global, text: &Option<Vec<u16>>) -> Result<Option<Vec<u16>>, AllocError>
+    ensures { IfOk result (λ copied. units_of copied ≡ units_of text.now) }
+{
+    match text {
+        Some(units) => Ok(Some(Vec::from_slice(alloc, units)?)),
+        None => Ok(None),
+    }
 }
 
 impl Body {
+    /// Cells without a text.
+    pub fn of_cells(values: Vec<Value>) -> Body
+        ensures { cells_of result ≡ values_of values.items }
+    {
+        Body { text: None, values }
+    }
+
+    /// One cell, with a text.
+    pub fn of_text(units: Vec<u16>) -> Body
+        ensures { cells_of result ≡ TextValue units.items ∷ [] }
+    {
+        let values = Vec::new(*units.allocator());
+        Body {
+            text: Some(units),
+            values,
+        }
+    }
+
     /// A second body like it.
     fn copied(&self, alloc: Global) -> Result<Body, AllocError>
         ensures { IfOk result (λ body. cells_of body ≡ cells_of self.now) }
     {
-        match self {
-            Body::Cells(cells) => Ok(Body::Cells(Vec::from_slice(alloc, cells)?)),
-            Body::Text(units) => Ok(Body::Text(Vec::from_slice(alloc, units)?)),
-        }
+        let text = text_copied(alloc, &self.text)?;
+        let values = Vec::from_slice(alloc, &self.values)?;
+        Ok(Body { text, values })
     }
 
-    /// The cells. A text is no cell that can be read: it is refused as want of memory.
+    /// The cells, if all of them hold values. A text is no cell that an instruction reads: it is refused as want of memory.
     fn cells(&self) -> Result<&[Value], AllocError>
         ensures { IfOk result (λ cells. values_of cells.now ≡ cells_of self.now) }
     {
-        match self {
-            Body::Cells(cells) => Ok(cells.as_slice()),
-            Body::Text(_) => Err(AllocError),
+        match self.text {
+            Some(_) => Err(AllocError),
+            None => Ok(self.values.as_slice()),
         }
     }
 
-    /// The text; of cells the empty one.
+    /// The text; where there is none, the empty one.
     #[tactic(auto, using(crate::proofs::Heaps::no_units))]
     fn text(&self) -> &[u16]
         ensures { result.now ≡ units_in (item_or (cells_of self.now) 0 Top) }
     {
-        match self {
-            Body::Cells(_) => &[],
-            Body::Text(units) => units.as_slice(),
+        match &self.text {
+            Some(units) => units.as_slice(),
+            None => &[],
         }
     }
 
-    /// Writes a cell; one that isn't there stays. A text takes none: it is refused as want of memory, and stays.
-    #[tactic(auto, using(crate::proofs::Heaps::value_set))]
+    /// The number in a cell; 0 where it holds none.
+    #[tactic(auto, using(crate::proofs::Heaps::behind_first))]
+    fn number(&self, place: usize) -> i32
+        ensures { result ≡ number_in (item_or (cells_of self.now) place Top) }
+    {
+        match self.text {
+            None => number_in(&self.values, place),
+            Some(_) if place > 0 => number_in(&self.values, place - 1),
+            Some(_) => 0,
+        }
+    }
+
+    /// Writes a cell; one that isn't there stays. A value in place of the text takes memory.
+    #[tactic(auto, using(crate::proofs::Heaps::set_behind))]
     fn write(&mut self, place: usize, value: Value) -> Result<(), AllocError>
         ensures { OnOk result (cells_of self.new ≡ slice_set (cells_of self.old) place (value_of value)) }
     {
-        match self {
-            Body::Cells(cells) => {
-                if place < cells.len() {
-                    cells[place] = value;
-                }
+        match self.text {
+            None => {
+                set(&mut self.values, place, value);
                 Ok(())
             }
-            Body::Text(_) => Err(AllocError),
+            Some(_) if place > 0 => {
+                set(&mut self.values, place - 1, value);
+                Ok(())
+            }
+            Some(_) => {
+                self.values.insert(0, value)?;
+                self.text = None;
+                Ok(())
+            }
+        }
+    }
+
+    /// Writes a text to the first cell; where there is none, the cells stay.
+    #[tactic(auto, using(crate::proofs::Heaps::first_set))]
+    fn write_text(&mut self, units: Vec<u16>)
+        ensures { cells_of self.new ≡ slice_set (cells_of self.old) 0 (TextValue units.items) }
+    {
+        match self.text {
+            Some(_) => self.text = Some(units),
+            None if self.values.is_empty() => {}
+            None => {
+                self.values.remove(0);
+                self.text = Some(units);
+            }
         }
     }
 }
@@ -83,7 +162,7 @@ impl Object {
         Object {
             class,
             size: 0,
-            body: Body::Cells(cells),
+            body: Body::of_cells(cells),
         }
     }
 
@@ -94,7 +173,7 @@ impl Object {
         Object {
             class,
             size: 0,
-            body: Body::Text(units),
+            body: Body::of_text(units),
         }
     }
 
@@ -102,10 +181,11 @@ impl Object {
     pub fn array(class: ClassId, cells: Vec<Value>) -> Object
         ensures { object_of result ≡ record { class = class.0; size = length cells.items; cells = values_of cells.items } }
     {
+        let size = cells.len();
         Object {
             class,
-            size: cells.len(),
-            body: Body::Cells(cells),
+            size,
+            body: Body::of_cells(cells),
         }
     }
 
@@ -135,23 +215,24 @@ impl Object {
         self.body.text()
     }
 
-    /// Writes a cell; one that isn't there stays. An object with a text is refused as want of memory, and stays.
+    /// The number in a cell; 0 where it holds none.
+    pub fn number(&self, place: usize) -> i32
+        ensures { result ≡ number_in (item_or (object_of self.now).cells place Top) }
+    {
+        self.body.number(place)
+    }
+
+    /// Writes a cell; one that isn't there stays. A value in place of a text takes memory.
     pub fn write(&mut self, place: usize, value: Value) -> Result<(), AllocError>
         ensures { OnOk result (object_of self.new ≡ record (object_of self.old) { cells = slice_set (object_of self.old).cells place (value_of value) }) }
     {
         self.body.write(place, value)
     }
 
-    /// Writes the text of a String or StringBuilder. An object with cells is refused as want of memory, and stays.
-    pub fn write_text(&mut self, units: Vec<u16>) -> Result<(), AllocError>
-        ensures { OnOk result (object_of self.new ≡ record (object_of self.old) { cells = slice_set (object_of self.old).cells 0 (TextValue units.items) }) }
+    /// Writes a text to the first cell, if there is one.
+    pub fn write_text(&mut self, units: Vec<u16>)
+        ensures { object_of self.new ≡ record (object_of self.old) { cells = slice_set (object_of self.old).cells 0 (TextValue units.items) } }
     {
-        match self.body {
-            Body::Text(_) => {
-                self.body = Body::Text(units);
-                Ok(())
-            }
-            Body::Cells(_) => Err(AllocError),
-        }
+        self.body.write_text(units);
     }
 }

@@ -1,7 +1,8 @@
 //! The plain state of a run (JVMS 2.5).
 
-ghost use Rattle.std.specs.Prelude.{◌≡◌, ◌+◌, ◌∷◌, [], IfOk, MatchOption, OnOk, drop, length, map, option_map, slice_get, slice_set};
+ghost use Rattle.std.specs.Prelude.{◌≡◌, ◌+◌, ◌∷◌, [], IfOk, IfSome, MatchOption, OnOk, drop, length, map, option_map, slice_get, slice_set};
 ghost use Rattle.vx_java.specs.Initialisation.{quiet_chain};
+ghost use Rattle.vx_java.specs.Library.{number_in};
 ghost use Rattle.vx_java.specs.Locals.{with_locals};
 ghost use Rattle.vx_java.specs.Machine.{Text, Top, at_position, cell_at, current_class, depth, init_at, object_at, stack_size, with_cell, with_inits, with_objects, with_static};
 ghost use Rattle.vx_java.specs.Texts.{units_in};
@@ -10,9 +11,10 @@ ghost use Rattle.vx_plain.specs.Frames.{HasNoCaller, with_frame};
 ghost use Rattle.vx_plain.specs.Views.{frame_of, object_of, state_of, value_of, values_of};
 
 use crate::frame::Frame;
+use crate::limits::held;
 use crate::object::Object;
 use crate::value::Value;
-use std::alloc::AllocError;
+use std::alloc::{AllocError, Global};
 use vx_java::parts::class_of_method;
 use vx_java::quiet_chain;
 use vx_link::Program;
@@ -62,7 +64,8 @@ impl State {
         }
     }
 
-    /// The cells of an object. Those of one with a text are refused as want of memory.
+    /// The cells of an object, if all of them hold values. The text of an object is read by `text` alone; as a cell it is refused as
+    /// want of memory.
     #[tactic(auto, using(crate::proofs::Heaps::object_there, crate::proofs::Heaps::object_missing), unfolding(crate::specs::Views::state_of))]
     pub fn cells(&self, object: u64) -> Result<&[Value], AllocError>
         ensures { IfOk result (λ cells. values_of cells.now ≡ (object_at (state_of self.now) object).cells) }
@@ -73,7 +76,7 @@ impl State {
         }
     }
 
-    /// The value of a cell. The text of an object is read by `text` alone.
+    /// The value of a cell of an object all of whose cells hold values.
     #[tactic(auto, using(crate::proofs::Heaps::value_there))]
     pub fn cell(&self, object: u64, place: usize) -> Result<Value, AllocError>
         ensures { IfOk result (λ value. value_of value ≡ cell_at (state_of self.now) object place) }
@@ -93,7 +96,29 @@ impl State {
         }
     }
 
-    /// Writes a cell; one that isn't there stays. An object with a text is refused as want of memory.
+    /// The number in a cell; 0 where it holds none.
+    #[tactic(auto, using(crate::proofs::Heaps::object_there, crate::proofs::Heaps::object_missing), unfolding(crate::specs::Views::state_of))]
+    pub fn number(&self, object: u64, place: usize) -> i32
+        ensures { result ≡ number_in (cell_at (state_of self.now) object place) }
+    {
+        match self.heap.get(object as usize) {
+            Some(object) => object.number(place),
+            None => 0,
+        }
+    }
+
+    /// A second object like one of the heap; where it isn't there, one without cells.
+    #[tactic(auto, using(crate::proofs::Heaps::object_there, crate::proofs::Heaps::object_missing), unfolding(crate::specs::Views::state_of))]
+    pub fn copied(&self, alloc: Global, object: u64) -> Result<Object, AllocError>
+        ensures { IfOk result (λ copy. object_of copy ≡ object_at (state_of self.now) object) }
+    {
+        match self.heap.get(object as usize) {
+            Some(object) => object.copied(alloc),
+            None => Ok(Object::of_cells(ClassId(0), Vec::new(alloc))),
+        }
+    }
+
+    /// Writes a cell; one that isn't there stays. A value in place of a text takes memory.
     #[tactic(auto, using(crate::proofs::Heaps::object_absent), unfolding(crate::specs::Views::state_of))]
     pub fn write_cell(&mut self, object: u64, place: usize, value: Value) -> Result<(), AllocError>
         ensures { OnOk result (state_of self.new ≡ with_cell (state_of self.old) object place (value_of value)) }
@@ -106,17 +131,16 @@ impl State {
         }
     }
 
-    /// Writes the text of a String or StringBuilder. An object with cells is refused as want of memory.
+    /// Writes a text to the first cell of an object, if there is one.
     #[tactic(auto, using(crate::proofs::Heaps::object_absent), unfolding(crate::specs::Views::state_of))]
-    pub fn write_text(&mut self, object: u64, units: Vec<u16>) -> Result<(), AllocError>
-        ensures { OnOk result (state_of self.new ≡ with_cell (state_of self.old) object 0 (Text units.items)) }
+    pub fn write_text(&mut self, object: u64, units: Vec<u16>)
+        ensures { state_of self.new ≡ with_cell (state_of self.old) object 0 (Text units.items) }
     {
         let number = object as usize;
-        if number < self.heap.len() {
-            self.heap[number].write_text(units)
-        } else {
-            Ok(())
+        if number >= self.heap.len() {
+            return;
         }
+        self.heap[number].write_text(units);
     }
 
     /// Puts an object at the end of the heap, and gives its place.
@@ -265,14 +289,18 @@ impl State {
         self.top.position
     }
 
-    /// Moves so many bytes on, with so many operands taken off. A position that doesn't fit is refused as want of memory, and the
-    /// state stays.
+    /// The position so many bytes on, if it fits.
+    fn position_behind(&self, size: u32) -> Option<u32>
+        ensures { IfSome result (λ position. position ≡ (state_of self.now).top.position + size) }
+    {
+        self.position().checked_add(size)
+    }
+
+    /// Moves so many bytes on, with so many operands taken off. A position from 2^32 on is not held, and the state stays.
     pub fn pass(&mut self, size: u32, taken: usize) -> Result<(), AllocError>
         ensures { OnOk result (state_of self.new ≡ at_position (state_of self.old) ((state_of self.old).top.position + size) (drop taken (state_of self.old).top.operands)) }
     {
-        let Some(position) = self.position().checked_add(size) else {
-            return Err(AllocError);
-        };
+        let position = held(self.position_behind(size))?;
         self.go_to(position, taken);
         Ok(())
     }

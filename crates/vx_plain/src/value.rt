@@ -2,6 +2,7 @@
 
 ghost use Rattle.std.specs.Prelude.{◌≡◌};
 ghost use Rattle.vx_java.specs.Checks.{is_of};
+ghost use Rattle.vx_java.specs.Library.{number_in};
 ghost use Rattle.vx_java.specs.Machine.{width};
 ghost use Rattle.vx_java.specs.Objects.{int_of_bool};
 ghost use Rattle.vx_plain.specs.Views.{value_of};
@@ -40,6 +41,16 @@ impl Value {
             | (Sort::Long, Value::Long(_))
             | (Sort::Reference, Value::Null | Value::Ref(_)) => true,
             _ => false,
+        }
+    }
+
+    /// The int that it is, and 0 where it is none.
+    pub fn number(self) -> i32
+        ensures { result ≡ number_in (value_of self) }
+    {
+        match self {
+            Value::Int(n) => n,
+            _ => 0,
         }
     }
 

@@ -1,12 +1,14 @@
 -- Arrays of arrays: what is made so far, and what is left.
-use Rattle.std.proofs.Common.{◌≡◌, ℕ, ℤ, zero, suc, ◌+◌, ◌-◌, ◌*◌, ◌<◌, ◌≤◌, ◌==◌, Bool, true, false, List, [], ◌∷◌, ◌++◌, refl, sym, ◌∙◌, ap, arith, drop, get_or, length, map, take, add-one}
-use Rattle.std.proofs.Math.Seq.{drop-cons}
+use Rattle.std.proofs.Common.{◌≡◌, ℕ, ℤ, zero, suc, ◌+◌, ◌-◌, ◌*◌, ◌<◌, ◌≤◌, ◌==◌, ◌||◌, Bool, true, false, nat_lt, List, [], ◌∷◌, ◌++◌, refl, sym, ◌∙◌, ap, arith, drop, get_or, length, map, take, add-one, mul-le-mul_right}
+use Rattle.std.proofs.Math.Nat.{suc-mul, zero-mul}
+use Rattle.std.proofs.lemmas.Bool.{ltb-false}
 use Rattle.std.proofs.lemmas.Bool.Decides.{nat_tests}
-use Rattle.std.proofs.lemmas.List.{append-nil, append_assoc, drop_all, length-append, length-map, map-append, take_all, take_more}
+use Rattle.std.proofs.lemmas.List.{append-nil, append_assoc, length-append, length-map, map-append, take_all, take_more}
+use Rattle.std.specs.List.{list_any}
 use Rattle.std.specs.Prelude.{IfOk, None, Option, Result, Some, slice_get}
-use Rattle.vx_java.specs.Arrays.{grid, grid_objects, lengths_off, new_grid_of, parts_of, push_grid, references_to}
+use Rattle.vx_java.specs.Arrays.{grid, grid_cells, grid_objects, lengths_off, new_grid_of, parts_of, push_grid, references_to}
 use Rattle.vx_java.specs.Machine as machine
-use Rattle.vx_java.specs.Machine.{Go, Here, State, go, illegal, in_state, next_object, past, with_objects}
+use Rattle.vx_java.specs.Machine.{Go, Here, State, go, illegal, in_state, length_bound, next_object, past, with_objects}
 use Rattle.vx_link.specs.ClassNames.{component_of}
 use Rattle.vx_link.specs.declared.program.Program.{Program}
 use Rattle.vx_value.specs.Arithmetic.{natural}
@@ -31,37 +33,67 @@ some_left n empty is fails = let e : (n == 0) ≡ false = sym is ∙ fails in gr
 
 -- ---- how many objects
 
-pub none_counted : (xs : List ℕ) (n : ℕ) → n ≡ length xs → 0 ≡ grid_objects (drop (n - 0) xs)
-none_counted xs n count = sym (ap grid_objects (drop_all (n - 0) xs (omega (arith, count))))
+pub no_objects : (lengths : List ℕ) → length lengths < 1 → 0 ≡ grid_objects lengths
+no_objects [] none = refl
+no_objects (n ∷ ns) none = absurd (omega (arith, none))
 
-pub one_counted : (xs : List ℕ) (n i total next d : ℕ) → n ≡ length xs → i < n → total ≡ grid_objects (drop (n - i) xs) → next ≡ 1 + get_or xs (n - 1 - i) d * total → next ≡ grid_objects (drop (n - (i + 1)) xs)
-one_counted xs n i total next d count inside before made =
-    let j = n - 1 - i in
-    let here : n - (i + 1) ≡ j = omega arith in
-    let behind : n - i ≡ suc j = omega (arith, inside) in
-    made
-    ∙ ap (λ k. 1 + get_or xs j d * k) (before ∙ ap (λ k. grid_objects (drop k xs)) behind)
-    ∙ sym (ap grid_objects (drop-cons xs j d (omega (arith, count, inside))))
-    ∙ sym (ap (λ k. grid_objects (drop k xs)) here)
+pub one_object : (n : ℕ) (deeper lengths : List ℕ) → n ∷ deeper ≡ lengths → n ≡ 0 → 1 ≡ grid_objects lengths
+one_object n deeper lengths is none = omega (arith, ap (λ k. k * grid_objects deeper) none ∙ zero-mul (grid_objects deeper)) ∙ ap grid_objects is
 
-pub all_counted : (xs : List ℕ) (n i total : ℕ) → n ≤ i → total ≡ grid_objects (drop (n - i) xs) → total ≡ grid_objects xs
-all_counted xs n i total done made =
-    let none : n - i ≡ 0 = omega (arith, done) in
-    made ∙ ap (λ k. grid_objects (drop k xs)) none
+times_most : (n o c : ℕ) → o ≤ 1 + c → n * o ≤ n + n * c
+times_most zero o c h = omega (arith, zero-mul o)
+times_most (suc n) o c h = omega (arith, suc-mul n o, suc-mul n c, times_most n o c h, h)
+
+-- an array has no more objects than cells and one
+objects_most : (lengths : List ℕ) → grid_objects lengths ≤ 1 + grid_cells lengths
+objects_most [] = omega arith
+objects_most (n ∷ ns) =
+    let parts : n * grid_objects ns ≤ n + n * grid_cells ns = times_most n (grid_objects ns) (grid_cells ns) (objects_most ns) in
+    omega (arith, parts)
+
+pub parts_within : (n : ℕ) (deeper lengths : List ℕ) (b : ℕ) → n ∷ deeper ≡ lengths → grid_cells lengths ≤ b → n * grid_objects deeper ≤ b
+parts_within n deeper lengths b is few =
+    let split : n + n * grid_cells deeper ≡ grid_cells lengths = ap grid_cells is in
+    let parts : n * grid_objects deeper ≤ n + n * grid_cells deeper = times_most n (grid_objects deeper) (grid_cells deeper) (objects_most deeper) in
+    omega (arith, split, parts, few)
+
+pub few_cells : (lengths : List ℕ) → list_any (nat_lt length_bound) lengths || nat_lt length_bound (grid_cells lengths) ≡ false → grid_cells lengths ≤ length_bound
+few_cells lengths few = ltb-false length_bound (grid_cells lengths) (second_false (list_any (nat_lt length_bound) lengths) (nat_lt length_bound (grid_cells lengths)) few)
+  where
+    second_false : (a b : Bool) → a || b ≡ false → b ≡ false
+    second_false true b e = cc
+    second_false false b e = e
+
+pub fewer_cells : (n : ℕ) (deeper lengths : List ℕ) (b : ℕ) → n ∷ deeper ≡ lengths → 1 ≤ n → grid_cells lengths ≤ b → grid_cells deeper ≤ b
+fewer_cells zero deeper lengths b is some few = absurd (omega (arith, some))
+fewer_cells (suc n) deeper lengths b is some few =
+    let split : suc n + suc n * grid_cells deeper ≡ grid_cells lengths = ap grid_cells is in
+    omega (arith, split, suc-mul n (grid_cells deeper), few)
 
 -- ---- references
 
-pub no_references : (count each from : ℕ) → values_of [] ++ references_to (count - 0) each from ≡ references_to count each from
-no_references count each from = let all : count - 0 ≡ count = omega arith in ap (λ n. references_to n each from) all
+pub no_references : (count each from : ℕ) → values_of [] ++ references_to (count - 0) each (from + 0 * each) ≡ references_to count each from
+no_references count each from =
+    let all : count - 0 ≡ count = omega arith in
+    let first : from + 0 * each ≡ from = omega (arith, zero-mul each) in
+    ap (λ n. references_to n each (from + 0 * each)) all ∙ ap (references_to count each) first
 
-pub reference_more : (values : List Value) (count part each next behind : ℕ) → part < count → behind ≡ next + each
-    → values_of (values ++ Ref next ∷ []) ++ references_to (count - (part + 1)) each behind ≡ values_of values ++ references_to (count - part) each next
-reference_more values count part each next behind lt moved =
+pub reference_more : (values : List Value) (count part each from : ℕ) → part < count
+    → values_of (values ++ Ref (from + part * each) ∷ []) ++ references_to (count - (part + 1)) each (from + (part + 1) * each) ≡ values_of values ++ references_to (count - part) each (from + part * each)
+reference_more values count part each from lt =
+    let next = from + part * each in
     let left : count - part ≡ suc (count - (part + 1)) = omega (arith, lt) in
-    ap (λ vs. vs ++ references_to (count - (part + 1)) each behind) (map-append value_of values (Ref next ∷ []))
-    ∙ append_assoc (values_of values) (machine.Ref next ∷ []) (references_to (count - (part + 1)) each behind)
+    let moved : from + (part + 1) * each ≡ next + each = omega arith in
+    ap (λ vs. vs ++ references_to (count - (part + 1)) each (from + (part + 1) * each)) (map-append value_of values (Ref next ∷ []))
+    ∙ append_assoc (values_of values) (machine.Ref next ∷ []) (references_to (count - (part + 1)) each (from + (part + 1) * each))
     ∙ ap (λ k. values_of values ++ machine.Ref next ∷ references_to (count - (part + 1)) each k) moved
     ∙ sym (ap (λ n. values_of values ++ references_to n each next) left)
+
+-- the parts up to one take no more than all
+pub part_within : (part count each from b : ℕ) → part < count → from + count * each < b → from + part * each < b
+part_within part count each from b lt fits =
+    let most : part * each ≤ count * each = mul-le-mul_right each (omega (arith, lt)) in
+    omega (arith, most, fits)
 
 pub all_references : (values : List Value) (count part each next : ℕ) → count ≤ part → values_of values ≡ values_of values ++ references_to (count - part) each next
 all_references values count part each next done =
@@ -132,6 +164,11 @@ outer_put p class n component each lengths (m ∷ ns) s moved some is over count
     ∙ ap (λ c. with_objects s (outer ∷ parts_of (grid p c (m ∷ ns)) n each (next_object s + 1))) over
     ∙ ap (λ k. with_objects s (record { class = class; size = n; cells = references_to n k (next_object s + 1) } ∷ parts_of (grid p (component_of p class) (m ∷ ns)) n k (next_object s + 1))) counted
     ∙ ap (λ ls. with_objects s (grid p class ls (next_object s))) is
+
+-- an array of a length of 0 has no part
+pub empty_put : (p : Program) (class n : ℕ) (lengths deeper : List ℕ) (from : ℕ) → 1 ≤ length deeper → n ∷ deeper ≡ lengths → n ≡ 0 → record { class = class; size = 0; cells = [] } ∷ [] ≡ grid p class lengths from
+empty_put p class n lengths [] from some is none = absurd (omega (arith, some))
+empty_put p class n lengths (m ∷ ns) from some is none = ap (λ k. grid p class (k ∷ m ∷ ns) from) (sym none) ∙ ap (λ ls. grid p class ls from) is
 
 -- one part more
 pub part_put : (p : Program) (component count part each : ℕ) (deeper : List ℕ) (s moved whole : State) → part < count → each ≡ grid_objects deeper

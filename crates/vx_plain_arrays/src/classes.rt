@@ -1,6 +1,6 @@
 //! The classes of arrays by their elements, and what elements begin with (JVMS 2.3, 2.4, 6.5).
 
-ghost use Rattle.std.specs.Prelude.{◌≡◌, ◌==◌, ◌<◌, IfOk};
+ghost use Rattle.std.specs.Prelude.{◌≡◌, ◌==◌, ◌<◌, IfOk, IfSome};
 ghost use Rattle.vx_java.specs.Arrays.{array_of, element_default, is_array_of};
 ghost use Rattle.vx_java.specs.Ids.{HasClassNumbers};
 ghost use Rattle.vx_link.specs.ClassNames.{array_class, array_over};
@@ -11,7 +11,7 @@ use std::alloc::{AllocError, Global};
 use vx_java::Element;
 use vx_java::arrays::{element_of, elements, has_reference_components};
 use vx_link::Program;
-use vx_plain::{Object, Value};
+use vx_plain::{Object, Value, held};
 use vx_value::ClassId;
 
 /// The elements that are primitive types.
@@ -86,18 +86,23 @@ pub(crate) fn array_of_primitives(program: &Program, element: u32) -> ClassId
     ClassId(program.classes.len() as u32 + element)
 }
 
-/// The class of arrays whose components are of a class: one dimension more is so many numbers further. One whose number doesn't
-/// fit is refused as want of memory.
-#[tactic(auto, using(crate::proofs::Laws::array_over_is))]
+/// The class of a number, if it fits.
+fn class_if(number: u64) -> Option<ClassId>
+    ensures { IfSome result (λ class. class.0 ≡ number) }
+{
+    if number > 0xFFFF_FFFF {
+        return None;
+    }
+    Some(ClassId(number as u32))
+}
+
+/// The class of arrays whose components are of a class: one dimension more is so many numbers further. One whose number is from 2^32
+/// on is not held.
 pub(crate) fn array_over(program: &Program, class: ClassId) -> Result<ClassId, AllocError>
     requires { HasClassNumbers program.now }
     ensures { IfOk result (λ r. r.0 ≡ array_over program.now class.0) }
 {
-    let number = u64::from(class.0) + elements(program);
-    if number > 0xFFFF_FFFF {
-        return Err(AllocError);
-    }
-    Ok(ClassId(number as u32))
+    held(class_if(u64::from(class.0) + elements(program)))
 }
 
 /// A new array of a class.

@@ -1,8 +1,8 @@
 //! Arrays of arrays (JVMS 6.5 multianewarray).
 
-ghost use Rattle.std.specs.Prelude.{◌≡◌, ◌+◌, ◌*◌, ◌∷◌, [], IfOk, OnOk, Some, drop, map, option_map};
-ghost use Rattle.vx_java.specs.Arrays.{array_of, grid, grid_objects, lengths_off, new_grid, new_grid_of, push_grid, references_to};
-ghost use Rattle.vx_java.specs.Machine.{next_object, with_objects};
+ghost use Rattle.std.specs.Prelude.{◌≡◌, ◌≤◌, ◌<◌, ◌^◌, ◌+◌, ◌*◌, ◌∷◌, [], IfOk, OnOk, Some, drop, map, option_map};
+ghost use Rattle.vx_java.specs.Arrays.{array_of, grid, grid_cells, grid_objects, lengths_off, new_grid, new_grid_of, push_grid, references_to};
+ghost use Rattle.vx_java.specs.Machine.{length_bound, next_object, with_objects};
 ghost use Rattle.vx_plain.specs.Views.{object_of, state_of, values_of};
 ghost use Rattle.vx_plain_arrays.specs.Grids.{grid_of_lengths};
 ghost use Rattle.vx_plain_here.specs.Rows.{ComesTo, here_in};
@@ -21,30 +21,20 @@ use vx_value::ClassId;
 /// The number of the word for a class that ends a run as unsupported.
 const CLASS: u8 = 6;
 
-/// How many objects an array has with so many parts of so many objects each; a number that doesn't fit is refused as want of memory.
-fn objects_with_parts(length: usize, each: u64) -> Result<u64, AllocError>
-    ensures { IfOk result (λ n. n ≡ 1 + length * each) }
+/// How many objects an array of these lengths has with its parts. They are no more than its cells and one; a length of 0 has no parts,
+/// whatever stands behind it.
+fn grid_objects(lengths: &[usize]) -> u64
+    requires { grid_cells lengths.now ≤ length_bound }
+    ensures { result ≡ grid_objects lengths.now }
 {
-    let Some(parts) = (length as u64).checked_mul(each) else {
-        return Err(AllocError);
+    let [length, deeper @ ..] = lengths else {
+        return 0;
     };
-    let Some(all) = parts.checked_add(1) else {
-        return Err(AllocError);
-    };
-    Ok(all)
-}
-
-/// How many objects an array of these lengths has with its parts; a number that doesn't fit is refused as want of memory.
-fn grid_objects(lengths: &[usize]) -> Result<u64, AllocError>
-    ensures { IfOk result (λ n. n ≡ grid_objects lengths.now) }
-{
-    let mut total = 0u64;
-    let count = lengths.len();
-    for inner in 0..count {
-        let all = objects_with_parts(lengths[count - 1 - inner], total)?;
-        total = all;
+    let parts = *length as u64;
+    if parts == 0 {
+        return 1;
     }
-    Ok(total)
+    1 + parts * grid_objects(deeper)
 }
 
 /// References to so many parts, each of so many objects, from one on.
@@ -54,16 +44,12 @@ fn references_to(
     each: u64,
     from: u64,
 ) -> Result<Vec<Value>, AllocError>
+    requires { from + count * each < 2 ^ 64 }
     ensures { IfOk result (λ references. values_of references.items ≡ references_to count each from) }
 {
     let mut references = Vec::new(alloc);
-    let mut next = from;
-    for _part in 0..count {
-        references.push(Value::Ref(next))?;
-        let Some(behind) = next.checked_add(each) else {
-            return Err(AllocError);
-        };
-        next = behind;
+    for part in 0..count {
+        references.push(Value::Ref(from + part as u64 * each))?;
     }
     Ok(references)
 }
@@ -71,7 +57,8 @@ fn references_to(
 /// Where the next object will stand.
 #[tactic(auto, using(crate::proofs::GridLaws::next_place), unfolding(vx_plain::specs::Views::state_of))]
 fn next_object(state: &State) -> u64
-    ensures { result ≡ next_object (state_of state.now) }
+    ensures value { result ≡ next_object (state_of state.now) }
+    ensures few { result < 2 ^ 63 }
 {
     state.heap.len() as u64
 }
@@ -84,11 +71,10 @@ fn array_of_parts(
     length: usize,
     each: u64,
 ) -> Result<Object, AllocError>
+    requires { length * each < 2 ^ 63 }
     ensures { IfOk result (λ object. object_of object ≡ record { class = class.0; size = length; cells = references_to length each (next_object (state_of state.now) + 1) }) }
 {
-    let Some(from) = next_object(state).checked_add(1) else {
-        return Err(AllocError);
-    };
+    let from = next_object(state) + 1;
     let references = references_to(alloc, length, each, from)?;
     Ok(Object::array(class, references))
 }
@@ -101,10 +87,19 @@ fn add_outer(
     length: usize,
     each: u64,
 ) -> Result<(), AllocError>
+    requires { length * each < 2 ^ 63 }
     ensures { OnOk result (state_of state.new ≡ with_objects (state_of state.old) (record { class = class.0; size = length; cells = references_to length each (next_object (state_of state.old) + 1) } ∷ [])) }
 {
     let array = array_of_parts(alloc, state, class, length, each)?;
     state.add(array)?;
+    Ok(())
+}
+
+/// Puts an array of arrays that has no parts at the end of the heap.
+fn add_empty(alloc: Global, state: &mut State, class: ClassId) -> Result<(), AllocError>
+    ensures { OnOk result (state_of state.new ≡ with_objects (state_of state.old) (record { class = class.0; size = 0; cells = [] } ∷ [])) }
+{
+    state.add(Object::array(class, Vec::new(alloc)))?;
     Ok(())
 }
 
@@ -132,6 +127,7 @@ fn add_grid(
     class: ClassId,
     lengths: &[usize],
 ) -> Result<(), AllocError>
+    requires { grid_cells lengths.now ≤ length_bound }
     ensures { OnOk result (state_of state.new ≡ with_objects (state_of state.old) (grid program.now class.0 lengths.now (next_object (state_of state.old)))) }
 {
     let [length, deeper @ ..] = lengths else {
@@ -141,7 +137,10 @@ fn add_grid(
     if deeper.is_empty() {
         return add_array(alloc, program, state, class, count);
     }
-    let each = grid_objects(deeper)?;
+    if count == 0 {
+        return add_empty(alloc, state, class);
+    }
+    let each = grid_objects(deeper);
     add_outer(alloc, state, class, count, each)?;
     let component = component_of(program, class);
     for _part in 0..count {
@@ -187,6 +186,7 @@ fn push_grid(
     lengths: &[i32],
     taken: usize,
 ) -> Made
+    requires { grid_cells (map natural lengths.now) ≤ length_bound }
     ensures { let h = here_in here.now (state_of state.old) in IfOk result (ComesTo (push_grid h class.0 (map natural lengths.now) (drop taken h.state.top.operands)) h.state (state_of state.new)) }
 {
     let numbers = naturals(here.alloc, lengths)?;

@@ -74,6 +74,12 @@ fits_none p (x ∷ xs) value e = never (e ∙ ap (slice_get (x ∷ xs)) (let pla
     never : {A : Type 0} {y : plain.Frame} → None ≡ Some y → A
     never h = absurd (cc h)
 
+-- a value fits on no caller where there is none
+pub none_fits : {A : Type 0} (p : Program) (callers : List Frame) (value : List Value) → callers ≡ [] → fits_below p callers value ≡ Some true → A
+none_fits p callers value none fits =
+    let told : None ≡ Some true = sym (ap (λ frames. fits_below p frames value) none) ∙ fits in
+    absurd (cc told)
+
 -- ---- calls
 
 pub over_full : (h : Here) (callers : List Frame) (value : List Value) → Some false ≡ fits_below h.program callers value → illegal h ≡ return_to h Call value callers

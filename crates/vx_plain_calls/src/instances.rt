@@ -228,14 +228,10 @@ pub(crate) fn call_instance(
 // ---- the clone of an array
 
 /// Puts a copy of an array in its place.
-#[tactic(auto, unfolding(vx_plain::specs::Views::state_of))]
 fn push_copy(here: &Here<'_>, state: &mut State, array: u64) -> Made
     ensures { let h = here_in here.now (state_of state.old) in IfOk result (ComesTo (push_new h (object_at h.state array) (drop 1 h.state.top.operands)) h.state (state_of state.new)) }
 {
-    let copied = match state.heap.get(array as usize) {
-        Some(array) => array.copied(here.alloc)?,
-        None => return Err(AllocError),
-    };
+    let copied = state.copied(here.alloc, array)?;
     here.push_new(state, 1, copied)
 }
 

@@ -1,6 +1,6 @@
 //! Returns (JVMS 2.6.4, 6.5 ireturn, lreturn, areturn, return).
 
-ghost use Rattle.std.specs.Prelude.{◌≡◌, ◌≤◌, IfOk, OnOk, Some, length, option_copied, option_map, true};
+ghost use Rattle.std.specs.Prelude.{◌≡◌, ◌≤◌, ◌<◌, ◌+◌, ◌^◌, IfOk, OnOk, Some, length, option_copied, option_map, true};
 ghost use Rattle.vx_java.specs.Checks.{sort_of};
 ghost use Rattle.vx_java.specs.Returns.{agrees, awake, fits_caller, frame_resumed, instruction_size, max_stack, return_from, return_to, return_value, same_sort, values_returned};
 ghost use Rattle.vx_link.specs.Parts.{method_at};
@@ -27,7 +27,8 @@ use vx_value::{End, InitState, Kind};
 /// How long the instruction at a position of a code is; where none stands there, 0.
 fn size_in(code: &Code, position: u32) -> u32
     requires { length code.now.bytes ≤ 65535 }
-    ensures { result ≡ instruction_size (instruction_at code.now.bytes position) }
+    ensures value { result ≡ instruction_size (instruction_at code.now.bytes position) }
+    ensures within { position + result < 2 ^ 32 }
 {
     match decode(code.bytes.as_slice(), position) {
         Ok(instruction) => instruction.length,
@@ -48,10 +49,12 @@ fn code_of<'p>(program: &'p Program, frame: &Frame) -> Option<&'p Code>
 /// How long the instruction is at which a frame stands.
 fn size_at(program: &Program, frame: &Frame) -> u32
     requires { IsShort program.now }
-    ensures { result ≡ size_at program.now (frame_of frame.now) }
+    ensures value { result ≡ size_at program.now (frame_of frame.now) }
+    ensures within { (frame_of frame.now).position + result < 2 ^ 32 }
 {
+    let position = frame.position;
     match code_of(program, frame) {
-        Some(code) => size_in(code, frame.position),
+        Some(code) => size_in(code, position),
         None => 0,
     }
 }
@@ -80,15 +83,13 @@ fn fits_caller(program: &Program, frame: &Frame, value: Option<Value>) -> bool
     }
 }
 
-/// The caller moves past its call and gets the value. A position that doesn't fit is refused as want of memory.
+/// The caller moves past its call and gets the value.
 fn resume(program: &Program, frame: &mut Frame, value: Option<Value>) -> Result<(), AllocError>
     requires { IsShort program.now }
     ensures { OnOk result (frame_of frame.new ≡ frame_resumed program.now (frame_of frame.old) (as_list (option_map value_of value))) }
 {
-    let Some(position) = frame.position.checked_add(size_at(program, frame)) else {
-        return Err(AllocError);
-    };
-    frame.position = position;
+    let size = size_at(program, frame);
+    frame.position += size;
     match value {
         Some(value) => frame.push(value),
         None => Ok(()),
@@ -187,7 +188,7 @@ fn hand_back(seen: &Seen<'_>, state: &mut State, value: Option<Value>) -> Made
             resume_top(seen.here.program, state, value)?;
             Ok(Outcome::Go)
         }
-        None => Err(AllocError),
+        None => unreachable!(),
     }
 }
 

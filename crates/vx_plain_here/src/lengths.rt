@@ -1,10 +1,11 @@
 //! Ints as lengths and indices, of arrays and of texts.
 
-ghost use Rattle.std.specs.Prelude.{◌≡◌, IfOk, pos};
+ghost use Rattle.std.specs.Prelude.{◌≡◌, IfOk, IfSome, pos};
 ghost use Rattle.vx_java.specs.Checks.{is_within};
 ghost use Rattle.vx_value.specs.Arithmetic.{natural};
 
 use std::alloc::AllocError;
+use vx_plain::held;
 
 /// A number that is not negative, and 0 for a negative one.
 pub fn natural(n: i32) -> usize
@@ -20,12 +21,19 @@ pub fn is_within(index: i32, length: usize) -> bool
     index >= 0 && (index as usize) < length
 }
 
-/// A length as an int. One that doesn't fit is refused as want of memory.
+/// A length as an int, if it fits.
+fn int_if(length: usize) -> Option<i32>
+    ensures { IfSome result (λ n. n ≡ pos length) }
+{
+    if length > 2_147_483_647 {
+        return None;
+    }
+    Some(length as i32)
+}
+
+/// A length as an int. One from 2^31 on is not held.
 pub fn int_of(length: usize) -> Result<i32, AllocError>
     ensures { IfOk result (λ n. n ≡ pos length) }
 {
-    if length > 2_147_483_647 {
-        return Err(AllocError);
-    }
-    Ok(length as i32)
+    held(int_if(length))
 }

@@ -1,5 +1,5 @@
 -- Values that are copied from one array to another.
-use Rattle.std.proofs.Common.{◌≡◌, ℕ, ◌+◌, ◌<◌, ◌≤◌, Bool, true, false, List, [], ◌∷◌, ◌++◌, length, drop, take, get_or, sym, ap, ◌∙◌, arith, append_assoc}
+use Rattle.std.proofs.Common.{◌≡◌, ℕ, ◌+◌, ◌<◌, ◌≤◌, Bool, true, false, List, [], ◌∷◌, ◌++◌, length, drop, take, get_or, refl, sym, ap, ◌∙◌, arith, append_assoc}
 use Rattle.std.specs.Prelude.{cond, min, ◌==◌}
 use Rattle.std.specs.List.{take_while}
 use Rattle.std.proofs.lemmas.List.{append-nil, drop-map, drop_all, drop_min, get_or-map, length-map, map-append, length-take, take-map, take_min, take_more}
@@ -12,14 +12,23 @@ use Rattle.vx_plain.specs.declared.value.Value.{Value}
 use Rattle.vx_plain_here.proofs.Matching.{value_here}
 use Rattle.vx_plain_natives.specs.Copying.{copied, fitting}
 
--- values that are put over those from a place on
-pub values_put : (cells values : List Value) (at n : ℕ) → n ≡ at + length values → values_of (take at cells ++ (values ++ drop n cells)) ≡ cells_with (values_of cells) at (values_of values)
-values_put cells values at n is =
+put : (cells values : List Value) (at n : ℕ) → n ≡ at + length values → values_of (take at cells ++ (values ++ drop n cells)) ≡ cells_with (values_of cells) at (values_of values)
+put cells values at n is =
     map-append value_of (take at cells) (values ++ drop n cells)
     ∙ ap (λ rest. values_of (take at cells) ++ rest) (map-append value_of values (drop n cells))
     ∙ ap (λ front. front ++ (values_of values ++ values_of (drop n cells))) (sym (take-map value_of at cells))
     ∙ ap (λ behind. take at (values_of cells) ++ (values_of values ++ behind)) (sym (drop-map value_of n cells))
     ∙ ap (λ k. take at (values_of cells) ++ (values_of values ++ drop k (values_of cells))) (is ∙ ap (λ k. at + k) (sym (length-map values value_of)))
+
+-- values that are put over those from a place on, as far as there are any
+pub values_put : (cells values : List Value) (at front behind : ℕ) → front ≡ min at (length cells) → behind ≡ min (at + length values) (length cells)
+    → values_of (take front cells ++ (values ++ drop behind cells)) ≡ cells_with (values_of cells) at (values_of values)
+values_put cells values at front behind front_is behind_is =
+    ap (λ k. values_of (take k cells ++ (values ++ drop behind cells))) front_is
+    ∙ ap (λ before. values_of (before ++ (values ++ drop behind cells))) (take_min at cells)
+    ∙ ap (λ k. values_of (take at cells ++ (values ++ drop k cells))) behind_is
+    ∙ ap (λ after. values_of (take at cells ++ (values ++ after))) (drop_min (at + length values) cells)
+    ∙ put cells values at (at + length values) refl
 
 -- ---- the values up to the first that doesn't fit
 

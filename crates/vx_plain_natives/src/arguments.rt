@@ -6,16 +6,16 @@ ghost use Rattle.vx_link.specs.ClassNames.{class_of_type};
 ghost use Rattle.vx_link.specs.Signature.{signature};
 ghost use Rattle.vx_plain.specs.Views.{state_of, value_of, values_of};
 ghost use Rattle.vx_plain_here.specs.Rows.{here_in};
-ghost use Rattle.vx_plain_natives.specs.Answers.{listed};
+ghost use Rattle.vx_plain_strings.specs.Answers.{listed};
 ghost use Rattle.vx_plain_natives.specs.Arguments.{read_by};
 
-use crate::call::Arguments;
 use std::alloc::AllocError;
 use vx_desc::JavaType;
 use vx_java::class_of_type;
 use vx_link::LinkedMethod;
-use vx_plain::{State, Value};
+use vx_plain::{State, Value, held};
 use vx_plain_here::{Here, narrowed, values_on_top, width_of};
+use vx_plain_strings::Arguments;
 
 // ---- what is asked of them
 
@@ -81,7 +81,14 @@ fn with_value(arguments: Arguments, value: Value) -> Option<Arguments>
     }
 }
 
-/// The values behind the first ones, each as a store to a field of its type would narrow it. More than five are refused as want of memory.
+/// The arguments with one more behind them. More than five are not held.
+fn with_more(arguments: Arguments, value: Value) -> Result<Arguments, AllocError>
+    ensures { IfOk result (λ more. listed more ≡ listed arguments ++ value_of value ∷ []) }
+{
+    held(with_value(arguments, value))
+}
+
+/// The values behind the first ones, each as a store to a field of its type would narrow it. More than five are not held.
 #[tactic(auto, using(crate::proofs::Given::one_read, crate::proofs::Given::all_read))]
 fn as_read(first: Arguments, types: &[JavaType], values: &[Value]) -> Result<Arguments, AllocError>
     requires { length types.now ≡ length values.now }
@@ -89,10 +96,7 @@ fn as_read(first: Arguments, types: &[JavaType], values: &[Value]) -> Result<Arg
 {
     let mut read = first;
     for place in 0..types.len() {
-        let Some(more) = with_value(read, narrowed(types[place], values[place])) else {
-            return Err(AllocError);
-        };
-        read = more;
+        read = with_more(read, narrowed(types[place], values[place]))?;
     }
     Ok(read)
 }

@@ -1,26 +1,23 @@
 //! The native methods of Integer, Boolean and Math.
 
-ghost use Rattle.std.specs.Prelude.{◌≡◌, ◌==◌, ◌&&◌, IfOk, int_le, negsuc, pos};
+ghost use Rattle.std.specs.Prelude.{◌≡◌, ◌==◌, ◌&&◌, int_le, negsuc, pos};
 ghost use Rattle.std.specs.Int.{int_max, int_min, w32, w64};
 ghost use Rattle.vx_java.specs.FirstObjects.{first_boolean, first_integer};
 ghost use Rattle.vx_java.specs.Library.{absolute_int, absolute_long, boolean_to_string, boolean_value_of, compare_numbers, integer_compare, integer_int_value, integer_long_value, integer_parse, integer_to_string, integer_to_string_of, integer_value_of, number_of_object, of_ints, of_longs, same_number};
 ghost use Rattle.vx_java.specs.Machine.{object_at};
 ghost use Rattle.vx_plain.specs.Views.{state_of};
 ghost use Rattle.vx_plain_here.specs.Rows.{here_in};
-ghost use Rattle.vx_plain_natives.specs.Answers.{Answers, Does};
+ghost use Rattle.vx_plain_strings.specs.Answers.{Answers, Does};
 ghost use Rattle.vx_plain_natives.specs.Numbers.{absolute, integer_object, parsed};
 ghost use Rattle.vx_value.specs.Arithmetic.{natural, same_int};
 
-use crate::answers::{
-    answer, answer_bool, answer_int, answer_new, answer_text, illegal, not_a_number, null_pointer,
-};
-use crate::call::{Arguments, Call};
-use crate::spelling::bool_units;
-use crate::texts::number_at;
-use std::alloc::AllocError;
 use vx_numbers::{compare_long, negate_int, negate_long};
 use vx_plain::{Object, State, Value};
 use vx_plain_here::Made;
+use vx_plain_strings::{
+    Arguments, Call, answer, answer_bool, answer_int, answer_new, answer_text, bool_units, illegal,
+    not_a_number, null_pointer,
+};
 use vx_units::{decimal, int_in};
 
 // ---- Integer
@@ -117,7 +114,7 @@ pub(crate) fn integer_int_value(call: &Call<'_>, state: &mut State) -> Made
 {
     match call.values {
         Arguments::One(Value::Ref(object)) => {
-            let n = number_at(state, object, 0)?;
+            let n = state.number(object, 0);
             answer_int(call, state, n)
         }
         _ => illegal(call, state),
@@ -130,7 +127,7 @@ pub(crate) fn integer_long_value(call: &Call<'_>, state: &mut State) -> Made
 {
     match call.values {
         Arguments::One(Value::Ref(object)) => {
-            let n = number_at(state, object, 0)?;
+            let n = state.number(object, 0);
             answer(call, state, Value::Long(i64::from(n)))
         }
         _ => illegal(call, state),
@@ -143,24 +140,19 @@ pub(crate) fn integer_to_string(call: &Call<'_>, state: &mut State) -> Made
 {
     match call.values {
         Arguments::One(Value::Ref(object)) => {
-            let units = decimal(call.here.alloc, number_at(state, object, 0)?)?;
+            let units = decimal(call.here.alloc, state.number(object, 0))?;
             answer_text(call, state, units)
         }
         _ => illegal(call, state),
     }
 }
 
-/// Whether two objects are of one class and hold one number.
-fn is_same_number(
-    call: &Call<'_>,
-    state: &State,
-    object: u64,
-    other: u64,
-) -> Result<bool, AllocError>
-    ensures { let h = here_in call.now.here.now (state_of state.now) in IfOk result (λ same. same ≡ (((object_at h.state other).class == (object_at h.state object).class) && same_int (number_of_object h object) (number_of_object h other))) }
+/// Whether two objects are of one class and hold one number. A text holds the number 0.
+fn is_same_number(call: &Call<'_>, state: &State, object: u64, other: u64) -> bool
+    ensures { let h = here_in call.now.here.now (state_of state.now) in result ≡ (((object_at h.state other).class == (object_at h.state object).class) && same_int (number_of_object h object) (number_of_object h other)) }
 {
-    let (a, b) = (number_at(state, object, 0)?, number_at(state, other, 0)?);
-    Ok(state.class_of(other).0 == state.class_of(object).0 && a == b)
+    let (a, b) = (state.number(object, 0), state.number(other, 0));
+    state.class_of(other).0 == state.class_of(object).0 && a == b
 }
 
 /// equals of Integer and Boolean: null is not the same.
@@ -169,7 +161,7 @@ pub(crate) fn same_number(call: &Call<'_>, state: &mut State) -> Made
 {
     match call.values {
         Arguments::Two(Value::Ref(object), Value::Ref(other)) => {
-            let same = is_same_number(call, state, object, other)?;
+            let same = is_same_number(call, state, object, other);
             answer_bool(call, state, same)
         }
         Arguments::Two(Value::Ref(_), Value::Null) => answer_bool(call, state, false),
@@ -183,8 +175,8 @@ pub(crate) fn compare_numbers(call: &Call<'_>, state: &mut State) -> Made
 {
     match call.values {
         Arguments::Two(Value::Ref(object), Value::Ref(other)) => {
-            let a = number_at(state, object, 0)?;
-            let b = number_at(state, other, 0)?;
+            let a = state.number(object, 0);
+            let b = state.number(other, 0);
             answer_int(call, state, compare_long(i64::from(a), i64::from(b)))
         }
         Arguments::Two(Value::Ref(_), Value::Null) => null_pointer(call, state),
@@ -217,7 +209,7 @@ pub(crate) fn boolean_to_string(call: &Call<'_>, state: &mut State) -> Made
 {
     match call.values {
         Arguments::One(Value::Ref(object)) => {
-            let units = bool_units(call.here.alloc, number_at(state, object, 0)?)?;
+            let units = bool_units(call.here.alloc, state.number(object, 0))?;
             answer_text(call, state, units)
         }
         _ => illegal(call, state),

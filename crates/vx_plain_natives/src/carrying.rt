@@ -8,16 +8,16 @@ ghost use Rattle.vx_link.specs.Signature.{signature};
 ghost use Rattle.vx_plain.specs.Views.{state_of};
 ghost use Rattle.vx_plain_here.specs.Arguments.{are_on_top};
 ghost use Rattle.vx_plain_here.specs.Rows.{ComesTo, here_in};
-ghost use Rattle.vx_plain_natives.specs.Answers.{listed};
+ghost use Rattle.vx_plain_strings.specs.Answers.{listed};
 
 use crate::arguments::read_on_top;
-use crate::call::{Arguments, Call};
 use crate::table::by_number;
 use bitflags::Flags;
 use vx_desc::JavaType;
 use vx_link::{AccessFlags, LinkedMethod};
 use vx_plain::State;
 use vx_plain_here::{Here, Made, are_matching, values_on_top};
+use vx_plain_strings::{Arguments, Call};
 
 /// Does what a native method does with its arguments.
 fn do_native(

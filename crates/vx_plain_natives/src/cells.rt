@@ -23,7 +23,7 @@ fn joined(
     Ok(made)
 }
 
-/// Cells with others over those from a place on. Where there are fewer, they are refused as want of memory.
+/// Cells with others over those from a place on; where there are fewer, the others stand at their end.
 #[tactic(auto, using(crate::proofs::Copies::values_put))]
 fn cells_with(
     alloc: Global,
@@ -33,11 +33,9 @@ fn cells_with(
 ) -> Result<Vec<Value>, AllocError>
     ensures { IfOk result (λ made. values_of made.items ≡ cells_with (values_of cells.now) place (values_of values.now)) }
 {
-    if place > cells.len() || values.len() > cells.len() - place {
-        return Err(AllocError);
-    }
-    let (front, _) = cells.split_at(place);
-    let (_, behind) = cells.split_at(place + values.len());
+    let count = cells.len();
+    let (front, _) = cells.split_at(place.min(count));
+    let (_, behind) = cells.split_at(place.saturating_add(values.len()).min(count));
     joined(alloc, front, values, behind)
 }
 
@@ -45,7 +43,10 @@ fn cells_with(
 fn set_cells(object: &mut Object, cells: Vec<Value>)
     ensures { object_of object.new ≡ record (object_of object.old) { cells = values_of cells.items } }
 {
-    object.body = Body::Cells(cells);
+    object.body = Body {
+        text: None,
+        values: cells,
+    };
 }
 
 /// Gives an object of the heap other cells; one that isn't there stays so.
@@ -62,7 +63,7 @@ fn put_cells(state: &mut State, object: u64, cells: Vec<Value>) -> Result<(), Al
     }
 }
 
-/// Writes cells of an object from a place on. Where it has fewer, or it has a text, it is refused as want of memory.
+/// Writes cells of an object, all of which hold values, from a place on.
 pub(crate) fn write_cells(
     alloc: Global,
     state: &mut State,

@@ -6,12 +6,10 @@ ghost use Rattle.vx_java.specs.Library.{array_copy, copy_outcome, copy_within, f
 ghost use Rattle.vx_java.specs.Machine.{object_at, raise};
 ghost use Rattle.vx_plain.specs.Views.{state_of, value_of, values_of};
 ghost use Rattle.vx_plain_here.specs.Rows.{here_in};
-ghost use Rattle.vx_plain_natives.specs.Answers.{Answers, Does};
+ghost use Rattle.vx_plain_strings.specs.Answers.{Answers, Does};
 ghost use Rattle.vx_plain_natives.specs.Copying.{are_like, copied, copy_elements, fitting};
 ghost use Rattle.vx_value.specs.Arithmetic.{natural};
 
-use crate::answers::{illegal, nothing, null_pointer};
-use crate::call::{Arguments, Call};
 use crate::cells::write_cells;
 use std::alloc::{AllocError, Global};
 use vx_java::arrays::{component_of, has_reference_components};
@@ -20,6 +18,7 @@ use vx_java::parts::is_array;
 use vx_link::Program;
 use vx_plain::{State, Value};
 use vx_plain_here::{Made, natural};
+use vx_plain_strings::{Arguments, Call, illegal, nothing, null_pointer};
 use vx_value::ClassId;
 
 /// Throws an ArrayStoreException.

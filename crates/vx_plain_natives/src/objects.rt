@@ -7,15 +7,15 @@ ghost use Rattle.vx_java.specs.Machine.{cell_at, go, object_at};
 ghost use Rattle.vx_java.specs.Texts.{answer};
 ghost use Rattle.vx_link.specs.ClassNames.{class_text};
 ghost use Rattle.vx_plain.specs.Views.{state_of, value_of};
-ghost use Rattle.vx_plain_natives.specs.Answers.{Answers, Does};
+ghost use Rattle.vx_plain_strings.specs.Answers.{Answers, Does};
 
-use crate::answers::{answer, answer_int, answer_text, illegal, nothing, null_pointer};
-use crate::call::{Arguments, Call};
-use crate::texts::number_at;
 use std::alloc::AllocError;
 use vx_initial_heap::units_of;
 use vx_plain::{State, Value};
 use vx_plain_here::{Made, Outcome};
+use vx_plain_strings::{
+    Arguments, Call, answer, answer_int, answer_text, illegal, nothing, null_pointer,
+};
 use vx_spelling::class_text;
 use vx_units::dotted;
 use vx_value::End;
@@ -100,8 +100,8 @@ pub(crate) fn enum_compare(call: &Call<'_>, state: &mut State) -> Made
 {
     match call.values {
         Arguments::Two(Value::Ref(object), Value::Ref(other)) => {
-            let a = number_at(state, object, 1)?;
-            let b = number_at(state, other, 1)?;
+            let a = state.number(object, 1);
+            let b = state.number(other, 1);
             answer_int(call, state, a.wrapping_sub(b))
         }
         Arguments::Two(Value::Ref(_), Value::Null) => null_pointer(call, state),

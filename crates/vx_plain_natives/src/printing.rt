@@ -3,14 +3,12 @@
 ghost use Rattle.std.specs.Prelude.{◌≡◌};
 ghost use Rattle.vx_java.specs.Texts.{print_line_end, print_of, stream_of_cell, value_of as value_as_text, write_units};
 ghost use Rattle.vx_plain.specs.Views.{value_of};
-ghost use Rattle.vx_plain_natives.specs.Answers.{Answers, Does};
-ghost use Rattle.vx_plain_natives.specs.Texts.{spell};
+ghost use Rattle.vx_plain_strings.specs.Answers.{Answers, Does};
+ghost use Rattle.vx_plain_strings.specs.Texts.{spell};
 
-use crate::answers::{answer_text, illegal, null_pointer};
-use crate::call::{Arguments, Call};
-use crate::spelling::{Spelling, spelled};
 use vx_plain::{State, Value};
 use vx_plain_here::{Made, Outcome};
+use vx_plain_strings::{Arguments, Call, Spelling, answer_text, illegal, null_pointer, spelled};
 use vx_value::Stream;
 
 /// valueOf.

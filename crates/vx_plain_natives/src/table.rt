@@ -2,34 +2,29 @@
 
 ghost use Rattle.std.specs.Prelude.{◌≤◌};
 ghost use Rattle.vx_java.specs.Natives.{native_of};
-ghost use Rattle.vx_plain_natives.specs.Answers.{Does};
+ghost use Rattle.vx_plain_strings.specs.Answers.{Does};
 
-use crate::answers::{illegal, nothing};
 use crate::boxes::{
     absolute_int, absolute_long, boolean_to_string, boolean_value_of, compare_numbers, greater_int,
     greater_long, integer_compare, integer_int_value, integer_long_value, integer_parse,
     integer_to_string, integer_to_string_of, integer_value_of, lesser_int, lesser_long,
     same_number,
 };
-use crate::builders::{
-    builder_append, builder_delete, builder_init_capacity, builder_reverse, builder_set_length,
-};
-use crate::call::Call;
 use crate::copying::array_copy;
 use crate::objects::{
     add_suppressed, enum_compare, enum_init, exit, first_cell, line_separator, second_cell,
     throwable_class_name, throwable_init,
 };
 use crate::printing::{print_line_end, print_of, value_as_text};
-use crate::spelling::Spelling;
-use crate::strings::{
-    answer_false, answer_receiver, same_object, string_compare, string_concat, string_ends_with,
-    string_equals, string_hash, string_index_of, string_index_of_point, string_init,
-    string_init_chars, string_init_string, string_starts_with, string_substring, string_to_chars,
-    text_char_at, text_is_empty, text_length, text_to_string,
-};
 use vx_plain::State;
 use vx_plain_here::Made;
+use vx_plain_strings::{
+    Call, Spelling, answer_false, answer_receiver, builder_append, builder_delete,
+    builder_init_capacity, builder_reverse, builder_set_length, illegal, nothing, same_object,
+    string_compare, string_concat, string_ends_with, string_equals, string_hash, string_index_of,
+    string_index_of_point, string_init, string_init_chars, string_init_string, string_starts_with,
+    string_substring, string_to_chars, text_char_at, text_is_empty, text_length, text_to_string,
+};
 
 /// Object and String.
 fn of_strings(call: &Call<'_>, state: &mut State, number: u32) -> Made

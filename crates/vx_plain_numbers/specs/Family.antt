@@ -1,5 +1,6 @@
--- The instructions of numbers, comparisons and jumps that take an operand or two numbers.
-use Rattle.std.specs.Prelude.{Bool, true, false}
+-- The instructions of numbers, comparisons and jumps that take an operand or two numbers, and where they stand.
+use Rattle.std.specs.Prelude.{Bool, true, false, ◌<◌}
+use Rattle.vx_java.specs.Machine.{State}
 use Rattle.vx_java.specs.declared.operation.Operation.{Operation}
 use Rattle.vx_java.specs.declared.operation.Operation.TheVariants.{IfInt, IfInts, IfNull, IntArithmetic, IntNarrow, IntNegate, IntShift, IntToLong, LongArithmetic, LongCompare, LongNegate, LongShift, LongToInt, SwitchLookup, SwitchTable}
 
@@ -23,3 +24,7 @@ takes_two (LongShift op) = true
 takes_two LongCompare = true
 takes_two (IfInts test offset) = true
 takes_two _ = false
+
+-- the frame on top stands in code, which has fewer than 65,536 bytes (JVMS 4.7.3)
+abbrev pub StandsInCode : State → Type 0
+StandsInCode s = s.top.position < 65536

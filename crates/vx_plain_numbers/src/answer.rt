@@ -1,14 +1,14 @@
 //! What an instruction makes of its operands, and how that is carried out.
 
-ghost use Rattle.std.specs.Prelude.{◌≡◌, ◌+ℤ◌, IfOk, IfSome, codes, drop, pos};
+ghost use Rattle.std.specs.Prelude.{◌≡◌, ◌<◌, ◌+ℤ◌, IfOk, codes, drop, pos};
 ghost use Rattle.vx_java.specs.Jumps.{jump};
 ghost use Rattle.vx_java.specs.Machine.{raise_with};
 ghost use Rattle.vx_plain.specs.Views.{state_of};
 ghost use Rattle.vx_plain_here.specs.Rows.{ComesTo, here_in};
+ghost use Rattle.vx_plain_numbers.specs.Family.{StandsInCode};
 ghost use Rattle.vx_plain_numbers.specs.Numbers.{answered};
 ghost use Rattle.vx_value.specs.Arithmetic.{natural};
 
-use std::alloc::AllocError;
 use vx_plain::{State, Value};
 use vx_plain_here::{Here, Made, Outcome};
 use vx_units::of_bytes;
@@ -28,27 +28,21 @@ pub enum Answer {
     Pass,
 }
 
-/// The position that is so far from another, or 0 before the code; `None` for one from 2^32 on.
-fn target(position: u32, offset: i32) -> Option<u32>
-    ensures { IfSome result (λ target. target ≡ natural (pos position +ℤ offset)) }
+/// The position that is so far from another in code, or 0 before the code.
+fn target(position: u32, offset: i32) -> u32
+    requires { position < 65536 }
+    ensures { result ≡ natural (pos position +ℤ offset) }
 {
     let target = i64::from(position) + i64::from(offset);
-    if target < 0 {
-        return Some(0);
-    }
-    if target > 0xFFFF_FFFF {
-        return None;
-    }
-    Some(target as u32)
+    target.max(0) as u32
 }
 
 /// goto, goto_w: goes to the position that is so far from the opcode, with so many operands taken off.
 pub fn jump(here: &Here<'_>, state: &mut State, taken: usize, offset: i32) -> Made
+    requires { StandsInCode (state_of state.old) }
     ensures { let s = state_of state.old in IfOk result (ComesTo (jump (here_in here.now s) offset (drop taken s.top.operands)) s (state_of state.new)) }
 {
-    let Some(target) = target(state.position(), offset) else {
-        return Err(AllocError);
-    };
+    let target = target(state.position(), offset);
     state.go_to(target, taken);
     Ok(Outcome::Go)
 }
@@ -63,6 +57,7 @@ fn by_zero(here: &Here<'_>, state: &State) -> Made
 
 /// Carries out what an instruction makes of so many operands.
 pub fn carry_out(here: &Here<'_>, state: &mut State, taken: usize, answer: Answer) -> Made
+    requires { StandsInCode (state_of state.old) }
     ensures { let s = state_of state.old in IfOk result (ComesTo (answered (here_in here.now s) (drop taken s.top.operands) answer) s (state_of state.new)) }
 {
     match answer {

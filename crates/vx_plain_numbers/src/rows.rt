@@ -5,7 +5,7 @@ ghost use Rattle.vx_java.specs.Jumps.{if_same};
 ghost use Rattle.vx_java.specs.Row.{row_of};
 ghost use Rattle.vx_plain.specs.Views.{state_of, value_of};
 ghost use Rattle.vx_plain_here.specs.Rows.{ComesTo, here_in};
-ghost use Rattle.vx_plain_numbers.specs.Family.{takes_one, takes_two};
+ghost use Rattle.vx_plain_numbers.specs.Family.{StandsInCode, takes_one, takes_two};
 
 use crate::answer::carry_out;
 use crate::numbers::{are_one, of_one, of_same, of_two};
@@ -15,7 +15,8 @@ use vx_plain_here::{Here, Made};
 
 /// The row of an instruction that takes the operand on top.
 pub fn row_of_one(here: &Here<'_>, state: &mut State, operation: Operation) -> Made
-    requires { takes_one operation ≡ true }
+    requires one { takes_one operation ≡ true }
+    requires stands { StandsInCode (state_of state.old) }
     ensures { let s = state_of state.old in IfOk result (ComesTo (row_of (here_in here.now s) operation s.top.operands) s (state_of state.new)) }
 {
     match state.operand(0) {
@@ -31,6 +32,7 @@ pub fn row_of_one(here: &Here<'_>, state: &mut State, operation: Operation) -> M
 fn on_second(here: &Here<'_>, state: &mut State, operation: Operation, upper: Value) -> Made
     requires two { takes_two operation ≡ true }
     requires upper { Some (value_of upper) ≡ slice_get (state_of state.old).top.operands 0 }
+    requires stands { StandsInCode (state_of state.old) }
     ensures { let s = state_of state.old in IfOk result (ComesTo (row_of (here_in here.now s) operation s.top.operands) s (state_of state.new)) }
 {
     match state.operand(1) {
@@ -41,7 +43,8 @@ fn on_second(here: &Here<'_>, state: &mut State, operation: Operation, upper: Va
 
 /// The row of an instruction that takes the two operands on top.
 pub fn row_of_two(here: &Here<'_>, state: &mut State, operation: Operation) -> Made
-    requires { takes_two operation ≡ true }
+    requires two { takes_two operation ≡ true }
+    requires stands { StandsInCode (state_of state.old) }
     ensures { let s = state_of state.old in IfOk result (ComesTo (row_of (here_in here.now s) operation s.top.operands) s (state_of state.new)) }
 {
     match state.operand(0) {
@@ -52,7 +55,8 @@ pub fn row_of_two(here: &Here<'_>, state: &mut State, operation: Operation) -> M
 
 /// The row of a jump by two references, of which the upper one is known.
 fn on_reference(here: &Here<'_>, state: &mut State, wanted: bool, offset: i32, upper: Value) -> Made
-    requires { Some (value_of upper) ≡ slice_get (state_of state.old).top.operands 0 }
+    requires upper { Some (value_of upper) ≡ slice_get (state_of state.old).top.operands 0 }
+    requires stands { StandsInCode (state_of state.old) }
     ensures { let s = state_of state.old in IfOk result (ComesTo (if_same (here_in here.now s) wanted offset s.top.operands) s (state_of state.new)) }
 {
     match state.operand(1) {
@@ -66,6 +70,7 @@ fn on_reference(here: &Here<'_>, state: &mut State, wanted: bool, offset: i32, u
 
 /// The row of a jump where two references are one, or where they are not.
 pub fn if_same(here: &Here<'_>, state: &mut State, wanted: bool, offset: i32) -> Made
+    requires { StandsInCode (state_of state.old) }
     ensures { let s = state_of state.old in IfOk result (ComesTo (if_same (here_in here.now s) wanted offset s.top.operands) s (state_of state.new)) }
 {
     match state.operand(0) {

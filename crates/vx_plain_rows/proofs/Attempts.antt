@@ -1,5 +1,5 @@
 -- The row of an attempt, from what stands at the position of the frame on top.
-use Rattle.std.proofs.Common.{◌≡◌, ℕ, List, refl, sym, ap, ◌∙◌}
+use Rattle.std.proofs.Common.{◌≡◌, ℕ, ◌+◌, ◌<◌, ◌≤◌, arith, List, refl, sym, ap, ◌∙◌}
 use Rattle.std.specs.Prelude.{Err, None, Ok, Option, Result, Some, ok_or}
 use Rattle.vx_class.specs.declared.class_file.Code.{Code}
 use Rattle.vx_java.specs.Machine.{State, current_class, illegal_in}
@@ -29,3 +29,7 @@ row_there p s code i bytes at fault bytes_are at_is e = ap (row_if p s code) (th
 
 pub row_missing : {E : Type 0} (p : Program) (s : State) (code : Code) (bytes : List ℕ) (at : ℕ) (found fault : E) → bytes ≡ code.bytes → at ≡ s.top.position → Err found ≡ ok_or (instruction_at bytes at) fault → illegal_in p s ≡ row_in p s (Some code)
 row_missing p s code bytes at found fault bytes_are at_is e = ap (row_if p s code) (missing (instruction_at bytes at) found fault e ∙ (λ k. instruction_at (bytes_are k) (at_is k)))
+
+-- an instruction stands in the code
+pub in_code : (told at size bytes : ℕ) → told ≡ at → 0 < size → told + size ≤ bytes → bytes ≤ 65535 → at < 65536
+in_code told at size bytes is some inside few = omega (arith, is, some, inside, few)

@@ -6,6 +6,7 @@ ghost use Rattle.vx_java.specs.Row.{row, row_at, row_in};
 ghost use Rattle.vx_link.specs.Parts.{class_at, method_at};
 ghost use Rattle.vx_plain.specs.Views.{state_of};
 ghost use Rattle.vx_plain_here.specs.Rows.{ComesTo};
+ghost use Rattle.vx_plain_numbers.specs.Family.{StandsInCode};
 ghost use Rattle.vx_plain_tables.specs.Tables.{AreTables};
 
 use crate::operations::row_of;
@@ -57,6 +58,7 @@ fn row_at<'a>(
 ) -> Made
     requires classes { HasClassNumbers program.now }
     requires tables { AreTables program.now tables.now }
+    requires stands { StandsInCode (state_of state.old) }
     ensures { let s = state_of state.old in IfOk result (ComesTo (row_at program.now s code.now instruction.now) s (state_of state.new)) }
 {
     let none = Pool {

@@ -4,6 +4,7 @@ ghost use Rattle.std.specs.Prelude.{IfOk};
 ghost use Rattle.vx_java.specs.Row.{row_of};
 ghost use Rattle.vx_plain.specs.Views.{state_of};
 ghost use Rattle.vx_plain_here.specs.Rows.{ComesTo, here_in};
+ghost use Rattle.vx_plain_numbers.specs.Family.{StandsInCode};
 
 use crate::objects::{row_of_member, row_of_object};
 use vx_java::Operation;
@@ -16,6 +17,7 @@ use vx_plain_words::{increase, load, stack, store};
 
 /// What an operation does.
 pub(crate) fn row_of(seen: &Seen<'_>, state: &mut State, operation: Operation) -> Made
+    requires { StandsInCode (state_of state.old) }
     ensures { let h = here_in seen.now.here (state_of state.old) in IfOk result (ComesTo (row_of h operation h.state.top.operands) h.state (state_of state.new)) }
 {
     match operation {

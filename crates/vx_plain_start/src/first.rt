@@ -8,7 +8,6 @@ ghost use Rattle.vx_java.specs.Step.{before_main};
 ghost use Rattle.vx_list.specs.Places.{item_or};
 ghost use Rattle.vx_plain.specs.Views.{cells_of, frame_of, object_of, state_of, value_of, values_of};
 ghost use Rattle.vx_plain_start.specs.First.{are_cells_among};
-ghost use Rattle.vx_plain_tables.specs.Cells.{plain_of};
 ghost use Rattle.vx_value.specs.Texts.{text_at};
 ghost use Rattle.vx_value.specs.declared.key.Kind.TheVariants.{Call};
 
@@ -16,18 +15,8 @@ use std::alloc::{AllocError, Global};
 use vx_initial_heap::{First, FirstObject, FirstStatic};
 use vx_link::Program;
 use vx_plain::{Body, Frame, Object, State, Value};
-use vx_plain_tables::value_in;
+use vx_plain_tables::value_of_slot;
 use vx_value::{InitState, Kind, Slot, TextTable};
-
-/// The value of a slot. One that names a text is refused as want of memory.
-fn value_of_slot(slot: Slot) -> Result<Value, AllocError>
-    ensures { IfOk result (λ value. Some value ≡ plain_of slot) }
-{
-    match value_in(slot) {
-        Some(value) => Ok(value),
-        None => Err(AllocError),
-    }
-}
 
 /// A body of one cell, whose slot names no text.
 fn cell_body(alloc: Global, _texts: &TextTable, slot: Slot) -> Result<Body, AllocError>
@@ -36,7 +25,10 @@ fn cell_body(alloc: Global, _texts: &TextTable, slot: Slot) -> Result<Body, Allo
     let value = value_of_slot(slot)?;
     let mut cells = Vec::new(alloc);
     cells.push(value)?;
-    Ok(Body::Cells(cells))
+    Ok(Body {
+        text: None,
+        values: cells,
+    })
 }
 
 /// A body of a text.
@@ -44,7 +36,7 @@ fn text_body(alloc: Global, texts: &TextTable, text: u64) -> Result<Body, AllocE
     requires { text < length texts.now.texts }
     ensures { IfOk result (λ body. cells_of body ≡ TextValue (text_at texts.now.texts text) ∷ []) }
 {
-    Ok(Body::Text(Vec::from_slice(alloc, texts.text(text))?))
+    Ok(Body::of_text(Vec::from_slice(alloc, texts.text(text))?))
 }
 
 /// A body of one cell or of a text.
@@ -65,7 +57,10 @@ fn body_of(alloc: Global, texts: &TextTable, cell: Option<Slot>) -> Result<Body,
 {
     match cell {
         Some(slot) => body_with(alloc, texts, slot),
-        None => Ok(Body::Cells(Vec::new(alloc))),
+        None => Ok(Body {
+            text: None,
+            values: Vec::new(alloc),
+        }),
     }
 }
 
@@ -105,7 +100,7 @@ fn is_on(config: &[bool], option: u32) -> bool
     config.get(option as usize).copied().unwrap_or(false)
 }
 
-/// What a static field begins with. A text is none, and is refused as want of memory.
+/// What a static field begins with. A text is not held.
 fn static_of(first: &FirstStatic, config: &[bool]) -> Result<Value, AllocError>
     ensures { IfOk result (λ value. value_of value ≡ static_in empty_text config.now first.now) }
 {

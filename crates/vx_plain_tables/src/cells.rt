@@ -1,6 +1,6 @@
 //! The cells with which objects begin (JVMS 2.3, 2.4).
 
-ghost use Rattle.std.specs.Prelude.{◌≡◌, ◌++◌, IfOk, OnOk, map};
+ghost use Rattle.std.specs.Prelude.{◌≡◌, ◌++◌, IfOk, OnOk, Some, map};
 ghost use Rattle.vx_initial_heap.specs.First.{empty_text};
 ghost use Rattle.vx_java.specs.FirstObjects.{field_default, new_cells, new_object, own_cells};
 ghost use Rattle.vx_java.specs.Ids.{as_class};
@@ -13,12 +13,12 @@ use std::alloc::{AllocError, Global};
 use vx_initial_heap::default_of;
 use vx_java::parts::{descriptor_of_field, fields_of, superclass_of};
 use vx_link::Program;
-use vx_plain::{Body, Object, Value};
+use vx_plain::{Body, Object, Value, held};
 use vx_references::fields::is_static_field;
 use vx_value::{ClassId, FieldId, Slot};
 
 /// The value of a slot; `None` where it names a text.
-pub fn value_in(slot: Slot) -> Option<Value>
+fn value_in(slot: Slot) -> Option<Value>
     ensures { result ≡ plain_of slot }
 {
     match slot {
@@ -78,16 +78,20 @@ fn new_slots(alloc: Global, program: &Program, class: ClassId) -> Result<Vec<Slo
     Ok(slots)
 }
 
-/// The cells of slots. One that names a text is refused as want of memory.
+/// The value of a slot. One that names a text is not held.
+pub fn value_of_slot(slot: Slot) -> Result<Value, AllocError>
+    ensures { IfOk result (λ value. Some value ≡ plain_of slot) }
+{
+    held(value_in(slot))
+}
+
+/// The cells of slots. One that names a text is not held.
 pub fn cells_of(alloc: Global, slots: &[Slot]) -> Result<Vec<Value>, AllocError>
     ensures { IfOk result (λ cells. values_of cells.items ≡ values_in slots.now) }
 {
     let mut cells = Vec::new(alloc);
     for slot in slots {
-        match value_in(*slot) {
-            Some(value) => cells.push(value)?,
-            None => return Err(AllocError),
-        }
+        cells.push(value_of_slot(*slot)?)?;
     }
     Ok(cells)
 }
@@ -102,15 +106,18 @@ fn is_text(slots: &[Slot]) -> bool
     }
 }
 
-/// What an object of slots holds. A text among other cells is refused as want of memory.
+/// What an object of slots holds. A text among other cells is not held.
 fn body_of(alloc: Global, slots: &[Slot]) -> Result<Body, AllocError>
     ensures { IfOk result (λ body. cells_of body ≡ values_in slots.now) }
 {
     if is_text(slots) {
-        return Ok(Body::Text(Vec::new(alloc)));
+        return Ok(Body::of_text(Vec::new(alloc)));
     }
     let cells = cells_of(alloc, slots)?;
-    Ok(Body::Cells(cells))
+    Ok(Body {
+        text: None,
+        values: cells,
+    })
 }
 
 /// A new object of a class (JVMS 6.5 new).

@@ -6,6 +6,6 @@ mod cells;
 mod seen;
 mod tables;
 
-pub use cells::{cells_of, new_object, value_in};
+pub use cells::{cells_of, new_object, value_of_slot};
 pub use seen::{Seen, descriptor_in, signature_in};
 pub use tables::Tables;

@@ -16,7 +16,7 @@ use Rattle.vx_plain.specs.declared.frame.Frame as plain
 use Rattle.vx_plain_here.specs.Rows.{places_of}
 use Rattle.vx_plain_throw.specs.declared.next.Next as next
 use Rattle.vx_plain_throw.specs.declared.next.Next.TheVariants as led
-use Rattle.vx_plain_throw.specs.Passing.{Led, behind, class_behind, handler_by, in_handler, uncaught_over, wrapped_object, wrapped_state, wrapper_or}
+use Rattle.vx_plain_throw.specs.Passing.{IsHandled, Led, behind, class_behind, handler_by, in_handler, uncaught_over, wrapped_object, wrapped_state, wrapper_or}
 use Rattle.vx_value.specs.declared.end.End.TheVariants.{Uncaught}
 use Rattle.vx_value.specs.declared.key.Kind.{Kind}
 use Rattle.vx_value.specs.declared.key.Kind.TheVariants.{Call, Init, Wait}
@@ -121,6 +121,41 @@ passes_on p s r next frame none left =
     ap (unwind p s r) below
     ∙ ap (led_by s r (unwind p (record (passed_state p s s.top.kind r) { top = next.top; callers = next.callers }) (passed_object p s s.top.kind r) next.callers)) (sym none)
     ∙ ap (λ (x : State). unwind p (record x { top = next.top; callers = next.callers }) (passed_object p s s.top.kind r) next.callers) left
+
+-- the frames below one that does not handle
+past_top : (p : Program) (s : State) (r : ℕ) (callers : List Frame) → None ≡ handler_of p s s.top.kind r → uncaught_over p (s.top ∷ callers) (object_at s r).class ≡ uncaught_over p callers (class_behind p s.top.kind (object_at s r).class)
+past_top p s r callers none = ap (λ o. over p callers (behind_by p s.top.kind (object_at s r).class o)) (same_handler p s s.top.kind r ∙ sym none)
+
+below_top : (p : Program) (s : State) (r : ℕ) (next : State) (frame : Frame) → passed_state p s s.top.kind r ≡ with_frame next frame → s.callers ≡ next.top ∷ next.callers
+below_top p s r next frame left = sym (passed_callers p s s.top.kind r) ∙ ap (λ (x : State). x.callers) left
+
+pub one_fewer : (p : Program) (s : State) (r : ℕ) (next : State) (frame : Frame) → passed_state p s s.top.kind r ≡ with_frame next frame → length s.callers ≡ length next.callers + 1
+one_fewer p s r next frame left =
+    let all : length s.callers ≡ suc (length next.callers) = ap length (below_top p s r next frame left) in
+    omega (arith, all)
+
+pub still_handled : (p : Program) (s : State) (r : ℕ) (next : State) (frame : Frame) → None ≡ handler_of p s s.top.kind r → passed_state p s s.top.kind r ≡ with_frame next frame → IsHandled p s r → IsHandled p next (passed_object p s s.top.kind r)
+still_handled p s r next frame none left handled =
+    let thrown = class_behind p s.top.kind (object_at s r).class in
+    let class : (object_at next (passed_object p s s.top.kind r)).class ≡ thrown = sym (ap (λ (x : State). (object_at x (passed_object p s s.top.kind r)).class) left) ∙ passed_class p s s.top.kind r in
+    handled
+    ∙ past_top p s r s.callers none
+    ∙ ap (λ frames. uncaught_over p frames thrown) (below_top p s r next frame left)
+    ∙ ap (uncaught_over p (next.top ∷ next.callers)) (sym class)
+
+-- so many of the frames of a state were passed, and one of those left handles what is thrown
+pub record IsUnwinding (p : Program) (first : State) (object : ℕ) (s : State) (thrown passed frames : ℕ) : Type 0 where
+  pub same : unwind p first object first.callers ≡ unwind p s thrown s.callers
+  pub handled : IsHandled p s thrown
+  pub left : length s.callers + 1 + passed ≡ frames
+
+-- an object that no frame handles is not handled
+pub none_handles : {A : Type 0} (p : Program) (s passed : State) (r : ℕ) → None ≡ handler_of p s s.top.kind r → passed ≡ passed_state p s s.top.kind r → passed.callers ≡ [] → IsHandled p s r → A
+none_handles p s passed r none is empty handled =
+    let thrown = class_behind p s.top.kind (object_at s r).class in
+    let alone : s.callers ≡ [] = sym (passed_callers p s s.top.kind r) ∙ sym (ap (λ (x : State). x.callers) is) ∙ empty in
+    let told : None ≡ Some thrown = handled ∙ past_top p s r s.callers none ∙ ap (λ frames. uncaught_over p frames thrown) alone in
+    absurd (cc told)
 
 -- ---- frames, the nearest caller last
 

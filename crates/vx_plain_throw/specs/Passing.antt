@@ -1,9 +1,10 @@
 -- Objects that pass frames (JVMS 2.10, 5.5).
-use Rattle.std.specs.Prelude.{◌≡◌, List, None, Option, Some, [], if◌then◌else◌, ℕ, ◌∷◌}
+use Rattle.std.specs.Prelude.{◌≡◌, ◌+◌, List, None, Option, Some, [], if◌then◌else◌, length, ℕ, ◌∷◌}
 use Rattle.vx_java.specs.Machine as machine
-use Rattle.vx_java.specs.Machine.{Frame, Ref, State, next_object}
+use Rattle.vx_java.specs.Machine.{Frame, Ref, State, next_object, object_at}
 use Rattle.vx_java.specs.Selection.{handler_for}
-use Rattle.vx_java.specs.Throwing.{is_error, with_wrapper}
+use Rattle.vx_java.specs.Step.{frames_of}
+use Rattle.vx_java.specs.Throwing.{is_error, unwind, with_wrapper}
 use Rattle.vx_link.specs.Assignability.{assignable}
 use Rattle.vx_link.specs.ClassNames.{core_class}
 use Rattle.vx_link.specs.declared.program.Program.{Program}
@@ -37,6 +38,16 @@ behind p f thrown = elim (handler_at p f thrown) [ Some handler ↦ None | None 
 abbrev pub uncaught_over : Program → List Frame → ℕ → Option ℕ
 uncaught_over p [] thrown = Some thrown
 uncaught_over p (f ∷ rest) thrown = elim (behind p f thrown) [ None ↦ None | Some class ↦ uncaught_over p rest class ]
+
+-- one of the frames of a state handles an object
+abbrev pub IsHandled : Program → State → ℕ → Type 0
+IsHandled p s r = None ≡ uncaught_over p (frames_of s) (object_at s r).class
+
+-- an object has passed the frame on top, and one of those left handles what is thrown behind it
+pub record HasPassed (p : Program) (old : State) (object : ℕ) (new : State) (thrown : ℕ) : Type 0 where
+  pub same : unwind p old object old.callers ≡ unwind p new thrown new.callers
+  pub handled : IsHandled p new thrown
+  pub fewer : length old.callers ≡ length new.callers + 1
 
 -- what leaves an initialisation
 abbrev pub wrapped_object : Program → State → ℕ → ℕ

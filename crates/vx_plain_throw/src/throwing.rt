@@ -6,7 +6,7 @@ ghost use Rattle.vx_java.specs.Ids.{HasClassNumbers};
 ghost use Rattle.vx_java.specs.Throwing.{next_after_raise, next_after_throw};
 ghost use Rattle.vx_link.specs.ClassNames.{class_text};
 ghost use Rattle.vx_plain.specs.Views.{state_of};
-ghost use Rattle.vx_plain_throw.specs.Passing.{Led};
+ghost use Rattle.vx_plain_throw.specs.Passing.{IsHandled, Led};
 ghost use Rattle.vx_plain_throw.specs.declared.next.Next.TheVariants.{Ends};
 ghost use Rattle.vx_value.specs.declared.end.End.TheVariants.{Uncaught};
 
@@ -35,7 +35,8 @@ fn go_on(
     state: &mut State,
     object: u64,
 ) -> Result<Next, AllocError>
-    requires { HasClassNumbers program.now }
+    requires classes { HasClassNumbers program.now }
+    requires handled { IsHandled program.now (state_of state.old) object }
     ensures { let s = state_of state.old in IfOk result (Led (next_after_throw program.now s object) s (state_of state.new)) }
 {
     unwind(alloc, program, state, object)?;

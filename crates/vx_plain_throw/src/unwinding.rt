@@ -5,7 +5,7 @@ ghost use Rattle.vx_java.specs.Ids.{HasClassNumbers};
 ghost use Rattle.vx_java.specs.Machine.{Goes, current_class, with_inits};
 ghost use Rattle.vx_java.specs.Throwing.{handler_of, passed_object, passed_state, unwind};
 ghost use Rattle.vx_plain.specs.Views.{state_of};
-ghost use Rattle.vx_plain_throw.specs.Passing.{in_handler, wrapped_object, wrapped_state};
+ghost use Rattle.vx_plain_throw.specs.Passing.{HasPassed, IsHandled, in_handler, wrapped_object, wrapped_state};
 ghost use Rattle.vx_value.specs.declared.slot.InitState.TheVariants.{Failed};
 
 use crate::handling::{handler_of, is_error};
@@ -89,11 +89,12 @@ fn pass_top(
 ) -> Result<u64, AllocError>
     requires classes { HasClassNumbers program.now }
     requires unhandled { None ≡ handler_of program.now (state_of state.old) (state_of state.old).top.kind object }
-    ensures { let s = state_of state.old in IfOk result (λ r. unwind program.now s object s.callers ≡ unwind program.now (state_of state.new) r (state_of state.new).callers) }
+    requires handled { IsHandled program.now (state_of state.old) object }
+    ensures { IfOk result (HasPassed program.now (state_of state.old) object (state_of state.new)) }
 {
     let thrown = pass(alloc, program, state, object)?;
     let Some(_passed) = state.leave() else {
-        return Err(AllocError);
+        unreachable!()
     };
     Ok(thrown)
 }
@@ -105,7 +106,8 @@ pub(crate) fn unwind(
     state: &mut State,
     object: u64,
 ) -> Result<(), AllocError>
-    requires { HasClassNumbers program.now }
+    requires classes { HasClassNumbers program.now }
+    requires handled { IsHandled program.now (state_of state.old) object }
     ensures { let s = state_of state.old in OnOk result (unwind program.now s object s.callers ≡ Goes (state_of state.new)) }
 {
     let mut thrown = object;
@@ -116,5 +118,5 @@ pub(crate) fn unwind(
             None => thrown = pass_top(alloc, program, state, thrown)?,
         }
     }
-    Err(AllocError)
+    unreachable!()
 }

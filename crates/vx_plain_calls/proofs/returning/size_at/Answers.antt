@@ -8,8 +8,11 @@ use Rattle.vx_plain_calls.proofs.returning.size_at.Goals as goal
 pub size_in-requires : goal.size_in-requires
 size_in-requires c = short_code c.args.program.now c.args.frame.now.method.0 c.in-Some.code.now c.requires (sym c.in-Some.ensures)
 
-pub returns-in-Some : goal.returns-in-Some
-returns-in-Some c = c.size_in.ensures ∙ ap (λ code. instruction_size (instruction_at (bytes_of code) c.args.frame.now.position)) c.in-Some.ensures
+pub returns-in-Some-clause-value : goal.returns-in-Some-clause-value
+returns-in-Some-clause-value c = c.size_in.ensures.value ∙ ap (λ code. instruction_size (instruction_at (bytes_of code) c.args.frame.now.position)) c.in-Some.ensures
 
-pub returns-in-None : goal.returns-in-None
-returns-in-None c = size_of_none c.args.frame.now.position ∙ ap (λ code. instruction_size (instruction_at (bytes_of code) c.args.frame.now.position)) c.in-None.ensures
+pub returns-in-None-clause-value : goal.returns-in-None-clause-value
+returns-in-None-clause-value c = size_of_none c.args.frame.now.position ∙ ap (λ code. instruction_size (instruction_at (bytes_of code) c.args.frame.now.position)) c.in-None.ensures
+
+pub returns-in-Some-clause-within : goal.returns-in-Some-clause-within
+returns-in-Some-clause-within c = c.size_in.ensures.within

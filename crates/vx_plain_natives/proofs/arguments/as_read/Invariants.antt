@@ -1,7 +1,7 @@
 use Rattle.std.proofs.Common.{◌≡◌, ◌++◌, drop}
 use Rattle.vx_java.specs.Natives.{as_read}
 use Rattle.vx_plain.specs.Views.{values_of}
-use Rattle.vx_plain_natives.specs.Answers.{listed}
+use Rattle.vx_plain_strings.specs.Answers.{listed}
 use Rattle.vx_plain_natives.proofs.arguments.as_read.Given as goal
 
 abbrev pub invariant-loop-place : goal.invariant-loop-place

@@ -4,7 +4,7 @@ use Rattle.vx_plain.specs.Views.{state_of}
 use Rattle.vx_plain_here.proofs.Comes.{comes_as}
 use Rattle.vx_plain_here.specs.Rows.{here_in}
 use Rattle.vx_plain_natives.proofs.Given.{applied_to}
-use Rattle.vx_plain_natives.specs.Answers.{listed}
+use Rattle.vx_plain_strings.specs.Answers.{listed}
 use Rattle.vx_plain_natives.proofs.carrying.apply.Goals as goal
 
 pub returns-in-Some : goal.returns-in-Some

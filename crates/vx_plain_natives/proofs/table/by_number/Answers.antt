@@ -3,7 +3,7 @@ use Rattle.vx_plain.specs.Views.{state_of}
 use Rattle.vx_plain_here.proofs.Comes.{comes_as}
 use Rattle.vx_plain_here.specs.Rows.{here_in}
 use Rattle.vx_plain_natives.proofs.Numbered.{no_method}
-use Rattle.vx_plain_natives.specs.Answers.{listed}
+use Rattle.vx_plain_strings.specs.Answers.{listed}
 use Rattle.vx_plain_natives.proofs.table.by_number.Goals as goal
 
 pub returns-then-number-gt92 : goal.returns-then-number-gt92

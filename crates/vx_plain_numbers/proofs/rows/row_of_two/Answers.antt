@@ -5,4 +5,4 @@ use Rattle.vx_plain_numbers.proofs.RowLaws.{two_missing}
 use Rattle.vx_plain_numbers.proofs.rows.row_of_two.Goals as goal
 
 pub returns-in-None : goal.returns-in-None
-returns-in-None c = comes_as c.illegal.result _ _ _ _ (two_missing (here_in c.args.here.now (state_of c.args.state.now)) c.args.operation (state_of c.args.state.now).top.operands c.requires c.in-None.ensures) c.illegal.ensures
+returns-in-None c = comes_as c.illegal.result _ _ _ _ (two_missing (here_in c.args.here.now (state_of c.args.state.now)) c.args.operation (state_of c.args.state.now).top.operands c.requires.two c.in-None.ensures) c.illegal.ensures

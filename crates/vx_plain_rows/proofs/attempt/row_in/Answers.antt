@@ -1,7 +1,12 @@
 use Rattle.vx_plain.specs.Views.{state_of}
 use Rattle.vx_plain_here.proofs.Comes.{comes_as}
-use Rattle.vx_plain_rows.proofs.Attempts.{row_missing, row_there}
+use Rattle.vx_plain_rows.proofs.Attempts.{in_code, row_missing, row_there}
 use Rattle.vx_plain_rows.proofs.attempt.row_in.Goals as goal
+
+pub row_at-requires-clause-stands : goal.row_at-requires-clause-stands
+row_at-requires-clause-stands c =
+    let inside = rw c.as_slice.ensures at c.in-Ok.ensures.bounds in
+    in_code _ _ c.in-Ok.instruction.length _ c.position.ensures inside.0 inside.1 c.requires.few
 
 pub returns-in-Ok : goal.returns-in-Ok
 returns-in-Ok c =

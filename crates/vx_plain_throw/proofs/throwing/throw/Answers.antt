@@ -11,3 +11,9 @@ returns-in-Some c =
     let p = c.args.program.now in
     let s = state_of c.args.state.now in
     ended c.end.result (next_after_throw p s c.args.object) s _ c.end.ensures (ends_uncaught p s.callers s c.args.object c.in-Some.class.0 (sym (c.in-Some.ensures ∙ ap (uncaught_over p (frames_of s)) c.class_of.ensures)))
+
+pub go_on-requires-clause-handled : goal.go_on-requires-clause-handled
+go_on-requires-clause-handled c =
+    let p = c.args.program.now in
+    let s = state_of c.args.state.now in
+    c.in-None.ensures ∙ ap (uncaught_over p (frames_of s)) c.class_of.ensures

@@ -1,16 +1,12 @@
 use Rattle.std.proofs.Common.{◌<◌, arith, length, slice_set}
-use Rattle.std.proofs.lemmas.Result.{on_ok_weaker}
 use Rattle.vx_java.specs.Machine.{Text}
 use Rattle.vx_plain.proofs.Heaps.{object_written}
 use Rattle.vx_plain.specs.Views.{state_of}
 use Rattle.vx_plain.proofs.state.State.write_text.Goals as goal
 
-pub returns-then-number-len : goal.returns-then-number-len
+pub returns : goal.returns
 unfolding state_of
-returns-then-number-len c =
+returns c =
     let inside : c.args.object < length c.args.self.now.heap.items = omega arith in
-    on_ok_weaker c.write_text.result
-    (λ made.
-    let written = object_written c.args.self.now.heap.items c.args.object c.index_mut.result.now c.write_text.new.self (λ cells. slice_set cells 0 (Text c.args.units.items)) inside c.index_mut.ensures.value made in
-    λ i. record (state_of c.args.self.now) { heap = written i })
-    c.write_text.ensures
+    let written = object_written c.args.self.now.heap.items c.args.object c.index_mut.result.now c.write_text.new.self (λ cells. slice_set cells 0 (Text c.args.units.items)) inside c.index_mut.ensures.value c.write_text.ensures in
+    λ i. record (state_of c.args.self.now) { heap = written i }

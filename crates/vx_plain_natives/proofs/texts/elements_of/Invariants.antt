@@ -1,6 +1,0 @@
-use Rattle.std.proofs.Common.{◌≡◌, map, take}
-use Rattle.vx_plain_natives.specs.Texts.{char_value}
-use Rattle.vx_plain_natives.proofs.texts.elements_of.Given as goal
-
-abbrev pub invariant-loop-unit : goal.invariant-loop-unit
-invariant-loop-unit l = l.cells.items ≡ map char_value (take l.unit-index l.units)

@@ -1,0 +1,80 @@
+"""What scripts that replay share: what is run, configurations, and the comparison of a report's projections with replays."""
+
+import itertools
+import os
+import re
+import subprocess
+import sys
+
+HERE = os.path.dirname(os.path.abspath(__file__))
+CASES = os.path.join(HERE, '..', 'cases')
+sys.path.insert(0, os.path.join(HERE, '..', 'programs'))
+
+import programs
+
+MOST = 64
+TRIED = 1024
+NOT_ALLOWED = 11
+LIMIT = '1000000'
+
+
+def called(varexj, folder, *words):
+    done = subprocess.run([varexj, *words], cwd=folder, stdin=subprocess.DEVNULL, capture_output=True)
+    return done.returncode, done.stdout
+
+
+def words_of(program):
+    return [program.place('classes'), program.model_place(), program.main(), LIMIT]
+
+
+def runs():
+    """A name, a folder to stand in, and the words behind `run` up to the limit."""
+    for name in sorted(os.listdir(CASES)):
+        folder = os.path.join(CASES, name)
+        if os.path.exists(os.path.join(folder, 'args')):
+            with open(os.path.join(folder, 'args')) as file:
+                words = file.read().splitlines()
+            if words[:1] == ['run'] and len(words) >= 5:
+                yield name, folder, words[1:5]
+    for program in programs.programs():
+        yield program.name, program.folder, words_of(program)
+
+
+def options_of(report):
+    """The names of a report's options."""
+    return re.findall(r'^option (.*)$', report.decode('latin-1'), flags=re.M)
+
+
+def configurations(options):
+    """Words that name configurations: all of them where they are few, else first none and all, and then some that are spread."""
+    if 2 ** len(options) <= TRIED:
+        numbers = range(2 ** len(options))
+    else:
+        spread = (number * 0x9E3779B97F4A7C15 % 2 ** 64 >> (64 - len(options)) for number in itertools.count(1))
+        numbers = itertools.chain([0, 2 ** len(options) - 1], itertools.islice(spread, TRIED))
+    for number in numbers:
+        yield ','.join(option for at, option in enumerate(options) if number >> at & 1) or '-'
+
+
+def agree(projection, replay):
+    """Whether the replay says first what the projection says, and then where its frames stand."""
+    head, tail = b'varexj replay 1\n' + projection, b'done\n'
+    if not replay.startswith(head) or not replay.endswith(tail):
+        return False
+    return re.fullmatch(rb'(at [!-~]+ (-|\d+)\n)*', replay[len(head):-len(tail)]) is not None
+
+
+def judged(varexj, folder, words, report):
+    """How many allowed configurations were compared, and those that differ."""
+    with open(report, 'rb') as file:
+        options = options_of(file.read())
+    compared, different = 0, []
+    for configuration in configurations(options):
+        status, projection = called(varexj, folder, 'project', report, configuration)
+        also, replay = called(varexj, folder, 'replay', *words, configuration)
+        if status != also or status not in (0, NOT_ALLOWED) or (status == 0 and not agree(projection, replay)):
+            different.append(configuration)
+        compared += status == 0
+        if compared == MOST:
+            break
+    return compared, different
