@@ -7,7 +7,7 @@ In README.md, CONTRIBUTING.md and docs/*.md each of these has to be there:
 - the file of a relative link;
 - a path: what begins with a crate, with a folder at the top, or with `specs/`, `src/`, `proofs/` or `must-fail/` (of some crate).
   The ending .rt or .antt may be left out, and a star stands for any letters;
-- a word in backquotes: in the crates, in crates.txt, in a script, or in a Java source of the tests;
+- a word in backquotes: in the crates, in crates.txt, in a script, or in a Java source of the tests, the library or `prepare`;
 - words in backquotes behind a crate and a colon: in that crate;
 - words in backquotes in the last column of a table that has crates in its first column: in one of those crates;
 - the words behind a .rt file in a block of code: as functions or types of that file.
@@ -63,7 +63,7 @@ class Sources:
     def __init__(self):
         self.crates = all_crates()
         self.words = {crate: words_in(crate_files(crate)) for crate in self.crates}
-        scripts = files_at('crates.txt', '.ci/run', 'examples/**/*', 'tests/**/*.py', 'tests/**/src/*.java')
+        scripts = files_at('crates.txt', '.ci/run', 'examples/**/*', 'tests/**/*.py', 'tests/**/src/*.java', 'library/**/*.java', 'prepare/**/*.java', 'prepare/**/*.py', 'prepare/*')
         self.all_words = words_in(scripts).union(*self.words.values()) | ELSEWHERE
         self.top = {name for name in os.listdir(TOP) if os.path.isdir(os.path.join(TOP, name))}
 
