@@ -1,0 +1,34 @@
+-- Which configurations end otherwise than they should.
+use Rattle.std.specs.Prelude.{ℕ, Bool, false, not, ◌&&◌, List, Option, Some, None, length, if◌then◌else◌}
+use Rattle.std.specs.List.{list_any}
+use Rattle.vx_value.specs.declared.end.End.{End}
+use Rattle.vx_model.specs.Models.{is_allowed}
+use Rattle.vx_report.specs.declared.report.Report.{Report}
+use Rattle.vx_report.specs.Projection.{end_at}
+use Rattle.vx_count.specs.Settings.{number}
+use Rattle.vx_check.specs.Expected.{Expectation}
+use Rattle.vx_check.specs.Ends.{fits, passes}
+
+-- a line speaks of a configuration
+abbrev pub speaks : List Bool → Expectation → Bool
+speaks c line = is_allowed line.model c
+
+-- it speaks of one that ends otherwise
+abbrev pub is_missed : End → List Bool → Expectation → Bool
+is_missed end c line = speaks c line && not (fits line.end end)
+
+-- where lines speak of a configuration its end has to fit each of them; where none does, the program has to come to its end
+abbrev pub fails_with : List Expectation → List Bool → End → Bool
+fails_with expected c end = if list_any (speaks c) expected then list_any (is_missed end c) expected else not (passes end)
+
+abbrev pub fails_at : List Expectation → List Bool → Option End → Bool
+fails_at expected c None = false
+fails_at expected c (Some end) = fails_with expected c end
+
+-- the configuration has an end, which isn't as it should be
+abbrev pub fails : Report → List Expectation → List Bool → Bool
+fails r expected c = fails_at expected c (end_at r c)
+
+-- how many configurations fail
+abbrev pub failing : Report → List Expectation → ℕ
+failing r expected = number (length r.options) (fails r expected)

@@ -1,0 +1,91 @@
+//! From the sources of classes, or from class files, to a program with the model of its options.
+
+ghost use Rattle.std.specs.Prelude.{◌≡◌, ◌≤◌, All, IfOk, length, map, true};
+ghost use Rattle.vx_class.specs.File.{Holds};
+ghost use Rattle.vx_families.specs.Bounds.{IsBounded};
+ghost use Rattle.vx_heap.specs.Heap.{has_options};
+ghost use Rattle.vx_model.specs.Models.{IsModel};
+
+use std::alloc::{AllocError, Global};
+use std::test::Fail;
+use vx_asm::assemble;
+use vx_class::{ClassFile, read_class};
+use vx_core::core;
+use vx_link::Program;
+use vx_linker::link;
+use vx_list::Items;
+use vx_model::{Model, read_model};
+use vx_program_bounds::linked_are_bounded;
+use vx_value::Name;
+
+/// The most sources of an example.
+const MOST_SOURCES: usize = 9;
+
+/// A linked program, and the model of its options.
+#[derive(Drop)]
+pub struct Example {
+    pub program: Program,
+    pub model: Model,
+}
+
+/// The class that a source names.
+fn class(alloc: Global, source: &[u8]) -> Result<ClassFile, Fail>
+    ensures { IfOk result Holds }
+{
+    let Ok(bytes) = assemble(alloc, source) else {
+        return Err(Fail::new("a source names no class"));
+    };
+    Ok(read_class(alloc, bytes.as_slice())?)
+}
+
+/// The classes that at most nine sources name.
+fn classes(alloc: Global, sources: &[Vec<u8>]) -> Result<Vec<ClassFile>, Fail>
+    ensures few { IfOk result (λ classes. length classes.items ≤ 9) }
+    ensures read { IfOk result (λ classes. All Holds classes.items) }
+{
+    if sources.len() > MOST_SOURCES {
+        return Err(Fail::new("there are more sources"));
+    }
+    let mut classes = Vec::new(alloc);
+    for source in sources {
+        classes.push(class(alloc, source.as_slice())?)?;
+    }
+    Ok(classes)
+}
+
+/// The program of class files and a model, linked with the core classes, from `Main` on.
+pub fn linked_classes(alloc: Global, classes: Vec<ClassFile>, model: Model) -> Result<Example, Fail>
+    requires few { length classes.items ≤ 1024 }
+    requires read { All Holds classes.items }
+    requires lawful { IsModel model }
+    ensures bounded { IfOk result (λ example. IsBounded example.program) }
+    ensures options { IfOk result (λ example. has_options (length example.model.options) example.program.fields ≡ true) }
+    ensures lawful { IfOk result (λ example. IsModel example.model) }
+{
+    let core = core(alloc)?;
+    linked_are_bounded();
+    let program = link(alloc, classes, core, &model, b"Main")?;
+    Ok(Example { program, model })
+}
+
+/// The program of the sources of at most nine classes and the text of a model, linked with the core classes, from `Main` on.
+pub fn linked(alloc: Global, sources: &[Vec<u8>], model: &[u8]) -> Result<Example, Fail>
+    ensures bounded { IfOk result (λ example. IsBounded example.program) }
+    ensures options { IfOk result (λ example. has_options (length example.model.options) example.program.fields ≡ true) }
+    ensures lawful { IfOk result (λ example. IsModel example.model) }
+{
+    let classes = classes(alloc, sources)?;
+    let model = read_model(alloc, model)?;
+    linked_classes(alloc, classes, model)
+}
+
+/// The names of a model's options.
+pub(crate) fn names_of(alloc: Global, model: &Model) -> Result<Items<Name>, AllocError>
+    ensures { IfOk result (λ names. names ≡ map (λ o. o.name) model.now.options) }
+{
+    let mut names = Vec::new(alloc);
+    for option in model.options.as_slice() {
+        names.push(Name::of(alloc, option.name.bytes())?)?;
+    }
+    Ok(Items::of(names))
+}
