@@ -1,4 +1,4 @@
-//! Numbers, keys, tables of texts, sets of configurations, conditional values, rows and frames, and what was found, on small examples, over
+//! Numbers, keys, tables of texts, sets of configurations, and conditional values, rows and frames on small examples, over
 //! the space of masks and the space of diagrams.
 #![tactic(auto)]
 
@@ -7,13 +7,9 @@ mod conds;
 #[cfg(test)]
 mod diagrams;
 #[cfg(test)]
-mod findings;
-#[cfg(test)]
 mod frames;
 #[cfg(test)]
 mod keys;
-#[cfg(test)]
-mod least_key;
 #[cfg(test)]
 mod masks;
 #[cfg(test)]

@@ -1,8 +1,6 @@
-//! Pictures, covers, explanations and counts of small reports.
+//! Pictures, covers and explanations of small reports.
 #![tactic(auto)]
 
-#[cfg(test)]
-mod count;
 #[cfg(test)]
 mod cover;
 #[cfg(test)]

@@ -1,4 +1,3 @@
-pub mod Marks
 pub mod Pictures
 pub mod Subjects
 pub mod Text

@@ -1,5 +1,0 @@
-pub mod Adding
-pub mod Bytes
-pub mod Fronts
-pub mod Halves
-pub mod Titled

@@ -1,4 +1,0 @@
-pub mod Folder
-pub mod ModelFile
-pub mod Reports
-pub mod Traced

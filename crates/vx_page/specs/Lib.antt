@@ -1,4 +1,0 @@
-pub mod Back
-pub mod Escapes
-pub mod Front
-pub mod Page

@@ -1,5 +1,0 @@
-pub mod Project
-pub mod Output
-pub mod Tell
-pub mod Agree
-pub mod Assemble
