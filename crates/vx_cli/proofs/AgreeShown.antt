@@ -1,23 +1,23 @@
 -- What the plan of `agree` gave shows in terms of the files.
-use Rattle.std.proofs.Common.{◌≡◌, ◌<◌, ℕ, List, length, IfSome, Some, None, Result, Err, inl, inr, ◌⊎◌, refl, ap, ◌∙◌, arith}
+use Rattle.std.proofs.Common.{◌≡◌, ◌<◌, ℕ, List, length, IfSome, Some, None, Err, inl, inr, ◌⊎◌, refl, ap, ◌∙◌, arith}
 use Rattle.vx_io.specs.Call.{Reading}
 use Rattle.vx_io.specs.Held.{Held, FilesState, contents}
 use Rattle.vx_io.specs.Sink.{SinkState}
 use Rattle.vx_report.specs.declared.report.Report.{Report}
-use Rattle.vx_cli.specs.declared.status.Status.{Status}
-use Rattle.vx_cli.specs.declared.status.Status.TheVariants.{Done, NoMemory, ReadFault, WriteFault, BadReport, TooLarge, Unlike}
-use Rattle.vx_cli.specs.Agree.{agree_plan, agree_reports, unlike}
+use Rattle.vx_plans.specs.declared.status.Status.{Status}
+use Rattle.vx_plans.specs.declared.status.Status.TheVariants.{Done, NoMemory, ReadFault, WriteFault, BadReport, TooLarge, Unlike}
+use Rattle.vx_report_commands.specs.Agree.{agree_plan, agree_reports, unlike}
 use Rattle.vx_cli.specs.Causes.{AgreeCause, AreUnlike, HasReport, IsBadAt, IsReportIn, Shows, IsShown, IsGood, NothingFails}
-use Rattle.vx_cli.specs.Command.{Agree}
-use Rattle.vx_cli.specs.Job.{Agreement}
-use Rattle.vx_cli.specs.Plan.{MayGive, Write}
-use Rattle.vx_cli.specs.Reports.{most_report_bytes, read_report}
-use Rattle.vx_cli.proofs.Alike.{not_both, unlike_alone}
+use Rattle.vx_commands.specs.Command.{Agree}
+use Rattle.vx_plans.specs.Job.{Agreement}
+use Rattle.vx_plans.specs.Plan.{MayGive, Write, Outcome}
+use Rattle.vx_inputs.specs.Reports.{most_report_bytes, read_report}
+use Rattle.vx_report_commands.proofs.Alike.{not_both, unlike_alone}
 use Rattle.vx_cli.proofs.ReportTold.{ReportShows, not_bad, report_shows}
-use Rattle.vx_cli.proofs.Told.{told_both, told_map, unless_cases}
+use Rattle.vx_plans.proofs.Told.{told_both, told_map, unless_cases}
 
 -- whatever the plan of `agree` gave is shown by the files
-pub agree_shows : (old new : FilesState) (path other : List ℕ) (outcome : Result (List ℕ) Status) → MayGive old.held old.faults new.faults (agree_plan path other) outcome → Shows old new (Agree path other) outcome
+pub agree_shows : (old new : FilesState) (path other : List ℕ) (outcome : Outcome) → MayGive old.held old.faults new.faults (agree_plan path other) outcome → Shows old new (Agree path other) outcome
 agree_shows old new path other outcome g = by_file (report_shows old new path (λ report. read_report other (agree_reports report)) outcome g)
   where
     refused : (status : Status) → outcome ≡ Err status → AgreeCause old new path other status → Shows old new (Agree path other) outcome
@@ -30,7 +30,7 @@ agree_shows old new path other outcome g = by_file (report_shows old new path (�
         let is = unlike_alone r s bad.0 bad.1 in
         refused Unlike (bad.2 ∙ ap Err is) (told_both old.held _ _ _ (λ held h k. record { report = r; is_report = h; against = s; is_other = k; differ = bad.1 ∙ ap Some is }) told also)
     by_options r s told also (inr good) =
-        rw good.1.2 (told_both old.held _ _ _ (λ held h k. record { report = r; is_report = h; against = s; is_other = k; alike = good.0; is_text = good.1.1 }) told also)
+        rw good.1.2 (refl, told_both old.held _ _ _ (λ held h k. record { report = r; is_report = h; against = s; is_other = k; alike = good.0; is_text = good.1.1 }) told also)
 
     by_other : (r : Report) → IfSome old.held (λ held. IsReportIn held path r) → ReportShows old new other (agree_reports r) outcome → Shows old new (Agree path other) outcome
     by_other r told (inl fault) = refused (ReadFault other) fault.1 (inr (refl, fault.0, told_map old.held _ _ (λ held h. (r, h)) told))

@@ -4,15 +4,15 @@ use Rattle.vx_asm.specs.Source.{Fault, named}
 use Rattle.vx_class.specs.declared.class_file.ClassFile.{ClassFile}
 use Rattle.vx_io.specs.Held.{Held, FilesState, contents}
 use Rattle.vx_io.specs.Sink.{SinkState}
-use Rattle.vx_cli.specs.declared.status.Status.{Status}
-use Rattle.vx_cli.specs.declared.status.Status.TheVariants.{Done, NoMemory, ReadFault, WriteFault, BadSource, TooLarge}
-use Rattle.vx_cli.specs.Assemble.{or_bad_source, assembled, asm_plan}
+use Rattle.vx_plans.specs.declared.status.Status.{Status}
+use Rattle.vx_plans.specs.declared.status.Status.TheVariants.{Done, NoMemory, ReadFault, WriteFault, BadSource, TooLarge}
+use Rattle.vx_report_commands.specs.Assemble.{or_bad_source, assembled, asm_plan}
 use Rattle.vx_cli.specs.Causes.{AsmCause, Shows, IsShown, IsGood, NothingFails}
-use Rattle.vx_cli.specs.Command.{Asm}
-use Rattle.vx_cli.specs.Job.{Exactly}
-use Rattle.vx_cli.specs.Plan.{MayGive, Write, attempt}
-use Rattle.vx_cli.specs.Sized.{most_bytes}
-use Rattle.vx_cli.proofs.Told.{told_map, IsText, SizedShows, sized_shows, attempt_cases, ok_and_err}
+use Rattle.vx_commands.specs.Command.{Asm}
+use Rattle.vx_plans.specs.Job.{Exactly}
+use Rattle.vx_plans.specs.Plan.{MayGive, Write, attempt, Outcome}
+use Rattle.vx_plans.specs.Sized.{most_bytes}
+use Rattle.vx_plans.proofs.Told.{told_map, IsText, SizedShows, sized_shows, attempt_cases, ok_and_err}
 
 -- a source is refused by its first bad line alone
 source_refused : (r : Result ClassFile Fault) (status : Status) → or_bad_source r ≡ Err status → (line : ℕ) × (reason : ℕ) × (status ≡ BadSource line reason)
@@ -20,7 +20,7 @@ source_refused (Ok class) status e = cc
 source_refused (Err fault) status e = (fault.line, fault.reason, cc)
 
 -- whatever the plan of `asm` gave is shown by the files
-pub asm_shows : (old new : FilesState) (path : List ℕ) (outcome : Result (List ℕ) Status) → MayGive old.held old.faults new.faults (asm_plan path) outcome → Shows old new (Asm path) outcome
+pub asm_shows : (old new : FilesState) (path : List ℕ) (outcome : Outcome) → MayGive old.held old.faults new.faults (asm_plan path) outcome → Shows old new (Asm path) outcome
 asm_shows old new path outcome g = by_file (sized_shows old new most_bytes path path _ outcome g)
   where
     refused : (status : Status) → outcome ≡ Err status → AsmCause old new path status → Shows old new (Asm path) outcome
@@ -33,7 +33,7 @@ asm_shows old new path outcome g = by_file (sized_shows old new most_bytes path 
         let is = source_refused (named bytes) bad.0 bad.1 in
         refused (BadSource is.0 is.1) (bad.2 ∙ ap Err is.2) (told_map old.held _ _ (λ held h. (h.0, ap assembled (sym h.1) ∙ bad.1 ∙ ap Err is.2)) told)
     by_text bytes told (inr good) =
-        rw good.2.2 (told_map old.held _ _ (λ held h. record { fits = h.0; is_text = ap assembled (sym h.1) ∙ good.1 ∙ ap Ok (sym good.2.1) }) told)
+        rw good.2.2 (refl, told_map old.held _ _ (λ held h. record { fits = h.0; is_text = ap assembled (sym h.1) ∙ good.1 ∙ ap Ok (sym good.2.1) }) told)
 
     by_file : SizedShows old new most_bytes path path (λ bytes. attempt (assembled bytes) (λ text. Write (Exactly text))) outcome → Shows old new (Asm path) outcome
     by_file (inl (inl fault)) = refused (ReadFault path) fault.1 (refl, fault.0)

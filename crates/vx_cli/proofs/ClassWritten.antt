@@ -7,13 +7,13 @@ use Rattle.vx_class.specs.Class.{class_of}
 use Rattle.vx_io.specs.Held.{FilesState, Held, contents}
 use Rattle.vx_io.specs.Sink.{Gains, SinkState}
 use Rattle.vx_writer.specs.Written.{spelling}
-use Rattle.vx_cli.specs.Assemble.{or_bad_source}
+use Rattle.vx_report_commands.specs.Assemble.{or_bad_source}
 use Rattle.vx_cli.specs.Causes.{IsAssembled, IsClassWritten, IsShown}
-use Rattle.vx_cli.specs.Command.{Asm}
+use Rattle.vx_commands.specs.Command.{Asm}
 use Rattle.vx_cli.specs.Ends.{Ends}
 use Rattle.vx_cli.specs.PlanOf.{plan_of}
-use Rattle.vx_cli.specs.declared.status.Status.{Status}
-use Rattle.vx_cli.specs.declared.status.Status.TheVariants.{Done}
+use Rattle.vx_plans.specs.declared.status.Status.{Status}
+use Rattle.vx_plans.specs.declared.status.Status.TheVariants.{Done}
 use Rattle.vx_cli.proofs.Shown.{call_shows}
 
 -- the class whose spelling the text is

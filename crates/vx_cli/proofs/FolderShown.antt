@@ -10,14 +10,14 @@ use Rattle.vx_class.specs.declared.class_file.ClassFile.{ClassFile}
 use Rattle.vx_class.proofs.ClassTook.{class_took}
 use Rattle.vx_class.specs.Class.{class_of}
 use Rattle.vx_class.specs.File.{Holds}
-use Rattle.vx_cli.specs.declared.status.Status.{Status}
-use Rattle.vx_cli.specs.declared.status.Status.TheVariants.{ReadFault, BadClass, TooLarge}
+use Rattle.vx_plans.specs.declared.status.Status.{Status}
+use Rattle.vx_plans.specs.declared.status.Status.TheVariants.{ReadFault, BadClass, TooLarge}
 use Rattle.vx_cli.specs.Causes.{HasClasses, IsReached, AreAllGiven, AreClasses, AreGiven, class_bytes, InputCause}
-use Rattle.vx_cli.specs.Job.{is_class_path}
-use Rattle.vx_cli.specs.Plan.{Plan, MayGive, attempt}
-use Rattle.vx_cli.specs.Run.{read_classes, read_folder, or_bad_class, most_classes, place_of, class_paths}
-use Rattle.vx_cli.specs.Sized.{most_bytes, too_large}
-use Rattle.vx_cli.proofs.Told.{told_map, told_both, unless_cases, large_cases, SizedShows, sized_shows, attempt_cases}
+use Rattle.vx_plans.specs.Job.{is_class_path}
+use Rattle.vx_plans.specs.Plan.{Plan, MayGive, attempt, Outcome}
+use Rattle.vx_inputs.specs.Folder.{read_classes, read_folder, or_bad_class, most_classes, place_of, class_paths}
+use Rattle.vx_plans.specs.Sized.{most_bytes, too_large}
+use Rattle.vx_plans.proofs.Told.{told_map, told_both, unless_cases, large_cases, SizedShows, sized_shows, attempt_cases}
 
 -- ---- what class files give
 
@@ -100,7 +100,7 @@ one_more_read : {A : Type 0} {given : List ℕ → Result A Fault} {class : A �
 one_more_read {class = class} gives bytes x front are_bytes reads read =
     All-push (λ y. Holds (class y)) front x read (class_took bytes (class x) are_bytes (gives.spelled bytes x reads)).holds
 
-abbrev ClassesShow : {A : Type 0} → (List ℕ → Result A Fault) → (A → ClassFile) → FilesState → FilesState → List ℕ → List ℕ → List (List ℕ) → (List A → Plan) → Result (List ℕ) Status → Type 0
+abbrev ClassesShow : {A : Type 0} → (List ℕ → Result A Fault) → (A → ClassFile) → FilesState → FilesState → List ℕ → List ℕ → List (List ℕ) → (List A → Plan) → Outcome → Type 0
 ClassesShow {A} given class old new folder model all next outcome =
     ((status : Status) × (outcome ≡ Err status) × InputCause old new folder model status)
     ⊎ ((xs : List A) × IfSome old.held (λ held. SoFar given held folder all [] xs) × AreRead class xs × MayGive old.held old.faults new.faults (next xs) outcome)
@@ -114,12 +114,12 @@ was_refused path (Ok y) status e = cc
 was_refused path (Err fault) status e = (fault, refl, cc)
 
 -- reading on from here shows what a plan gave
-abbrev Continues : {A : Type 0} → (List ℕ → Result A Fault) → (A → ClassFile) → FilesState → FilesState → List ℕ → List ℕ → List (List ℕ) → (List A → Plan) → List (List ℕ) → List (List ℕ) → List A → Result (List ℕ) Status → Type 0
+abbrev Continues : {A : Type 0} → (List ℕ → Result A Fault) → (A → ClassFile) → FilesState → FilesState → List ℕ → List ℕ → List (List ℕ) → (List A → Plan) → List (List ℕ) → List (List ℕ) → List A → Outcome → Type 0
 Continues given class old new folder model all next paths done front outcome =
     IfSome old.held (λ held. SoFar given held folder done paths front) → AreRead class front → AllByRecursion (λ path. IsTrue (is_class_path path)) paths
     → MayGive old.held old.faults new.faults (read_classes given folder next front paths) outcome → ClassesShow given class old new folder model all next outcome
 
-classes_show : {A : Type 0} (given : List ℕ → Result A Fault) (class : A → ClassFile) → GivesClasses given class → (old new : FilesState) (folder model : List ℕ) (all : List (List ℕ)) (next : List A → Plan) (paths done : List (List ℕ)) (front : List A) (outcome : Result (List ℕ) Status) → all ≡ done ++ paths
+classes_show : {A : Type 0} (given : List ℕ → Result A Fault) (class : A → ClassFile) → GivesClasses given class → (old new : FilesState) (folder model : List ℕ) (all : List (List ℕ)) (next : List A → Plan) (paths done : List (List ℕ)) (front : List A) (outcome : Outcome) → all ≡ done ++ paths
     → IfSome old.held (λ held. SoFar given held folder done paths front) → AreRead class front → AllByRecursion (λ path. IsTrue (is_class_path path)) paths
     → MayGive old.held old.faults new.faults (read_classes given folder next front paths) outcome → ClassesShow given class old new folder model all next outcome
 classes_show given class gives old new folder model all next [] done front outcome is told read named g = inr (front, rw (is ∙ append-nil done) told, read, g)
@@ -146,13 +146,13 @@ classes_show {A} given class gives old new folder model all next (path ∷ paths
 
 -- ---- the folder
 
-abbrev pub FolderShows : {A : Type 0} → (List ℕ → Result A Fault) → (A → ClassFile) → FilesState → FilesState → List ℕ → List ℕ → (List A → Plan) → Result (List ℕ) Status → Type 0
+abbrev pub FolderShows : {A : Type 0} → (List ℕ → Result A Fault) → (A → ClassFile) → FilesState → FilesState → List ℕ → List ℕ → (List A → Plan) → Outcome → Type 0
 FolderShows {A} given class old new folder model next outcome =
     ((status : Status) × (outcome ≡ Err status) × InputCause old new folder model status)
     ⊎ ((paths : List (List ℕ)) × (xs : List A) × IfSome old.held (λ held. AreAllGiven given held folder paths xs) × AreRead class xs × MayGive old.held old.faults new.faults (next xs) outcome)
 
 -- a listing has one length
-pub folder_shows : {A : Type 0} (given : List ℕ → Result A Fault) (class : A → ClassFile) → GivesClasses given class → (old new : FilesState) (folder model : List ℕ) (next : List A → Plan) (outcome : Result (List ℕ) Status)
+pub folder_shows : {A : Type 0} (given : List ℕ → Result A Fault) (class : A → ClassFile) → GivesClasses given class → (old new : FilesState) (folder model : List ℕ) (next : List A → Plan) (outcome : Outcome)
     → MayGive old.held old.faults new.faults (read_folder given folder next) outcome → FolderShows given class old new folder model next outcome
 folder_shows given class gives old new folder model next outcome (inl fault) = inl (ReadFault folder, fault.1, inr (inl (refl, fault.0)))
 folder_shows given class gives old new folder model next outcome (inr g) = by_size (unless_cases old.held old.faults new.faults (too_large folder most_classes (length (class_paths g.0))) _ outcome g.2) (large_cases folder most_classes (length (class_paths g.0)))

@@ -1,5 +1,5 @@
 -- What a command asks for is one text.
-use Rattle.std.proofs.Common.{◌≡◌, ℕ, List, IfSome, Ok, Some, ap, sym, subst, ◌∙◌}
+use Rattle.std.proofs.Common.{◌≡◌, ℕ, List, IfSome, Ok, Result, Some, ap, sym, subst, ◌∙◌}
 use Rattle.vx_io.specs.Held.{FilesState, Held, contents}
 use Rattle.vx_io.specs.Sink.{Gains, SinkState}
 use Rattle.vx_class.specs.Class.{class_of}
@@ -15,24 +15,26 @@ use Rattle.vx_report_reader.specs.Rules.{ReportText}
 use Rattle.vx_reporting.proofs.OneText.{one_text}
 use Rattle.vx_reporting.specs.Reported.{IsReported}
 use Rattle.vx_summary.specs.Summary.{summary_text}
-use Rattle.vx_cli.specs.Causes.{AreClasses, AreGiven, HasOneResult, IsAgreeing, IsProjection, IsReplaying, IsReport, IsResult, IsShown, IsTold, IsVerification}
-use Rattle.vx_cli.specs.Command.{Agree, Asm, Command, Load, Project, Replay, Run, Show, Tell, Verify}
+use Rattle.vx_cli.specs.Causes.{AreClasses, AreGiven, HasOneResult, IsAgreeing, IsReplaying, IsReport, IsResult, IsSaidOf, IsShown, IsTold, IsVerification}
+use Rattle.vx_commands.specs.Command.{Agree, Asm, Command, Load, Output, Project, Replay, Run, Show, Tell, Verify}
 use Rattle.vx_cli.specs.Ends.{Ends}
-use Rattle.vx_cli.specs.Job.{names_of, program_in}
-use Rattle.vx_cli.specs.Load.{IsSummary, load_limit, load_model, load_program}
+use Rattle.vx_plans.specs.Job.{names_of, program_in}
+use Rattle.vx_plans.specs.Load.{IsSummary, load_limit, load_model, load_program}
 use Rattle.vx_cli.specs.PlanOf.{plan_of}
-use Rattle.vx_cli.specs.Project.{projected}
-use Rattle.vx_cli.specs.Replay.{allowed_at, run_text, traced_program}
-use Rattle.vx_cli.specs.Run.{class_paths}
-use Rattle.vx_cli.specs.Traced.{traced_of}
-use Rattle.vx_cli.specs.Verdicts.{IsVerdictText}
-use Rattle.vx_cli.specs.declared.status.Status.{Status}
-use Rattle.vx_cli.specs.declared.status.Status.TheVariants.{Done}
+use Rattle.vx_report.specs.declared.report.Report.{Report}
+use Rattle.vx_report_commands.specs.Output.{printed}
+use Rattle.vx_report_commands.specs.Project.{projected}
+use Rattle.vx_run_commands.specs.Replay.{allowed_at, run_text, traced_program}
+use Rattle.vx_inputs.specs.Folder.{class_paths}
+use Rattle.vx_inputs.specs.Traced.{traced_of}
+use Rattle.vx_plans.specs.Verdicts.{IsVerdictText}
+use Rattle.vx_plans.specs.declared.status.Status.{Status}
+use Rattle.vx_plans.specs.declared.status.Status.TheVariants.{Done}
 use Rattle.vx_cli.proofs.FolderShown.{same_given}
-use Rattle.vx_cli.proofs.Judging.{one_verdict_text}
+use Rattle.vx_run_commands.proofs.Judging.{one_verdict_text}
 use Rattle.vx_cli.proofs.OneListing.{one_listing}
 use Rattle.vx_cli.proofs.Shown.{call_shows}
-use Rattle.vx_cli.proofs.Told.{same_value}
+use Rattle.vx_plans.proofs.Told.{same_value}
 
 -- the same model, paths, classes and program, and so the same report
 one_report : (held : Held) (folder path main : List ℕ) (limit version : ℕ) (one other : List ℕ) → IsReport held folder path main limit version one → IsReport held folder path main limit version other → one ≡ other
@@ -70,10 +72,10 @@ one_replay held folder path main limit word one other h k =
     let texts : run_text limit h.configuration h.traced h.replayed.program ≡ run_text limit k.configuration k.traced k.replayed.program = λ i. run_text limit (configuration i) (traced i) (program i) in
     h.replayed.is_text ∙ texts ∙ sym k.replayed.is_text
 
-one_projection : (held : Held) (path word one other : List ℕ) → IsProjection held path word one → IsProjection held path word other → one ≡ other
-one_projection held path word one other h k =
+one_said : (said : Report → Result (List ℕ) Status) (held : Held) (path one other : List ℕ) → IsSaidOf said held path one → IsSaidOf said held path other → one ≡ other
+one_said said held path one other h k =
     let report : h.report ≡ k.report = report_same (contents held path) h.report k.report h.is_report.spells k.is_report.spells in
-    same_value one other (projected h.report word) h.is_text (subst (λ r. projected r word ≡ Ok other) (sym report) k.is_text)
+    same_value one other (said h.report) h.is_text (subst (λ r. said r ≡ Ok other) (sym report) k.is_text)
 
 one_telling : (held : Held) (telling : Telling) (path one other : List ℕ) → HasOneText telling → IsTold held telling path one → IsTold held telling path other → one ≡ other
 one_telling held telling path one other p h k =
@@ -97,7 +99,8 @@ one_summary seed options one other h k =
 
 one_result : (held : Held) (command : Command) (one other : List ℕ) → HasOneResult command → IsResult held command one → IsResult held command other → one ≡ other
 one_result held (Run folder path main limit version) one other p h k = one_report held folder path main limit version one other h k
-one_result held (Project path word) one other p h k = one_projection held path word one other h k
+one_result held (Project path word) one other p h k = one_said (λ r. projected r word) held path one other h k
+one_result held (Output path word stream) one other p h k = one_said (λ r. printed r stream word) held path one other h k
 one_result held (Tell telling path) one other p h k = one_telling held telling path one other p h k
 one_result held (Agree path against) one other p h k = one_agreeing held path against one other h k
 one_result held (Asm path) one other p h k = same_value one other _ h.is_text k.is_text

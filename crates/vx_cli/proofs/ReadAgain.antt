@@ -14,14 +14,14 @@ use Rattle.vx_report_reader.proofs.Verdicts.{no_front, report_same}
 use Rattle.vx_report_reader.specs.Reading.{IsCutOff}
 use Rattle.vx_cli.specs.Again.{Asked, IsReportFile, asked_text}
 use Rattle.vx_cli.specs.Causes.{IsGood, IsProjection, IsResult, IsShown}
-use Rattle.vx_cli.specs.Command.{Project}
+use Rattle.vx_commands.specs.Command.{Project}
 use Rattle.vx_configuration.specs.Configuration.{are_distinct, configuration_of, is_among, names_in}
 use Rattle.vx_cli.specs.Ends.{Ends}
-use Rattle.vx_cli.specs.Job.{names_of}
+use Rattle.vx_plans.specs.Job.{names_of}
 use Rattle.vx_cli.specs.PlanOf.{plan_of}
-use Rattle.vx_cli.specs.Project.{or_not_allowed, projected, text_at}
-use Rattle.vx_cli.specs.declared.status.Status.{Status}
-use Rattle.vx_cli.specs.declared.status.Status.TheVariants.{Done}
+use Rattle.vx_report_commands.specs.Project.{or_not_allowed, projected, text_at}
+use Rattle.vx_plans.specs.declared.status.Status.{Status}
+use Rattle.vx_plans.specs.declared.status.Status.TheVariants.{Done}
 use Rattle.vx_cli.proofs.OneResult.{done_only}
 use Rattle.vx_cli.proofs.Shown.{call_shows}
 

@@ -12,19 +12,19 @@ use Rattle.vx_link.specs.declared.fault.LinkFault.{LinkFault}
 use Rattle.vx_link.specs.declared.program.Program.{Program}
 use Rattle.vx_model.specs.Models.{is_allowed}
 use Rattle.vx_model.specs.declared.model.Model.{Model}
-use Rattle.vx_cli.specs.declared.status.Status.{Status}
-use Rattle.vx_cli.specs.declared.status.Status.TheVariants.{Done, NoMemory, WriteFault, BadLink, NotAllowed}
-use Rattle.vx_cli.specs.declared.taken.Traced.{Traced}
+use Rattle.vx_plans.specs.declared.status.Status.{Status}
+use Rattle.vx_plans.specs.declared.status.Status.TheVariants.{Done, NoMemory, WriteFault, BadLink, NotAllowed}
+use Rattle.vx_inputs.specs.declared.taken.Traced.{Traced}
 use Rattle.vx_cli.specs.Causes.{AreAll, AreAllGiven, IsModelOf, Shows, IsShown, IsGood, NothingFails, ReplayCause, VerifyCause}
-use Rattle.vx_cli.specs.Command.{Replay}
-use Rattle.vx_cli.specs.Job.{Exactly, names_of, slashed}
-use Rattle.vx_cli.specs.Plan.{MayGive, Write, attempt}
-use Rattle.vx_cli.specs.Replay.{allowed_at, if_allowed, replay_classes, replay_plan, run_text, traced_program}
-use Rattle.vx_cli.specs.Run.{read_folder}
-use Rattle.vx_cli.specs.Traced.{traced_of, with_lines}
+use Rattle.vx_commands.specs.Command.{Replay}
+use Rattle.vx_plans.specs.Job.{Exactly, names_of, slashed}
+use Rattle.vx_plans.specs.Plan.{MayGive, Write, attempt, Outcome}
+use Rattle.vx_run_commands.specs.Replay.{allowed_at, if_allowed, replay_classes, replay_plan, run_text, traced_program}
+use Rattle.vx_inputs.specs.Folder.{read_folder}
+use Rattle.vx_inputs.specs.Traced.{traced_of, with_lines}
 use Rattle.vx_cli.proofs.FolderShown.{FolderShows, GivesClasses, all_classes, folder_shows}
 use Rattle.vx_cli.proofs.RunShown.{refused_program}
-use Rattle.vx_cli.proofs.Told.{told_map, told_both, attempt_cases, ok_and_err, same_value}
+use Rattle.vx_plans.proofs.Told.{told_map, told_both, attempt_cases, ok_and_err, same_value}
 use Rattle.vx_cli.proofs.VerifyShown.{ModelShows, input_cause, model_shows, no_cause}
 
 -- ---- the class files
@@ -61,7 +61,7 @@ replay_cause old new folder model main word NotAllowed cause = absurd cause
 replay_cause old new folder model main word status cause = cause
 
 -- whatever the plan of `replay` gave is shown by the files
-pub replay_shows : (old new : FilesState) (folder path main : List ℕ) (limit : ℕ) (word : List ℕ) (outcome : Result (List ℕ) Status) → MayGive old.held old.faults new.faults (replay_plan folder path main limit word) outcome → Shows old new (Replay folder path main limit word) outcome
+pub replay_shows : (old new : FilesState) (folder path main : List ℕ) (limit : ℕ) (word : List ℕ) (outcome : Outcome) → MayGive old.held old.faults new.faults (replay_plan folder path main limit word) outcome → Shows old new (Replay folder path main limit word) outcome
 replay_shows old new folder path main limit word outcome g =
     by_model (model_shows old new folder path (λ model. attempt (allowed_at model word) (λ c. read_folder traced_of folder (replay_classes main limit model c))) outcome g)
   where
@@ -88,16 +88,19 @@ replay_shows old new folder path main limit word outcome g =
     by_program model c paths traced modeled allowed all (inl bad) = by_refusal model paths traced modeled all bad.0 bad.2 (refused_program main model (map (λ (t : Traced). t.class) traced) bad.0 bad.1)
     by_program model c paths traced modeled allowed all (inr good) =
         let written = good.2 in
-        rw written.2 (told_both old.held _ _ _ (λ held m h. record {
-          model = model;
-          modeled = m;
-          configuration = c;
-          allowed = allowed;
-          paths = paths;
-          traced = traced;
-          all = h;
-          replayed = record { program = good.0; is_program = good.1; is_text = written.1 };
-        }) modeled all)
+        rw written.2 (
+          refl,
+          told_both old.held _ _ _ (λ held m h. record {
+            model = model;
+            modeled = m;
+            configuration = c;
+            allowed = allowed;
+            paths = paths;
+            traced = traced;
+            all = h;
+            replayed = record { program = good.0; is_program = good.1; is_text = written.1 };
+          }) modeled all,
+        )
 
     by_folder : (model : Model) (c : List Bool) → IfSome old.held (λ held. IsModelOf held path model) → allowed_at model word ≡ Ok c → FolderShows traced_of (λ t. t.class) old new folder path (replay_classes main limit model c) outcome → Shows old new (Replay folder path main limit word) outcome
     by_folder model c modeled allowed (inl stop) = refused stop.0 stop.1 (replay_cause old new folder path main word stop.0 (input_cause old new folder path main stop.0 stop.2))

@@ -1,25 +1,24 @@
 -- What plans that read a report gave, in terms of the files.
-use Rattle.std.proofs.Common.{◌≡◌, ◌≤◌, ◌<◌, ℕ, List, length, IfSome, Result, Err, inl, inr, ◌⊎◌, subst}
+use Rattle.std.proofs.Common.{◌≡◌, ◌≤◌, ◌<◌, ℕ, List, length, IfSome, Err, inl, inr, ◌⊎◌, subst}
 use Rattle.vx_io.specs.Call.{Reading}
 use Rattle.vx_io.specs.Held.{Held, FilesState, contents}
 use Rattle.vx_report.specs.declared.report.Report.{Report}
 use Rattle.vx_report_reader.specs.Rules.{ReportText}
-use Rattle.vx_cli.specs.declared.status.Status.{Status}
-use Rattle.vx_cli.specs.declared.status.Status.TheVariants.{ReadFault, BadReport, TooLarge}
+use Rattle.vx_plans.specs.declared.status.Status.TheVariants.{ReadFault, BadReport, TooLarge}
 use Rattle.vx_cli.specs.Causes.{IsBadAt, IsReportIn}
-use Rattle.vx_cli.specs.Plan.{Plan, MayGive, As_report, IsBadReport}
-use Rattle.vx_cli.specs.Reports.{most_report_bytes, read_report}
-use Rattle.vx_cli.proofs.Told.{told_map, IsText, SizedShows, sized_shows}
+use Rattle.vx_plans.specs.Plan.{Plan, MayGive, As_report, IsBadReport, Outcome}
+use Rattle.vx_inputs.specs.Reports.{most_report_bytes, read_report}
+use Rattle.vx_plans.proofs.Told.{told_map, IsText, SizedShows, sized_shows}
 
 -- a read fault, a size, a bad line, or a report with what was made of it
-abbrev pub ReportShows : FilesState → FilesState → List ℕ → (Report → Plan) → Result (List ℕ) Status → Type 0
+abbrev pub ReportShows : FilesState → FilesState → List ℕ → (Report → Plan) → Outcome → Type 0
 ReportShows old new path next outcome =
     ((old.faults (Reading path) < new.faults (Reading path)) × (outcome ≡ Err (ReadFault path)))
     ⊎ (IfSome old.held (λ held. most_report_bytes < length (contents held path)) × (outcome ≡ Err (TooLarge path most_report_bytes)))
     ⊎ ((line : ℕ) × IfSome old.held (λ held. IsBadAt held path line) × (outcome ≡ Err (BadReport line)))
     ⊎ ((report : Report) × IfSome old.held (λ held. IsReportIn held path report) × MayGive old.held old.faults new.faults (next report) outcome)
 
-pub report_shows : (old new : FilesState) (path : List ℕ) (next : Report → Plan) (outcome : Result (List ℕ) Status) → MayGive old.held old.faults new.faults (read_report path next) outcome → ReportShows old new path next outcome
+pub report_shows : (old new : FilesState) (path : List ℕ) (next : Report → Plan) (outcome : Outcome) → MayGive old.held old.faults new.faults (read_report path next) outcome → ReportShows old new path next outcome
 report_shows old new path next outcome g = by_file (sized_shows old new most_report_bytes path path (λ bytes. As_report bytes next) outcome g)
   where
     is_report : (bytes : List ℕ) (report : Report) (held : Held) → ReportText bytes report → (length (contents held path) ≤ most_report_bytes) × (bytes ≡ contents held path) → IsReportIn held path report

@@ -1,5 +1,5 @@
 -- What the plan of `run` gave shows in terms of the files.
-use Rattle.std.proofs.Common.{◌≡◌, ◌≤◌, ◌<◌, ℕ, true, false, List, ◌∷◌, ◌++◌, length, IfSome, None, Some, Result, Ok, Err, inl, inr, ◌⊎◌, refl, ap, sym, ◌∙◌, arith}
+use Rattle.std.proofs.Common.{◌≡◌, ◌≤◌, ◌<◌, ℕ, true, false, List, ◌∷◌, ◌++◌, length, IfSome, Some, Result, Ok, Err, inl, inr, ◌⊎◌, refl, ap, sym, ◌∙◌, arith}
 use Rattle.vx_io.specs.Call.{Reading}
 use Rattle.vx_io.specs.Held.{Held, FilesState, contents}
 use Rattle.vx_io.specs.Sink.{SinkState}
@@ -11,16 +11,18 @@ use Rattle.vx_model.specs.Text.{BadLine}
 use Rattle.vx_link.specs.Linked.{linked_program}
 use Rattle.vx_link.specs.declared.fault.LinkFault.{LinkFault}
 use Rattle.vx_link.specs.declared.program.Program.{Program}
-use Rattle.vx_cli.specs.declared.status.Status.{Status}
-use Rattle.vx_cli.specs.declared.status.Status.TheVariants.{Done, NoMemory, ReadFault, WriteFault, BadModel, NoConfiguration, BadClass, BadLink, TooLarge}
+use Rattle.vx_plans.specs.declared.status.Status.{Status}
+use Rattle.vx_plans.specs.declared.status.Status.TheVariants.{Done, NoMemory, ReadFault, WriteFault, BadModel, NoConfiguration, BadClass, BadLink, TooLarge}
 use Rattle.vx_cli.specs.Causes.{HasClasses, IsReached, IsModelOf, IsGoodModel, IsNotLinked, AreAll, class_bytes, InputCause, RunCause, Shows, IsShown, IsGood, NothingFails}
-use Rattle.vx_cli.specs.Command.{Run}
-use Rattle.vx_cli.specs.Job.{model_of, or_bad_link, or_bad_model, program_in, slashed, spelled_model, Report}
-use Rattle.vx_cli.specs.Plan.{Plan, MayGive, Write, If_allowed, AllowsSome, AllowsNone, attempt}
-use Rattle.vx_cli.specs.Run.{read_model, read_folder, run_classes, run_plan, most_classes}
-use Rattle.vx_cli.specs.Sized.{most_bytes}
+use Rattle.vx_commands.specs.Command.{Run}
+use Rattle.vx_plans.specs.Job.{model_of, or_bad_link, or_bad_model, program_in, slashed, spelled_model, Report}
+use Rattle.vx_plans.specs.Plan.{Plan, MayGive, Write, If_allowed, AllowsSome, AllowsNone, attempt, Outcome}
+use Rattle.vx_inputs.specs.ModelFile.{read_model}
+use Rattle.vx_inputs.specs.Folder.{read_folder, most_classes}
+use Rattle.vx_run_commands.specs.Run.{run_classes, run_plan}
+use Rattle.vx_plans.specs.Sized.{most_bytes}
 use Rattle.vx_cli.proofs.FolderShown.{FolderShows, class_at, classes_alone, folder_shows, same_given}
-use Rattle.vx_cli.proofs.Told.{told_map, told_both, IsText, SizedShows, sized_shows, attempt_cases, ok_and_err, same_value}
+use Rattle.vx_plans.proofs.Told.{told_map, told_both, IsText, SizedShows, sized_shows, attempt_cases, ok_and_err, same_value}
 
 -- ---- the model
 
@@ -32,12 +34,12 @@ bad_model_refused (Ok model) status e = cc
 pub model_refused : (path bytes : List ℕ) (status : Status) → model_of path bytes ≡ Err status → (line : ℕ) × (reason : ℕ) × (status ≡ BadModel line reason)
 model_refused path bytes status e = bad_model_refused (spelled_model path bytes) status e
 
-abbrev ModelShows : FilesState → FilesState → List ℕ → List ℕ → List ℕ → (Model → Plan) → Result (List ℕ) Status → Type 0
+abbrev ModelShows : FilesState → FilesState → List ℕ → List ℕ → List ℕ → (Model → Plan) → Outcome → Type 0
 ModelShows old new folder path main next outcome =
     ((status : Status) × (outcome ≡ Err status) × RunCause old new folder path main status)
     ⊎ ((model : Model) × IfSome old.held (λ held. IsGoodModel held path model) × MayGive old.held old.faults new.faults (next model) outcome)
 
-model_shows : (old new : FilesState) (folder path main : List ℕ) (next : Model → Plan) (outcome : Result (List ℕ) Status)
+model_shows : (old new : FilesState) (folder path main : List ℕ) (next : Model → Plan) (outcome : Outcome)
     → MayGive old.held old.faults new.faults (read_model path next) outcome → ModelShows old new folder path main next outcome
 model_shows old new folder path main next outcome g = by_file (sized_shows old new most_bytes path path _ outcome g)
   where
@@ -91,7 +93,7 @@ unfolding program_in
 faulty_program main model classes fault e = ap or_bad_link e
 
 -- whatever the plan of `run` gave is shown by the files
-pub run_shows : (old new : FilesState) (folder path main : List ℕ) (limit version : ℕ) (outcome : Result (List ℕ) Status) → MayGive old.held old.faults new.faults (run_plan folder path main limit version) outcome → Shows old new (Run folder path main limit version) outcome
+pub run_shows : (old new : FilesState) (folder path main : List ℕ) (limit version : ℕ) (outcome : Outcome) → MayGive old.held old.faults new.faults (run_plan folder path main limit version) outcome → Shows old new (Run folder path main limit version) outcome
 run_shows old new folder path main limit version outcome g = by_model (model_shows old new folder path main _ outcome g)
   where
     refused : (status : Status) → outcome ≡ Err status → RunCause old new folder path main status → Shows old new (Run folder path main limit version) outcome
@@ -109,14 +111,17 @@ run_shows old new folder path main limit version outcome g = by_model (model_sho
     by_program model paths classes modeled all (inl bad) = by_refusal model paths classes modeled all bad.0 bad.2 (refused_program main model classes bad.0 bad.1)
     by_program model paths classes modeled all (inr good) =
         let written = good.2 in
-        rw written.2 (told_both old.held _ _ _ (λ held m h. record {
-          model = model;
-          modeled = m;
-          paths = paths;
-          classes = classes;
-          all = h;
-          reported = record { program = good.0; is_program = good.1; is_report = written.1 };
-        }) modeled all)
+        rw written.2 (
+          refl,
+          told_both old.held _ _ _ (λ held m h. record {
+            model = model;
+            modeled = m;
+            paths = paths;
+            classes = classes;
+            all = h;
+            reported = record { program = good.0; is_program = good.1; is_report = written.1 };
+          }) modeled all,
+        )
 
     by_folder : (model : Model) → IfSome old.held (λ held. IsGoodModel held path model) → FolderShows class_of (λ class. class) old new folder path (run_classes main limit version model) outcome → Shows old new (Run folder path main limit version) outcome
     by_folder model modeled (inl stop) = refused stop.0 stop.1 (run_cause old new folder path main stop.0 stop.2)

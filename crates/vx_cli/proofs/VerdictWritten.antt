@@ -1,5 +1,5 @@
 -- What `verify` wrote, and what it says of runs.
-use Rattle.std.proofs.Common.{◌≡◌, ℕ, List, IfSome, Result, Ok, Err, Some, inl, inr, ◌⊎◌, ap, sym, subst, ◌∙◌, arith, slice_get, unwrap_or}
+use Rattle.std.proofs.Common.{◌≡◌, ℕ, List, IfSome, Ok, Err, Some, inl, inr, ◌⊎◌, ap, sym, subst, ◌∙◌, arith, slice_get, unwrap_or}
 use Rattle.std.specs.Prelude.{All}
 use Rattle.vx_class.specs.File.{Holds}
 use Rattle.vx_class.specs.declared.class_file.ClassFile.{ClassFile}
@@ -13,13 +13,13 @@ use Rattle.vx_verify.specs.declared.verdict.Verdict.{Verdict}
 use Rattle.vx_verify.specs.declared.verdict.Verdict.TheVariants.{No, Yes}
 use Rattle.vx_cli.specs.Causes.{AreAll, IsModelOf, IsVerdictWritten, VerifyCause}
 use Rattle.vx_cli.specs.Ends.{Ends, IsDelivered}
-use Rattle.vx_cli.specs.Job.{slashed}
-use Rattle.vx_cli.specs.Plan.{MayGive}
-use Rattle.vx_cli.specs.Verdicts.{IsSoundText, VERIFIED, verdict_text}
-use Rattle.vx_cli.specs.Verify.{IsVerdictOf, verify_plan}
-use Rattle.vx_cli.specs.declared.status.Status.{Status}
-use Rattle.vx_cli.specs.declared.status.Status.TheVariants.{Done, NoMemory, WriteFault}
-use Rattle.vx_cli.proofs.Ran.{linked_is}
+use Rattle.vx_plans.specs.Job.{slashed}
+use Rattle.vx_plans.specs.Plan.{MayGive, Outcome}
+use Rattle.vx_plans.specs.Verdicts.{IsSoundText, VERIFIED, verdict_text}
+use Rattle.vx_run_commands.specs.Verify.{IsVerdictOf, verify_plan}
+use Rattle.vx_plans.specs.declared.status.Status.{Status}
+use Rattle.vx_plans.specs.declared.status.Status.TheVariants.{Done, NoMemory, WriteFault}
+use Rattle.vx_run_commands.proofs.Ran.{linked_is}
 use Rattle.vx_cli.proofs.VerifyShown.{IsJudged, verify_gave}
 
 -- the first bytes of the two lines
@@ -60,10 +60,10 @@ done_verdict old new out out' folder path main status ends held told done = by_o
       sound = verdict_is_sound main gave.model gave.classes text gave.judged gave.read;
     }
 
-    by_outcome : (outcome : Result (List ℕ) Status) → (outcome ≡ Err NoMemory) ⊎ MayGive old.held old.faults new.faults (verify_plan folder path main) outcome → IsDelivered out out' outcome status → IsVerdictWritten held folder path main out out'
-    by_outcome (Ok text) (inl n) d = cc
-    by_outcome (Ok text) (inr g) (inl d) = by_text text (verify_gave old new folder path main (Ok text) g) d.1
-    by_outcome (Ok text) (inr g) (inr (inl d)) = let clash : Done ≡ WriteFault = sym done ∙ d.0 in cc
-    by_outcome (Ok text) (inr g) (inr (inr d)) = let clash : Done ≡ NoMemory = sym done ∙ d.0 in cc
+    by_outcome : (outcome : Outcome) → (outcome ≡ Err NoMemory) ⊎ MayGive old.held old.faults new.faults (verify_plan folder path main) outcome → IsDelivered out out' outcome status → IsVerdictWritten held folder path main out out'
+    by_outcome (Ok said) (inl n) d = cc
+    by_outcome (Ok said) (inr g) (inl d) = by_text said.0 (verify_gave old new folder path main (Ok said) g).1 d.1
+    by_outcome (Ok said) (inr g) (inr (inl d)) = let clash : Done ≡ WriteFault = sym done ∙ d.0 in cc
+    by_outcome (Ok said) (inr g) (inr (inr d)) = let clash : Done ≡ NoMemory = sym done ∙ d.0 in cc
     by_outcome (Err e) (inl n) d = let memory : e ≡ NoMemory = cc in let clash : Done ≡ NoMemory = sym done ∙ d.0 ∙ memory in cc
     by_outcome (Err e) (inr g) d = absurd (subst (λ s. VerifyCause old new folder path main s) (sym d.0 ∙ done) (verify_gave old new folder path main (Err e) g))

@@ -1,5 +1,5 @@
 -- What the plan of `verify` gave shows in terms of the files.
-use Rattle.std.proofs.Common.{◌≡◌, ◌≤◌, ◌<◌, ℕ, List, ◌∷◌, ◌++◌, length, IfSome, Some, Result, Ok, Err, inl, inr, ◌⊎◌, refl, ap, sym, ◌∙◌, arith}
+use Rattle.std.proofs.Common.{◌≡◌, ◌≤◌, ◌<◌, ℕ, List, ◌∷◌, ◌++◌, length, IfSome, Some, Ok, Err, inl, inr, ◌⊎◌, refl, ap, sym, ◌∙◌, arith}
 use Rattle.std.specs.Prelude.{All}
 use Rattle.vx_io.specs.Call.{Reading}
 use Rattle.vx_io.specs.Held.{Held, FilesState, contents}
@@ -11,27 +11,28 @@ use Rattle.vx_model.specs.declared.model.Model.{Model}
 use Rattle.vx_link.specs.Linked.{linked_program}
 use Rattle.vx_link.specs.declared.fault.LinkFault.{LinkFault}
 use Rattle.vx_link.specs.declared.program.Program.{Program}
-use Rattle.vx_cli.specs.declared.status.Status.{Status}
-use Rattle.vx_cli.specs.declared.status.Status.TheVariants.{Done, NoMemory, ReadFault, WriteFault, BadModel, BadClass, BadLink, TooLarge}
+use Rattle.vx_plans.specs.declared.status.Status.{Status}
+use Rattle.vx_plans.specs.declared.status.Status.TheVariants.{Done, NoMemory, ReadFault, WriteFault, BadModel, BadClass, BadLink, TooLarge}
 use Rattle.vx_cli.specs.Causes.{HasClasses, InputCause, IsReached, IsModelOf, IsUnlinked, AreAll, class_bytes, Shows, IsShown, IsGood, NothingFails, VerifyCause}
-use Rattle.vx_cli.specs.Command.{Verify}
-use Rattle.vx_cli.specs.Job.{Judged, model_of, program_in, slashed}
-use Rattle.vx_cli.specs.Plan.{Plan, MayGive, Write, attempt}
-use Rattle.vx_cli.specs.Run.{most_classes, read_folder}
-use Rattle.vx_cli.specs.Sized.{most_bytes}
-use Rattle.vx_cli.specs.Verify.{IsVerdictOf, judge_classes, read_any_model, verify_plan}
+use Rattle.vx_commands.specs.Command.{Verify}
+use Rattle.vx_plans.specs.Job.{Judged, model_of, program_in, slashed}
+use Rattle.vx_plans.specs.Plan.{Plan, MayGive, Write, attempt, Outcome}
+use Rattle.vx_inputs.specs.Folder.{most_classes, read_folder}
+use Rattle.vx_plans.specs.Sized.{most_bytes}
+use Rattle.vx_run_commands.specs.Verify.{IsVerdictOf, judge_classes, verify_plan}
+use Rattle.vx_inputs.specs.ModelFile.{read_any_model}
 use Rattle.vx_cli.proofs.FolderShown.{FolderShows, class_at, classes_alone, folder_shows, same_given}
 use Rattle.vx_cli.proofs.RunShown.{faulty_program, model_refused, refused_program}
-use Rattle.vx_cli.proofs.Told.{told_map, told_both, IsText, SizedShows, sized_shows, attempt_cases, ok_and_err, same_value}
+use Rattle.vx_plans.proofs.Told.{told_map, told_both, IsText, SizedShows, sized_shows, attempt_cases, ok_and_err, same_value}
 
 -- ---- the model
 
-abbrev pub ModelShows : FilesState → FilesState → List ℕ → List ℕ → (Model → Plan) → Result (List ℕ) Status → Type 0
+abbrev pub ModelShows : FilesState → FilesState → List ℕ → List ℕ → (Model → Plan) → Outcome → Type 0
 ModelShows old new folder path next outcome =
     ((status : Status) × (outcome ≡ Err status) × InputCause old new folder path status)
     ⊎ ((model : Model) × IfSome old.held (λ held. IsModelOf held path model) × MayGive old.held old.faults new.faults (next model) outcome)
 
-pub model_shows : (old new : FilesState) (folder path : List ℕ) (next : Model → Plan) (outcome : Result (List ℕ) Status)
+pub model_shows : (old new : FilesState) (folder path : List ℕ) (next : Model → Plan) (outcome : Outcome)
     → MayGive old.held old.faults new.faults (read_any_model path next) outcome → ModelShows old new folder path next outcome
 model_shows old new folder path next outcome g = by_file (sized_shows old new most_bytes path path _ outcome g)
   where
@@ -69,11 +70,11 @@ pub record IsJudged (old : FilesState) (folder path main text : List ℕ) : Type
   pub judged : IsVerdictOf main model classes text
 
 -- what the plan of `verify` gave: the text of a verdict, or a refusal with its cause
-abbrev pub VerifyGave : FilesState → FilesState → (folder path main : List ℕ) → Result (List ℕ) Status → Type 0
-VerifyGave old new folder path main (Ok text) = IsJudged old folder path main text
+abbrev pub VerifyGave : FilesState → FilesState → (folder path main : List ℕ) → Outcome → Type 0
+VerifyGave old new folder path main (Ok said) = (said.1 ≡ Done) × IsJudged old folder path main said.0
 VerifyGave old new folder path main (Err status) = VerifyCause old new folder path main status
 
-pub verify_gave : (old new : FilesState) (folder path main : List ℕ) (outcome : Result (List ℕ) Status) → MayGive old.held old.faults new.faults (verify_plan folder path main) outcome → VerifyGave old new folder path main outcome
+pub verify_gave : (old new : FilesState) (folder path main : List ℕ) (outcome : Outcome) → MayGive old.held old.faults new.faults (verify_plan folder path main) outcome → VerifyGave old new folder path main outcome
 verify_gave old new folder path main outcome g = by_model (model_shows old new folder path _ outcome g)
   where
     refused : (status : Status) → outcome ≡ Err status → VerifyCause old new folder path main status → VerifyGave old new folder path main outcome
@@ -91,15 +92,18 @@ verify_gave old new folder path main outcome g = by_model (model_shows old new f
     by_program model paths classes modeled all read (inl bad) = by_refusal model paths classes modeled all bad.0 bad.2 (refused_program main model classes bad.0 bad.1)
     by_program model paths classes modeled all read (inr good) =
         let written = good.2 in
-        rw written.2 (record {
-          model = model;
-          modeled = modeled;
-          paths = paths;
-          classes = classes;
-          all = all;
-          read = read;
-          judged = record { program = good.0; is_program = good.1; is_text = written.1 };
-        })
+        rw written.2 (
+          refl,
+          record {
+            model = model;
+            modeled = modeled;
+            paths = paths;
+            classes = classes;
+            all = all;
+            read = read;
+            judged = record { program = good.0; is_program = good.1; is_text = written.1 };
+          },
+        )
 
     by_folder : (model : Model) → IfSome old.held (λ held. IsModelOf held path model) → FolderShows class_of (λ class. class) old new folder path (judge_classes main model) outcome → VerifyGave old new folder path main outcome
     by_folder model modeled (inl stop) = refused stop.0 stop.1 (input_cause old new folder path main stop.0 stop.2)
@@ -110,10 +114,11 @@ verify_gave old new folder path main outcome g = by_model (model_shows old new f
     by_model (inr modeled) = by_folder modeled.0 modeled.1 (folder_shows class_of (λ class. class) classes_alone old new folder path (judge_classes main modeled.0) outcome modeled.2)
 
 -- whatever the plan of `verify` gave is shown by the files
-pub verify_shows : (old new : FilesState) (folder path main : List ℕ) (outcome : Result (List ℕ) Status) → MayGive old.held old.faults new.faults (verify_plan folder path main) outcome → Shows old new (Verify folder path main) outcome
-verify_shows old new folder path main (Ok text) g =
-    let gave : IsJudged old folder path main text = verify_gave old new folder path main (Ok text) g in
-    told_both old.held _ _ _ (λ held m h. record { model = gave.model; modeled = m; paths = gave.paths; classes = gave.classes; all = h; judged = gave.judged }) gave.modeled gave.all
+pub verify_shows : (old new : FilesState) (folder path main : List ℕ) (outcome : Outcome) → MayGive old.held old.faults new.faults (verify_plan folder path main) outcome → Shows old new (Verify folder path main) outcome
+verify_shows old new folder path main (Ok said) g =
+    let all = verify_gave old new folder path main (Ok said) g in
+    let gave : IsJudged old folder path main said.0 = all.1 in
+    (all.0, told_both old.held _ _ _ (λ held m h. record { model = gave.model; modeled = m; paths = gave.paths; classes = gave.classes; all = h; judged = gave.judged }) gave.modeled gave.all)
 verify_shows old new folder path main (Err status) g = verify_gave old new folder path main (Err status) g
 
 -- nothing refuses good files, where nothing fails

@@ -9,8 +9,8 @@ use Rattle.vx_model.specs.declared.model.Model.{Model}
 use Rattle.vx_report.specs.Projection.{projection_text}
 use Rattle.vx_reporting.specs.Reported.{IsReported}
 use Rattle.vx_configuration.specs.Configuration.{configuration_of}
-use Rattle.vx_cli.specs.Job.{names_of}
-use Rattle.vx_cli.specs.Reports.{most_report_bytes}
+use Rattle.vx_plans.specs.Job.{names_of}
+use Rattle.vx_inputs.specs.Reports.{most_report_bytes}
 
 -- a report of `run`, by its version, its model, its limit and its program, and a configuration that it is asked for
 pub record Asked : Type 0 where

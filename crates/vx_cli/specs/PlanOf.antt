@@ -1,19 +1,21 @@
 -- The plan of each command.
-use Rattle.vx_cli.specs.Command.{Command, Run, Project, Tell, Agree, Asm, Load, Verify, Replay, Show}
-use Rattle.vx_cli.specs.Agree.{agree_plan}
-use Rattle.vx_cli.specs.Assemble.{asm_plan}
-use Rattle.vx_cli.specs.Job.{Exactly, Summary}
-use Rattle.vx_cli.specs.Pages.{page_text}
-use Rattle.vx_cli.specs.Plan.{Plan, Write}
-use Rattle.vx_cli.specs.Project.{project_plan}
-use Rattle.vx_cli.specs.Replay.{replay_plan}
-use Rattle.vx_cli.specs.Run.{run_plan}
-use Rattle.vx_cli.specs.Tell.{tell_plan}
-use Rattle.vx_cli.specs.Verify.{verify_plan}
+use Rattle.vx_commands.specs.Command.{Command, Run, Project, Output, Tell, Agree, Asm, Load, Verify, Replay, Show}
+use Rattle.vx_report_commands.specs.Agree.{agree_plan}
+use Rattle.vx_report_commands.specs.Assemble.{asm_plan}
+use Rattle.vx_plans.specs.Job.{Exactly, Summary}
+use Rattle.vx_commands.specs.Pages.{page_text}
+use Rattle.vx_plans.specs.Plan.{Plan, Write}
+use Rattle.vx_report_commands.specs.Output.{output_plan}
+use Rattle.vx_report_commands.specs.Project.{project_plan}
+use Rattle.vx_run_commands.specs.Replay.{replay_plan}
+use Rattle.vx_run_commands.specs.Run.{run_plan}
+use Rattle.vx_report_commands.specs.Tell.{tell_plan}
+use Rattle.vx_run_commands.specs.Verify.{verify_plan}
 
 abbrev pub plan_of : Command → Plan
 plan_of (Run folder model main limit version) = run_plan folder model main limit version
 plan_of (Project report configuration) = project_plan report configuration
+plan_of (Output report configuration stream) = output_plan report configuration stream
 plan_of (Tell telling report) = tell_plan telling report
 plan_of (Agree report other) = agree_plan report other
 plan_of (Asm source) = asm_plan source

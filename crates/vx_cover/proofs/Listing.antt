@@ -1,7 +1,8 @@
 -- The ends and pieces of a report as targets, one more at a time.
-use Rattle.std.proofs.Common.{◌≡◌, ℕ, ◌+◌, ◌<◌, ◌≤◌, suc, Bool, true, false, List, [], length, map, take, get_or, refl, sym, ◌∙◌, ap, subst, arith}
-use Rattle.std.specs.Prelude.{◌&&◌, ◌||◌, not}
+use Rattle.std.proofs.Common.{◌≡◌, ◌⊎◌, inl, inr, ℕ, ◌+◌, ◌<◌, ◌≤◌, zero, suc, Bool, true, false, List, [], ◌∷◌, ◌++◌, length, map, take, get_or, refl, sym, ◌∙◌, ap, subst, arith}
+use Rattle.std.specs.Prelude.{◌&&◌, ◌||◌, not, Some, slice_get}
 use Rattle.std.proofs.lemmas.List.{length-map, take_all}
+use Rattle.std.proofs.lemmas.Option.{slice_get-get_or}
 use Rattle.vx_list.specs.Places.{item_or}
 use Rattle.vx_space.specs.Sets.{Sets, IsLawful, IsSet, Extends}
 use Rattle.vx_space.proofs.Spaces.{Extends-refl, Extends-trans, IsSet-extends}
@@ -12,6 +13,7 @@ use Rattle.vx_report.specs.declared.report.Piece.{Piece}
 use Rattle.vx_report.specs.declared.report.Report.{Report}
 use Rattle.vx_cover.specs.declared.target.Target.{Target}
 use Rattle.vx_cover.specs.Covers.{end_nodes, has_end, has_this_end, has_this_piece, piece_nodes, some_hold}
+use Rattle.vx_cover.specs.Scopes.{AreFirstEnds}
 use Rattle.vx_cover.specs.Targets.{AreFirst, IsPushed}
 use Rattle.vx_cover.proofs.Ends.{number_at, some_hold-more}
 use Rattle.vx_cover.proofs.Firsts.{AreFirst-extends, AreFirst-none, AreFirst-step}
@@ -52,29 +54,43 @@ not_either : (a b : Bool) → (not a && not b) ≡ not (a || b)
 not_either true b = refl
 not_either false b = refl
 
--- the first ends as targets, and the configurations that have none of them
-pub record IsListingEnds {I : Type 0} (s0 s : Sets I) (r : Report) (i : ℕ) (rest : I) (ts : List (Target I)) : Type 0 where
+-- an item of a list with one more
+get_pushed : {A : Type 0} (xs : List A) (x y : A) (place : ℕ) → slice_get (xs ++ x ∷ []) place ≡ Some y → (slice_get xs place ≡ Some y) ⊎ ((place ≡ length xs) × (x ≡ y))
+get_pushed [] x y zero e = inr (refl, cc)
+get_pushed [] x y (suc place) e = cc
+get_pushed (z ∷ xs) x y zero e = inl e
+get_pushed (z ∷ xs) x y (suc place) e = elim (get_pushed xs x y place e) [
+  | inl h ↦ inl h
+  | inr h ↦ let at = h.0 in inr (omega (arith, at), h.1)
+]
+
+length_pushed : {A : Type 0} (xs : List A) (x : A) → length (xs ++ x ∷ []) ≡ length xs + 1
+length_pushed [] x = refl
+length_pushed (y ∷ xs) x = omega (arith, length_pushed xs x)
+
+-- the sets of the first ends, and the configurations that have none of them
+pub record IsListingEnds {I : Type 0} (s0 s : Sets I) (r : Report) (i : ℕ) (rest : I) (ids : List I) : Type 0 where
   pub extends : Extends s0 s
   pub rest_is : IsSet s rest (λ c. not (some_hold r.nodes (take i (end_nodes r)) c))
-  pub targets : AreFirst s (has_this_end r) i ts
+  pub number : length ids ≡ i
+  pub each : (place : ℕ) (id : I) → slice_get ids place ≡ Some id → IsSet s id (has_this_end r (suc place))
 
-pub IsListingEnds-start : {I : Type 0} {s : Sets I} → IsLawful s → (r : Report) (ts : List (Target I)) → ts ≡ [] → IsListingEnds s s r 0 s.always ts
-IsListingEnds-start {I} {s} lawful r ts e = record {
+pub IsListingEnds-start : {I : Type 0} {s : Sets I} → IsLawful s → (r : Report) → IsListingEnds s s r 0 s.always []
+IsListingEnds-start {I} {s} lawful r = record {
   extends = Extends-refl s;
   rest_is = record { known = lawful.always_known; test = lawful.always_test };
-  targets = subst (λ xs. AreFirst s (has_this_end r) 0 xs) (sym e) (AreFirst-none s (has_this_end r) (λ c. refl));
+  number = refl;
+  each = λ place id e. cc;
 }
 
-pub IsListingEnds-step : {I : Type 0} {s0 s s1 s2 : Sets I} → IsLawful s1 → (r : Report) (lines : List EndLine) (i m : ℕ) (line : EndLine) (rest set part rest' : I) (ts ts' : List (Target I)) → m ≡ suc i → lines ≡ r.ends → i < length lines → line ≡ get_or lines i line → IsListingEnds s0 s r i rest ts → Extends s s1 → Extends s1 s2 → IsSet s set (holds r.nodes line.node) → IsSet s1 part (λ c. s.test rest c && s.test set c) → IsPushed s1 m part ts ts' → IsSet s2 rest' (λ c. s1.test rest c && not (s1.test set c)) → IsListingEnds s0 s2 r (i + 1) rest' ts'
-IsListingEnds-step {I} {s0} {s} {s1} {s2} lawful r lines i m line rest set part rest' ts ts' next same l here h x y hs hp pushed o =
+pub IsListingEnds-step : {I : Type 0} {s0 s s1 s2 : Sets I} (r : Report) (lines : List EndLine) (i : ℕ) (line : EndLine) (rest set part rest' : I) (ids ids' : List I) → lines ≡ r.ends → i < length lines → line ≡ get_or lines i line → IsListingEnds s0 s r i rest ids → Extends s s1 → Extends s1 s2 → IsSet s set (holds r.nodes line.node) → IsSet s1 part (λ c. s.test rest c && s.test set c) → ids' ≡ ids ++ part ∷ [] → IsSet s2 rest' (λ c. s1.test rest c && not (s1.test set c)) → IsListingEnds s0 s2 r (i + 1) rest' ids'
+IsListingEnds-step {I} {s0} {s} {s1} {s2} r lines i line rest set part rest' ids ids' same l here h x y hs hp more o =
     let l' : i < length r.ends = subst (λ xs. i < length xs) same l in
     let here' : line ≡ get_or r.ends i line = subst (λ xs. line ≡ get_or xs i line) same here in
     let at : item_or (end_nodes r) i 0 ≡ line.node = number_at (λ x. x.node) r.ends i line l' here' in
     let within : i < length (end_nodes r) = omega (arith, l', length-map r.ends (λ x. x.node)) in
     let node : (c : List Bool) → s.test set c ≡ holds r.nodes (item_or (end_nodes r) i 0) c = λ c. hs.test c ∙ ap (λ k. holds r.nodes k c) (sym at) in
-    let here_is : IsSet s1 part (has_this_end r (suc i)) = record { known = hp.known; test = λ c. hp.test c ∙ ap (λ b. b && s.test set c) (h.rest_is.test c) ∙ ap (λ b. not (some_hold r.nodes (take i (end_nodes r)) c) && b) (node c) } in
-    let first = AreFirst-step lawful (has_this_end r) i m part ts ts' next (AreFirst-extends x (has_this_end r) i ts h.targets) (subst (λ n. IsSet s1 part (has_this_end r n)) (sym next) here_is) pushed in
-    let count : m ≡ i + 1 = omega (arith, next) in
+    let part_is : IsSet s1 part (has_this_end r (suc i)) = record { known = hp.known; test = λ c. hp.test c ∙ ap (λ b. b && s.test set c) (h.rest_is.test c) ∙ ap (λ b. not (some_hold r.nodes (take i (end_nodes r)) c) && b) (node c) } in
     record {
       extends = Extends-trans h.extends (Extends-trans x y);
       rest_is = record {
@@ -85,8 +101,35 @@ IsListingEnds-step {I} {s0} {s} {s1} {s2} lawful r lines i m line rest set part 
             ∙ not_either (some_hold r.nodes (take i (end_nodes r)) c) (holds r.nodes (item_or (end_nodes r) i 0) c)
             ∙ ap not (sym (some_hold-more r.nodes (end_nodes r) i c within));
       };
-      targets = subst (λ n. AreFirst s2 (has_this_end r) n ts') count (AreFirst-extends y (has_this_end r) m ts' first);
+      number = ap length more ∙ length_pushed ids part ∙ ap (λ n. n + 1) h.number;
+      each = λ place id e. elim (get_pushed ids part id place (ap (λ xs. slice_get xs place) (sym more) ∙ e)) [
+        | inl g ↦ IsSet-extends (Extends-trans x y) id (has_this_end r (suc place)) (h.each place id g)
+        | inr g ↦
+            let last : place ≡ i = g.0 ∙ h.number in
+            let one : IsSet s1 id (has_this_end r (suc i)) = subst (λ z. IsSet s1 z (has_this_end r (suc i))) g.1 part_is in
+            IsSet-extends y id (has_this_end r (suc place)) (subst (λ n. IsSet s1 id (has_this_end r (suc n))) (sym last) one)
+      ];
     }
+
+pub AreFirstEnds-all : {I : Type 0} {s0 s : Sets I} (r : Report) (lines : List EndLine) (i : ℕ) (rest : I) (ids : List I) → lines ≡ r.ends → i ≤ length lines → length lines ≤ i → IsListingEnds s0 s r i rest ids → AreFirstEnds s r ids
+AreFirstEnds-all r lines i rest ids same few all h = record { number = omega (arith, few, all, ap length same, h.number); each = h.each }
+
+pub AreFirstEnds-extends : {I : Type 0} {old new : Sets I} → Extends old new → (r : Report) (ids : List I) → AreFirstEnds old r ids → AreFirstEnds new r ids
+AreFirstEnds-extends x r ids h = record { number = h.number; each = λ place id e. IsSet-extends x id (has_this_end r (suc place)) (h.each place id e) }
+
+-- the set of an end, by its place
+pub first_end_at : {I : Type 0} {s : Sets I} (r : Report) (ids : List I) (i : ℕ) (id : I) → AreFirstEnds s r ids → i < length r.ends → id ≡ get_or ids i id → IsSet s id (has_this_end r (suc i))
+first_end_at {I} {s} r ids i id h l here = h.each i id (slice_get-get_or ids i id (omega (arith, l, h.number)) ∙ ap Some (sym here))
+
+-- the ends as targets, one more
+pub first_targets-start : {I : Type 0} {s : Sets I} (r : Report) (ts : List (Target I)) → ts ≡ [] → AreFirst s (has_this_end r) 0 ts
+first_targets-start {I} {s} r ts e = subst (λ xs. AreFirst s (has_this_end r) 0 xs) (sym e) (AreFirst-none s (has_this_end r) (λ c. refl))
+
+pub first_targets-step : {I : Type 0} {s : Sets I} → IsLawful s → (r : Report) (ids : List I) (i m : ℕ) (id : I) (ts ts' : List (Target I)) → m ≡ suc i → AreFirstEnds s r ids → i < length r.ends → id ≡ get_or ids i id → AreFirst s (has_this_end r) i ts → IsPushed s m id ts ts' → AreFirst s (has_this_end r) (i + 1) ts'
+first_targets-step {I} {s} lawful r ids i m id ts ts' next h l here f pushed =
+    let one = first_end_at r ids i id h l here in
+    let count : m ≡ i + 1 = omega (arith, next) in
+    subst (λ n. AreFirst s (has_this_end r) n ts') count (AreFirst-step lawful (has_this_end r) i m id ts ts' next f (subst (λ n. IsSet s id (has_this_end r n)) (sym next) one) pushed)
 
 -- the first pieces as targets
 pub record IsListingPieces {I : Type 0} (s0 s : Sets I) (r : Report) (ended : I) (i : ℕ) (ts : List (Target I)) : Type 0 where

@@ -96,7 +96,7 @@ fn start<S: Space>(
 {
     let ended = ended(space, report, sets)?;
     let mut ends = Vec::new(alloc);
-    push_ends(space, &mut ends, report, sets)?;
+    push_ends(alloc, space, &mut ends, report, sets)?;
     let mut pieces = Vec::new(alloc);
     push_pieces(space, &mut pieces, report, sets, ended)?;
     let ends = blocks_of(alloc, space, ends.as_slice())?;

@@ -10,6 +10,6 @@ pub mod tries;
 pub mod trying;
 
 pub use covering::cover;
-pub use scope::ended;
+pub use scope::{ended, first_ends};
 pub use text::{cover_text, put_configuration};
 pub use tries::Try;

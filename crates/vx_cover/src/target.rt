@@ -4,9 +4,11 @@ ghost use Rattle.std.specs.Prelude.{◌≡◌, [], OnOk, length};
 ghost use Rattle.vx_space.specs.Sets.{Extends, IsKnown, IsSet};
 ghost use Rattle.vx_bdd_tools.specs.Listing.{AreSetsOf};
 ghost use Rattle.vx_cover.specs.Covers.{has_end, has_this_end, has_this_piece};
+ghost use Rattle.vx_cover.specs.Scopes.{AreFirstEnds};
 ghost use Rattle.vx_cover.specs.Targets.{AreFirst, IsPushed};
 
-use std::alloc::AllocError;
+use crate::scope::first_ends;
+use std::alloc::{AllocError, Global};
 use vx_bdd_tools::set_of;
 use vx_report::Report;
 use vx_space::{Space, SpaceFault};
@@ -35,8 +37,26 @@ fn push_target<S: Space>(
     Ok(())
 }
 
+/// Puts the ends of a report, each with its configurations.
+fn put_ends<S: Space>(
+    space: &S,
+    targets: &mut Vec<Target<S::Id>>,
+    report: &Report,
+    firsts: &[S::Id],
+) -> Result<(), AllocError>
+    requires firsts { AreFirstEnds (S.sets space.now) report.now firsts.now }
+    requires none { targets.old.items ≡ [] }
+    ensures { OnOk result (AreFirst (S.sets space.now) (has_this_end report.now) (length report.now.ends) targets.new.items) }
+{
+    for place in 0..report.ends.len() {
+        push_target(space, targets, place as u64 + 1, firsts[place])?;
+    }
+    Ok(())
+}
+
 /// Puts the ends of a report, each with the configurations whose first end it is.
 pub fn push_ends<S: Space>(
+    alloc: Global,
     space: &mut S,
     targets: &mut Vec<Target<S::Id>>,
     report: &Report,
@@ -47,13 +67,8 @@ pub fn push_ends<S: Space>(
     ensures extends { Extends (S.sets space.old) (S.sets space.new) }
     ensures targets { OnOk result (AreFirst (S.sets space.new) (has_this_end report.now) (length report.now.ends) targets.new.items) }
 {
-    let mut rest = space.always();
-    for (place, line) in report.ends.as_slice().iter().enumerate() {
-        let set = set_of(space, sets, line.node);
-        let part = space.and(rest, set)?;
-        push_target(space, targets, place as u64 + 1, part)?;
-        rest = space.minus(rest, set)?;
-    }
+    let firsts = first_ends(alloc, space, report, sets)?;
+    put_ends(space, targets, report, firsts.as_slice())?;
     Ok(())
 }
 

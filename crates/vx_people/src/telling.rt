@@ -1,27 +1,35 @@
 //! What a report is asked for.
 
-ghost use Rattle.std.specs.Prelude.{◌≡◌, ◌≤◌, IfOk, length};
+ghost use Rattle.std.specs.Prelude.{◌≡◌, ◌↔◌, false, IfOk, IfSome, IsNone};
 ghost use Rattle.vx_interact.specs.Text.{IsInteractionsText};
+ghost use Rattle.vx_count.specs.Text.{count_text, list_text};
 ghost use Rattle.vx_report_reader.specs.Lawful.{IsLawful};
-ghost use Rattle.vx_people.specs.Tellings.{IsCoverText, IsExplanationText, IsToldText, report_picture};
+ghost use Rattle.vx_people.specs.Tellings.{IsCoverText, IsExplanationText, IsToldText, is_told, report_picture};
 
 use std::alloc::{AllocError, Global};
 use vx_bdd::BddSpace;
+use vx_count::{count_report, counts_text, list_report, listed_text};
 use vx_cover::{cover, cover_text};
 use vx_explain::{explain, explanation_text};
 use vx_interact::{interactions, interactions_text};
-use vx_picture::{picture, picture_text};
+use vx_page::write_page;
+use vx_picture::{Drawn, picture, picture_text};
 use vx_report::Report;
 use vx_space::SpaceFault;
 
-/// What a report is asked for: on which options its pieces and ends depend, its picture, a cover of it, or rules and examples of
-/// its pieces and ends.
+/// What a report is asked for: on which options its pieces and ends depend, its picture or a part of it, a cover of it, rules and
+/// examples of its pieces and ends, how many configurations have each of them, the first
+/// configurations that have an end, or a page that shows it in a browser.
 #[derive(Clone, Copy)]
 pub enum Telling {
     Interactions,
-    Picture,
+    Picture(Drawn),
     Cover,
     Explanations,
+    Counts,
+    /// So many of them; 1,000 where nothing is said.
+    Listed(Option<u64>),
+    Page,
 }
 
 /// The text of the interactions of a report.
@@ -33,13 +41,13 @@ fn interacting(alloc: Global, report: &Report) -> Result<Vec<u8>, AllocError>
     Ok(interactions_text(alloc, report, entries.as_slice())?)
 }
 
-/// The text of the picture of a report.
-fn picturing(alloc: Global, report: &Report) -> Result<Vec<u8>, AllocError>
+/// The text of the picture of a report, or of a part of it.
+fn picturing(alloc: Global, report: &Report, drawn: Drawn) -> Result<Vec<u8>, AllocError>
     requires { IsLawful report.now }
-    ensures { IfOk result (λ text. text.items ≡ report_picture report.now) }
+    ensures { IfOk result (λ text. text.items ≡ report_picture drawn report.now) }
 {
-    let drawn = picture(alloc, report)?;
-    picture_text(alloc, report, &drawn)
+    let picture = picture(alloc, report, drawn)?;
+    picture_text(alloc, report, &picture)
 }
 
 /// The text of a cover of a report.
@@ -62,15 +70,61 @@ fn explaining(alloc: Global, report: &Report) -> Result<Vec<u8>, SpaceFault>
     Ok(explanation_text(alloc, report, explained.as_slice())?)
 }
 
-/// The text of what a report is asked for.
-pub fn told(alloc: Global, telling: Telling, report: &Report) -> Result<Vec<u8>, SpaceFault>
+/// The text of the counts of a report.
+fn counting(alloc: Global, report: &Report) -> Result<Vec<u8>, SpaceFault>
+    requires { IsLawful report.now }
+    ensures { IfOk result (λ text. text.items ≡ count_text report.now) }
+{
+    let mut space = BddSpace::new(alloc, report.options.len() as u32)?;
+    let counts = count_report(alloc, &mut space, report)?;
+    Ok(counts_text(alloc, &counts)?)
+}
+
+/// The text of the first n configurations of a report that have an end.
+fn listing(alloc: Global, report: &Report, n: u64) -> Result<Vec<u8>, SpaceFault>
+    requires { IsLawful report.now }
+    ensures { IfOk result (λ text. text.items ≡ list_text n report.now) }
+{
+    let mut space = BddSpace::new(alloc, report.options.len() as u32)?;
+    let listed = list_report(alloc, &mut space, report, n)?;
+    Ok(listed_text(alloc, report, &listed)?)
+}
+
+/// Whether a report has what it is asked for: all but the picture of a piece that isn't there.
+fn is_told(telling: Telling, report: &Report) -> bool
+    ensures { result ≡ is_told telling report.now }
+{
+    match telling {
+        Telling::Picture(Drawn::Piece(index)) => 1 <= index && index <= report.pieces.len() as u64,
+        _ => true,
+    }
+}
+
+/// The text of what a report is asked for, if it has that.
+fn text_of(alloc: Global, telling: Telling, report: &Report) -> Result<Vec<u8>, SpaceFault>
     requires { IsLawful report.now }
     ensures { IfOk result (λ text. IsToldText telling report.now text.items) }
 {
     match telling {
         Telling::Interactions => Ok(interacting(alloc, report)?),
-        Telling::Picture => Ok(picturing(alloc, report)?),
+        Telling::Picture(drawn) => Ok(picturing(alloc, report, drawn)?),
         Telling::Cover => covering(alloc, report),
         Telling::Explanations => explaining(alloc, report),
+        Telling::Counts => counting(alloc, report),
+        Telling::Listed(n) => listing(alloc, report, n.unwrap_or(1000)),
+        Telling::Page => Ok(write_page(alloc, report)?),
     }
+}
+
+/// The text of what a report is asked for; none where it has no such thing: the picture of a piece above their number.
+pub fn told(alloc: Global, telling: Telling, report: &Report) -> Result<Option<Vec<u8>>, SpaceFault>
+    requires { IsLawful report.now }
+    ensures none { IfOk result (λ told. IsNone told ↔ (is_told telling report.now ≡ false)) }
+    ensures text { IfOk result (λ told. IfSome told (λ text. IsToldText telling report.now text.items)) }
+{
+    if !is_told(telling, report) {
+        return Ok(None);
+    }
+    let text = text_of(alloc, telling, report)?;
+    Ok(Some(text))
 }

@@ -1,6 +1,8 @@
-//! Pictures, covers and explanations of small reports.
+//! Pictures, covers, explanations and counts of small reports.
 #![tactic(auto)]
 
+#[cfg(test)]
+mod count;
 #[cfg(test)]
 mod cover;
 #[cfg(test)]

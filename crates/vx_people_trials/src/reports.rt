@@ -25,6 +25,10 @@ pub const ODD: &str =
 pub const PARITY: &str =
     "varexj report 1\noptions 7\noption A\noption B\noption C\noption D\noption E\noption F\noption G\nlimit 100\nrounds 4\nnode 2 6 0 1\nnode 3 6 1 0\nnode 4 5 2 3\nnode 5 5 3 2\nnode 6 4 4 5\nnode 7 4 5 4\nnode 8 3 6 7\nnode 9 3 7 6\nnode 10 2 8 9\nnode 11 2 9 8\nnode 12 1 10 11\nnode 13 1 11 10\nnode 14 0 12 13\nout 14 x\nend 1 return\ndone\n";
 
+/// A program with 64 options, whose last one prints, and with no rules.
+pub const WIDE: &str =
+    "varexj report 1\noptions 64\noption A0\noption A1\noption A2\noption A3\noption A4\noption A5\noption A6\noption A7\noption A8\noption A9\noption A10\noption A11\noption A12\noption A13\noption A14\noption A15\noption A16\noption A17\noption A18\noption A19\noption A20\noption A21\noption A22\noption A23\noption A24\noption A25\noption A26\noption A27\noption A28\noption A29\noption A30\noption A31\noption A32\noption A33\noption A34\noption A35\noption A36\noption A37\noption A38\noption A39\noption A40\noption A41\noption A42\noption A43\noption A44\noption A45\noption A46\noption A47\noption A48\noption A49\noption A50\noption A51\noption A52\noption A53\noption A54\noption A55\noption A56\noption A57\noption A58\noption A59\noption A60\noption A61\noption A62\noption A63\nlimit 100\nrounds 4\nnode 2 63 0 1\nout 2 x\nend 1 return\ndone\n";
+
 /// A report of a text.
 pub fn report_of(rt: &impl Abort, alloc: Global, text: &str) -> Report
     ensures { IsLawful result }

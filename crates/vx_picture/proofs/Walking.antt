@@ -1,11 +1,11 @@
 -- The edges of a picture walk as the nodes of its report hold.
 use Rattle.std.proofs.Common.{◌≡◌, ◌⊎◌, inl, inr, ℕ, ◌+◌, ◌-◌, ◌<◌, ◌≤◌, zero, suc, Bool, true, false, List, [], ◌∷◌, ◌++◌, length, take, map, refl, sym, ◌∙◌, ap, subst, arith, append_assoc, eqb-true}
 use Rattle.std.specs.List.{AllByRecursion}
-use Rattle.std.specs.Prelude.{Option, Some, None, option_map, slice_get, nat_eq, max, ◌&&◌, if◌then◌else◌}
+use Rattle.std.specs.Prelude.{Option, Some, None, option_map, slice_get, nat_eq, max, ◌&&◌, ◌||◌, if◌then◌else◌}
 use Rattle.std.proofs.lemmas.Bool.Decides.{nat_tests}
 use Rattle.std.proofs.lemmas.List.{length-take}
 use Rattle.vx_bdd_tools.specs.declared.node.Node.{Node}
-use Rattle.vx_bdd_tools.specs.Nodes.{node_of, holds, walk_by, IsNextNode, IsReducedList}
+use Rattle.vx_bdd_tools.specs.Nodes.{child, node_of, holds, walk_by, IsNextNode, IsReducedList}
 use Rattle.vx_bdd_tools.proofs.NodeLists.{holds-append}
 use Rattle.vx_bdd_tools.proofs.NodeSets.{node_same}
 use Rattle.vx_report.specs.declared.report.Report.{Report}
@@ -13,12 +13,16 @@ use Rattle.vx_report.specs.declared.report.Piece.{Piece}
 use Rattle.vx_report.specs.declared.report.EndLine.{EndLine}
 use Rattle.vx_report_reader.specs.Lawful.{IsLawful}
 use Rattle.vx_picture.proofs.Numbered.{greatest-both}
+use Rattle.vx_picture.proofs.Reaching.{HasParts, PartsFall, among_reached, kept_alike, reached_closed}
+use Rattle.vx_picture.specs.declared.shape.Drawn.{Drawn}
+use Rattle.vx_picture.specs.declared.shape.Drawn.TheVariants as asked
 use Rattle.vx_picture.specs.declared.shape.Ellipse.{Ellipse}
 use Rattle.vx_picture.specs.declared.shape.Edge.{Edge}
 use Rattle.vx_picture.specs.declared.subject.Subject.{Subject}
 use Rattle.vx_picture.specs.declared.shape.Picture.{Picture}
-use Rattle.vx_picture.specs.Pictures.{drawn_nodes, edge, edges_of, ellipse, greatest, named, picture_of}
-use Rattle.vx_picture.specs.Subjects.{end_subject, is_return, numbered, piece_subject, same, subjects}
+use Rattle.vx_picture.specs.Marks.{has_mark}
+use Rattle.vx_picture.specs.Pictures.{boxes_of, drawn_nodes, edge, edges_of, ellipse, greatest, is_among, is_drawn, kept, named, nodes_of, picture_of, reached, reached_from}
+use Rattle.vx_picture.specs.Subjects.{end_subject, end_subjects, is_return, numbered, piece_subject, same, subject_of_piece, subjects}
 use Rattle.vx_picture.specs.Walks.{Walks, WalksFrom, edge_to, ellipse_at}
 
 other_number : (from k : ℕ) → from < k → nat_eq from k ≡ false
@@ -71,65 +75,106 @@ both_here from node rest false n =
     ap (λ es. edge_to es from false) (append_assoc (edge from false node.low) (edge from true node.high) rest)
     ∙ here from false node.low (edge from true node.high ++ rest) false refl (other from true node.high rest from false refl ∙ n)
 
--- no edge leads from a number before the first one
-later_edges : (n k : ℕ) (nodes : List Node) (b : Bool) → k < n → edge_to (numbered edges_of n nodes) k b ≡ 0
-later_edges n k [] b l = refl
-later_edges n k (node ∷ rest) b l =
-    let e : nat_eq n k ≡ false = grind (arith, nat_tests) in
-    both_past n node (numbered edges_of (suc n) rest) k b e ∙ later_edges (suc n) k rest b (omega arith)
+-- what a node makes, where it is drawn
+edges_kept : (keep : ℕ → Bool) (n : ℕ) (node : Node) → keep n ≡ true → kept keep edges_of n node ≡ edges_of n node
+edges_kept keep n node e = rw e refl
 
--- the edges of a node lead to its parts
-edges_here : (n : ℕ) (nodes : List Node) (i k : ℕ) (node : Node) (b : Bool) → k ≡ i + n → slice_get nodes i ≡ Some node → edge_to (numbered edges_of n nodes) k b ≡ (if b then node.high else node.low)
-edges_here n [] i k node b e s = cc
-edges_here n (x ∷ xs) zero k node b e s =
-    let P : ℕ → Type 0 = λ j. edge_to (numbered edges_of n (x ∷ xs)) j b ≡ (if b then node.high else node.low) in
+no_edges : (keep : ℕ → Bool) (n : ℕ) (node : Node) → keep n ≡ false → kept keep edges_of n node ≡ []
+no_edges keep n node e = rw e refl
+
+-- the edges of another number, where they are drawn
+kept_past : (keep : ℕ → Bool) (n : ℕ) (node : Node) (rest : List Edge) (k : ℕ) (b : Bool) → nat_eq n k ≡ false → edge_to (kept keep edges_of n node ++ rest) k b ≡ edge_to rest k b
+kept_past keep n node rest k b e = by (keep n) refl
+  where
+    by : (t : Bool) → keep n ≡ t → edge_to (kept keep edges_of n node ++ rest) k b ≡ edge_to rest k b
+    by true t = ap (λ es. edge_to (es ++ rest) k b) (edges_kept keep n node t) ∙ both_past n node rest k b e
+    by false t = ap (λ es. edge_to (es ++ rest) k b) (no_edges keep n node t)
+
+-- no edge leads from a number before the first one
+later_edges : (keep : ℕ → Bool) (n k : ℕ) (nodes : List Node) (b : Bool) → k < n → edge_to (numbered (kept keep edges_of) n nodes) k b ≡ 0
+later_edges keep n k [] b l = refl
+later_edges keep n k (node ∷ rest) b l =
+    let e : nat_eq n k ≡ false = grind (arith, nat_tests) in
+    kept_past keep n node (numbered (kept keep edges_of) (suc n) rest) k b e ∙ later_edges keep (suc n) k rest b (omega arith)
+
+-- the edges of a node that is drawn lead to its parts
+edges_here : (keep : ℕ → Bool) (n : ℕ) (nodes : List Node) (i k : ℕ) (node : Node) (b : Bool) → keep k ≡ true → k ≡ i + n → slice_get nodes i ≡ Some node → edge_to (numbered (kept keep edges_of) n nodes) k b ≡ (if b then node.high else node.low)
+edges_here keep n [] i k node b t e s = cc
+edges_here keep n (x ∷ xs) zero k node b t e s =
+    let P : ℕ → Type 0 = λ j. edge_to (numbered (kept keep edges_of) n (x ∷ xs)) j b ≡ (if b then node.high else node.low) in
     let same : x ≡ node = cc in
     let at_n : n ≡ k = omega (arith, e) in
-    let first = both_here n x (numbered edges_of (suc n) xs) b (later_edges (suc n) n xs b (omega arith)) in
-    subst P at_n (first ∙ ap (λ (y : Node). if b then y.high else y.low) same)
-edges_here n (x ∷ xs) (suc i) k node b e s =
+    let drawn : keep n ≡ true = ap keep at_n ∙ t in
+    let first = both_here n x (numbered (kept keep edges_of) (suc n) xs) b (later_edges keep (suc n) n xs b (omega arith)) in
+    subst P at_n (ap (λ es. edge_to (es ++ numbered (kept keep edges_of) (suc n) xs) n b) (edges_kept keep n x drawn) ∙ first ∙ ap (λ (y : Node). if b then y.high else y.low) same)
+edges_here keep n (x ∷ xs) (suc i) k node b t e s =
     let l : n < k = omega (arith, e) in
     let next : k ≡ i + suc n = omega (arith, e) in
-    both_past n x (numbered edges_of (suc n) xs) k b (other_number n k l) ∙ edges_here (suc n) xs i k node b next s
+    kept_past keep n x (numbered (kept keep edges_of) (suc n) xs) k b (other_number n k l) ∙ edges_here keep (suc n) xs i k node b t next s
 
 -- an ellipse with the edges from it
 abbrev with_edges : List Edge → ℕ → Node → Node
 with_edges edges k node = record { option = node.option; low = edge_to edges k false; high = edge_to edges k true }
 
-ellipse_here : (edges : List Edge) (n : ℕ) (nodes : List Node) (i k : ℕ) → k ≡ i + n → ellipse_at edges (numbered ellipse n nodes) k ≡ option_map (with_edges edges k) (slice_get nodes i)
-ellipse_here edges n [] i k e = refl
-ellipse_here edges n (x ∷ xs) zero k e =
+-- the ellipse of another number, where it is drawn
+ellipse_past : (keep : ℕ → Bool) (edges : List Edge) (n : ℕ) (node : Node) (rest : List Ellipse) (k : ℕ) → nat_eq n k ≡ false → ellipse_at edges (kept keep ellipse n node ++ rest) k ≡ ellipse_at edges rest k
+ellipse_past keep edges n node rest k e = by (keep n) refl
+  where
+    by : (t : Bool) → keep n ≡ t → ellipse_at edges (kept keep ellipse n node ++ rest) k ≡ ellipse_at edges rest k
+    by true t = rw (t, e) refl
+    by false t = rw t refl
+
+ellipse_here : (keep : ℕ → Bool) (edges : List Edge) (n : ℕ) (nodes : List Node) (i k : ℕ) → keep k ≡ true → k ≡ i + n → ellipse_at edges (numbered (kept keep ellipse) n nodes) k ≡ option_map (with_edges edges k) (slice_get nodes i)
+ellipse_here keep edges n [] i k t e = refl
+ellipse_here keep edges n (x ∷ xs) zero k t e =
     let at_n : n ≡ k = omega (arith, e) in
     let same : nat_eq n k ≡ true = subst (λ j. nat_eq n j ≡ true) at_n (same_number n) in
-    rw same refl
-ellipse_here edges n (x ∷ xs) (suc i) k e =
+    let drawn : keep n ≡ true = ap keep at_n ∙ t in
+    rw (drawn, same) refl
+ellipse_here keep edges n (x ∷ xs) (suc i) k t e =
     let l : n < k = omega (arith, e) in
     let next : k ≡ i + suc n = omega (arith, e) in
-    rw (other_number n k l) (ellipse_here edges (suc n) xs i k next)
+    ellipse_past keep edges n x (numbered (kept keep ellipse) (suc n) xs) k (other_number n k l) ∙ ellipse_here keep edges (suc n) xs i k t next
 
-early_ellipses : (edges : List Edge) (n k : ℕ) (nodes : List Node) → k < n → ellipse_at edges (numbered ellipse n nodes) k ≡ None
-early_ellipses edges n k [] l = refl
-early_ellipses edges n k (x ∷ xs) l =
+early_ellipses : (keep : ℕ → Bool) (edges : List Edge) (n k : ℕ) (nodes : List Node) → k < n → ellipse_at edges (numbered (kept keep ellipse) n nodes) k ≡ None
+early_ellipses keep edges n k [] l = refl
+early_ellipses keep edges n k (x ∷ xs) l =
     let e : nat_eq n k ≡ false = grind (arith, nat_tests) in
-    rw e (early_ellipses edges (suc n) k xs (omega arith))
+    ellipse_past keep edges n x (numbered (kept keep ellipse) (suc n) xs) k e ∙ early_ellipses keep edges (suc n) k xs (omega arith)
 
-kept : (nodes : List Node) (i k : ℕ) (o : Option Node) → k ≡ i + 2 → slice_get nodes i ≡ o → option_map (with_edges (numbered edges_of 2 nodes) k) o ≡ o
-kept nodes i k None e s = refl
-kept nodes i k (Some node) e s =
-    let low = edges_here 2 nodes i k node false e s in
-    let high = edges_here 2 nodes i k node true e s in
-    ap Some (node_same (with_edges (numbered edges_of 2 nodes) k node) node refl low high)
+node_kept : (keep : ℕ → Bool) (nodes : List Node) (i k : ℕ) (o : Option Node) → keep k ≡ true → k ≡ i + 2 → slice_get nodes i ≡ o → option_map (with_edges (numbered (kept keep edges_of) 2 nodes) k) o ≡ o
+node_kept keep nodes i k None t e s = refl
+node_kept keep nodes i k (Some node) t e s =
+    let low = edges_here keep 2 nodes i k node false t e s in
+    let high = edges_here keep 2 nodes i k node true t e s in
+    ap Some (node_same (with_edges (numbered (kept keep edges_of) 2 nodes) k node) node refl low high)
 
--- what is drawn of some nodes is those nodes
-same_node : (nodes : List Node) (k : ℕ) → ellipse_at (numbered edges_of 2 nodes) (numbered ellipse 2 nodes) k ≡ node_of nodes k
-same_node nodes zero = early_ellipses (numbered edges_of 2 nodes) 2 0 nodes (omega arith)
-same_node nodes (suc zero) = early_ellipses (numbered edges_of 2 nodes) 2 1 nodes (omega arith)
-same_node nodes (suc (suc i)) =
+-- what is drawn of a node is that node
+same_node : (keep : ℕ → Bool) (nodes : List Node) (k : ℕ) → keep k ≡ true → ellipse_at (numbered (kept keep edges_of) 2 nodes) (numbered (kept keep ellipse) 2 nodes) k ≡ node_of nodes k
+same_node keep nodes zero t = early_ellipses keep (numbered (kept keep edges_of) 2 nodes) 2 0 nodes (omega arith)
+same_node keep nodes (suc zero) t = early_ellipses keep (numbered (kept keep edges_of) 2 nodes) 2 1 nodes (omega arith)
+same_node keep nodes (suc (suc i)) t =
     let e : suc (suc i) ≡ i + 2 = omega arith in
-    ellipse_here (numbered edges_of 2 nodes) 2 nodes i (suc (suc i)) e ∙ kept nodes i (suc (suc i)) (slice_get nodes i) e refl
+    ellipse_here keep (numbered (kept keep edges_of) 2 nodes) 2 nodes i (suc (suc i)) t e ∙ node_kept keep nodes i (suc (suc i)) (slice_get nodes i) t e refl
 
-walks_alike : (nodes : List Node) (k : ℕ) (c : List Bool) → nat_eq (walk_by (ellipse_at (numbered edges_of 2 nodes) (numbered ellipse 2 nodes)) k k c) 1 ≡ holds nodes k c
-walks_alike nodes k c = λ j. nat_eq (walk_by (λ n. same_node nodes n j) k k c) 1
+-- with a node its parts are drawn
+record IsClosed (keep : ℕ → Bool) (nodes : List Node) : Type 0 where
+  each : (k : ℕ) (node : Node) (b : Bool) → keep k ≡ true → node_of nodes k ≡ Some node → keep (if b then node.high else node.low) ≡ true
+
+-- where it goes is drawn
+stays_drawn : (keep : ℕ → Bool) (nodes : List Node) → IsClosed keep nodes → (k : ℕ) (c : List Bool) (o : Option Node) → node_of nodes k ≡ o → keep k ≡ true → keep (child o k c) ≡ true
+stays_drawn keep nodes closed k c None e t = t
+stays_drawn keep nodes closed k c (Some node) e t = closed.each k node _ t e
+
+walk_alike : (keep : ℕ → Bool) (nodes : List Node) → IsClosed keep nodes → (steps k : ℕ) (c : List Bool) → keep k ≡ true → walk_by (ellipse_at (numbered (kept keep edges_of) 2 nodes) (numbered (kept keep ellipse) 2 nodes)) steps k c ≡ walk_by (node_of nodes) steps k c
+walk_alike keep nodes closed zero k c t = refl
+walk_alike keep nodes closed (suc steps) k c t =
+    let drawn = ellipse_at (numbered (kept keep edges_of) 2 nodes) (numbered (kept keep ellipse) 2 nodes) in
+    ap (λ o. walk_by drawn steps (child o k c) c) (same_node keep nodes k t)
+    ∙ walk_alike keep nodes closed steps (child (node_of nodes k) k c) c (stays_drawn keep nodes closed k c (node_of nodes k) refl t)
+
+walks_alike : (keep : ℕ → Bool) (nodes : List Node) → IsClosed keep nodes → (k : ℕ) (c : List Bool) → keep k ≡ true → nat_eq (walk_by (ellipse_at (numbered (kept keep edges_of) 2 nodes) (numbered (kept keep ellipse) 2 nodes)) k k c) 1 ≡ holds nodes k c
+walks_alike keep nodes closed k c t = ap (λ n. nat_eq n 1) (walk_alike keep nodes closed k k c t)
 
 take_in_take : {A : Type 0} (i m : ℕ) (xs : List A) → i ≤ m → take i (take m xs) ≡ take i xs
 take_in_take zero m xs l = refl
@@ -221,23 +266,104 @@ ellipses_within : (m n : ℕ) (nodes : List Node) → length nodes + n ≤ m →
 ellipses_within m n [] l = tt
 ellipses_within m n (x ∷ xs) l = (omega (arith, l), ellipses_within m (suc n) xs (omega (arith, l)))
 
-pub picture_walks : (r : Report) → IsLawful r → Walks r (picture_of r)
+-- all that pieces and ends need
+all_walks : (r : Report) → IsLawful r → Walks r (picture_of asked.All r)
 unfolding picture_of
-picture_walks r h =
+all_walks r h =
     let m = greatest 1 (named r) - 1 in
     let nodes = drawn_nodes r in
+    let keep : ℕ → Bool = λ n. true in
+    let closed : IsClosed keep nodes = record { each = λ k node b t e. refl } in
     record {
-      ellipses = all-weaker (λ (e : Ellipse). e.number < length nodes + 2) (λ e. WalksFrom r (picture_of r) e.number) (λ e l c. walks_alike nodes e.number c ∙ first_hold h.numbered.reduced m e.number c (omega (arith, l, length-take m r.nodes))) (numbered ellipse 2 nodes) (ellipses_within (length nodes + 2) 2 nodes (omega arith));
-      boxes = all-weaker (λ (b : Subject). b.node ≤ greatest 1 (named r)) (λ b. WalksFrom r (picture_of r) b.node) (λ b l c. walks_alike nodes b.node c ∙ first_hold h.numbered.reduced m b.node c (omega (arith, l))) (subjects r) (subjects_within r);
+      ellipses = all-weaker (λ (e : Ellipse). e.number < length nodes + 2) (λ e. WalksFrom r (picture_of asked.All r) e.number) (λ e l c. walks_alike keep nodes closed e.number c refl ∙ first_hold h.numbered.reduced m e.number c (omega (arith, l, length-take m r.nodes))) (numbered ellipse 2 nodes) (ellipses_within (length nodes + 2) 2 nodes (omega arith));
+      boxes = all-weaker (λ (b : Subject). b.node ≤ greatest 1 (named r)) (λ b. WalksFrom r (picture_of asked.All r) b.node) (λ b l c. walks_alike keep nodes closed b.node c refl ∙ first_hold h.numbered.reduced m b.node c (omega (arith, l))) (subjects r) (subjects_within r);
     }
+
+-- ---- a part
+
+parts_fall : {options : ℕ} {nodes : List Node} → IsReducedList options nodes → (before rest : List Node) (n : ℕ) → before ++ rest ≡ nodes → n ≡ length before + 2 → PartsFall n rest
+parts_fall r before [] n e m = tt
+parts_fall {options = options} {nodes = nodes} r before (x ∷ rest) n e m =
+    let here : slice_get nodes (length before) ≡ Some x = ap (λ xs. slice_get xs (length before)) (sym e) ∙ behind before x rest in
+    let fewer : length (take (length before) nodes) ≤ length before = omega (arith, length-take (length before) nodes) in
+    let next = r.each (length before) x here in
+    ((omega (arith, next.low_given, fewer, m), omega (arith, next.high_given, fewer, m)), parts_fall r (before ++ x ∷ []) rest (suc n) (append_assoc before (x ∷ []) rest ∙ e) (omega (arith, m, longer before x)))
+  where
+    behind : (xs : List Node) (y : Node) (ys : List Node) → slice_get (xs ++ y ∷ ys) (length xs) ≡ Some y
+    behind [] y ys = refl
+    behind (x ∷ xs) y ys = behind xs y ys
+
+    longer : (xs : List Node) (y : Node) → length (xs ++ y ∷ []) ≡ length xs + 1
+    longer [] y = refl
+    longer (x ∷ xs) y = omega (arith, longer xs y)
+
+-- what boxes lead to has its parts
+closed_part : (r : Report) → IsLawful r → (boxes : List Subject) → IsClosed (is_among (reached_from r boxes)) r.nodes
+closed_part r h boxes = record { each = each }
+  where
+    numbers : List ℕ
+    numbers = map (λ (b : Subject). b.node) boxes
+
+    pick : (node : Node) → HasParts (reached numbers 2 r.nodes) node → (b : Bool) → is_among (reached numbers 2 r.nodes) (if b then node.high else node.low) ≡ true
+    pick node p true = p.high
+    pick node p false = p.low
+
+    each : (k : ℕ) (node : Node) (b : Bool) → is_among (reached_from r boxes) k ≡ true → node_of r.nodes k ≡ Some node → is_among (reached_from r boxes) (if b then node.high else node.low) ≡ true
+    each zero node b t e = cc
+    each (suc zero) node b t e = cc
+    each (suc (suc i)) node b t e = pick node (reached_closed numbers 2 r.nodes (parts_fall h.numbered.reduced [] r.nodes 2 refl refl) i (suc (suc i)) node (omega arith) e t) b
+
+-- an ellipse that is drawn has a number that is kept
+kept_number : (keep : ℕ → Bool) (n : ℕ) (node : Node) → AllByRecursion (λ (e : Ellipse). keep e.number ≡ true) (kept keep ellipse n node)
+kept_number keep n node = by (keep n) refl
+  where
+    by : (t : Bool) → keep n ≡ t → AllByRecursion (λ (e : Ellipse). keep e.number ≡ true) (kept keep ellipse n node)
+    by true t = rw t (t, tt)
+    by false t = rw t tt
+
+kept_numbers : (keep : ℕ → Bool) (n : ℕ) (nodes : List Node) → AllByRecursion (λ (e : Ellipse). keep e.number ≡ true) (numbered (kept keep ellipse) n nodes)
+kept_numbers keep n [] = tt
+kept_numbers keep n (x ∷ xs) = all-both (λ (e : Ellipse). keep e.number ≡ true) (kept keep ellipse n x) (numbered (kept keep ellipse) (suc n) xs) (kept_number keep n x) (kept_numbers keep (suc n) xs)
+
+-- the node of each box is reached
+boxes_reached : (boxes : List Subject) → AllByRecursion (λ (b : Subject). is_among (map (λ (x : Subject). x.node) boxes) b.node ≡ true) boxes
+boxes_reached [] = tt
+boxes_reached (x ∷ xs) = (ap (λ t. t || is_among (map (λ (y : Subject). y.node) xs) x.node) (same_number x.node), all-weaker (λ (b : Subject). is_among (map (λ (y : Subject). y.node) xs) b.node ≡ true) (λ b. is_among (map (λ (y : Subject). y.node) (x ∷ xs)) b.node ≡ true) (λ b e. or_right (nat_eq b.node x.node) (is_among (map (λ (y : Subject). y.node) xs) b.node) e) xs (boxes_reached xs))
+  where
+    or_right : (a b : Bool) → b ≡ true → (a || b) ≡ true
+    or_right true b e = refl
+    or_right false b e = e
 
 abbrev made : List Ellipse → List Edge → List Subject → Picture
 made ellipses edges boxes = record { ellipses = ellipses; edges = edges; boxes = boxes }
 
-pub picture_is : (r : Report) (nodes : List Node) (ellipses ellipses' : List Ellipse) (edges edges' : List Edge) (boxes boxes' : List Subject) → nodes ≡ drawn_nodes r → ellipses' ≡ ellipses → ellipses ≡ numbered ellipse 2 nodes → edges' ≡ edges → edges ≡ numbered edges_of 2 nodes → boxes' ≡ boxes → boxes ≡ subjects r → made ellipses' edges' boxes' ≡ picture_of r
+abbrev part_of : Report → List Subject → Picture
+part_of r boxes =
+    let keep : ℕ → Bool = is_among (reached_from r boxes) in
+    made (numbered (kept keep ellipse) 2 r.nodes) (numbered (kept keep edges_of) 2 r.nodes) boxes
+
+part_walks : (r : Report) → IsLawful r → (boxes : List Subject) → Walks r (part_of r boxes)
+part_walks r h boxes =
+    let keep : ℕ → Bool = is_among (reached_from r boxes) in
+    let closed = closed_part r h boxes in
+    let numbers = map (λ (b : Subject). b.node) boxes in
+    record {
+      ellipses = all-weaker (λ (e : Ellipse). keep e.number ≡ true) (λ e. WalksFrom r (part_of r boxes) e.number) (λ e t c. walks_alike keep r.nodes closed e.number c t) (numbered (kept keep ellipse) 2 r.nodes) (kept_numbers keep 2 r.nodes);
+      boxes = all-weaker (λ (b : Subject). is_among numbers b.node ≡ true) (λ b. WalksFrom r (part_of r boxes) b.node) (λ b t c. walks_alike keep r.nodes closed b.node c (among_reached numbers 2 r.nodes b.node t)) boxes (boxes_reached boxes);
+    }
+
+pub picture_walks : (drawn : Drawn) (r : Report) → IsLawful r → Walks r (picture_of drawn r)
 unfolding picture_of
-picture_is r nodes ellipses ellipses' edges edges' boxes boxes' n e1 e2 f1 f2 g1 g2 =
-    let e = e1 ∙ e2 ∙ ap (numbered ellipse 2) n in
-    let f = f1 ∙ f2 ∙ ap (numbered edges_of 2) n in
+picture_walks asked.All r h = all_walks r h
+picture_walks asked.Ends r h = part_walks r h (end_subjects r)
+picture_walks (asked.Piece index) r h = part_walks r h (subject_of_piece r index)
+
+-- ---- the picture of its parts
+
+pub picture_is : (drawn : Drawn) (r : Report) (marks : List Bool) (nodes : List Node) (ellipses ellipses' : List Ellipse) (edges edges' : List Edge) (boxes boxes' : List Subject) → nodes ≡ nodes_of drawn r → ((k : ℕ) → k < length nodes + 2 → has_mark marks k ≡ is_drawn drawn r k) → ellipses' ≡ ellipses → ellipses ≡ numbered (kept (has_mark marks) ellipse) 2 nodes → edges' ≡ edges → edges ≡ numbered (kept (has_mark marks) edges_of) 2 nodes → boxes' ≡ boxes → boxes ≡ boxes_of drawn r → made ellipses' edges' boxes' ≡ picture_of drawn r
+unfolding picture_of
+picture_is drawn r marks nodes ellipses ellipses' edges edges' boxes boxes' n m e1 e2 f1 f2 g1 g2 =
+    let e = e1 ∙ e2 ∙ kept_alike (has_mark marks) (is_drawn drawn r) ellipse 2 nodes m ∙ ap (numbered (kept (is_drawn drawn r) ellipse) 2) n in
+    let f = f1 ∙ f2 ∙ kept_alike (has_mark marks) (is_drawn drawn r) edges_of 2 nodes m ∙ ap (numbered (kept (is_drawn drawn r) edges_of) 2) n in
     let g = g1 ∙ g2 in
     λ i. record { ellipses = e i; edges = f i; boxes = g i }

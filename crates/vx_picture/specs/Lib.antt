@@ -1,3 +1,4 @@
+pub mod Marks
 pub mod Pictures
 pub mod Subjects
 pub mod Text

@@ -1,5 +1,5 @@
 -- The pieces and ends of a report as a person is shown them, each with its number among its kind, from 1 on, and a title.
-use Rattle.std.specs.Prelude.{ℕ, suc, ◌+◌, Bool, true, false, not, List, [], ◌∷◌, ◌++◌, length, min, take, position, Option, Some, None, ◌==◌, if◌then◌else◌, codes, decimal}
+use Rattle.std.specs.Prelude.{ℕ, zero, suc, slice_get, ◌+◌, Bool, true, false, not, List, [], ◌∷◌, ◌++◌, length, min, take, position, Option, Some, None, ◌==◌, if◌then◌else◌, codes, decimal}
 use Rattle.vx_value.specs.declared.end.End.{End}
 use Rattle.vx_value.specs.declared.end.End.TheVariants.{Return}
 use Rattle.vx_value.specs.Words.{text_of}
@@ -44,6 +44,19 @@ end_subject returns index line = if same returns (is_return line.end) then recor
 abbrev pub piece_subject : ℕ → Piece → List Subject
 piece_subject index piece = record { piece = true; index = index; node = piece.node; title = piece_title index piece } ∷ []
 
+-- the ends that are not `return`, then `return`
+abbrev pub end_subjects : Report → List Subject
+end_subjects r = numbered (end_subject false) 1 r.ends ++ numbered (end_subject true) 1 r.ends
+
+abbrev pub if_piece : ℕ → Option Piece → List Subject
+if_piece index None = []
+if_piece index (Some piece) = piece_subject index piece
+
+-- the piece with a number, from 1 on
+abbrev pub subject_of_piece : Report → ℕ → List Subject
+subject_of_piece r zero = []
+subject_of_piece r (suc place) = if_piece (suc place) (slice_get r.pieces place)
+
 -- the ends that are not `return`, then `return`, then the pieces
 abbrev pub subjects : Report → List Subject
-subjects r = numbered (end_subject false) 1 r.ends ++ numbered (end_subject true) 1 r.ends ++ numbered piece_subject 1 r.pieces
+subjects r = end_subjects r ++ numbered piece_subject 1 r.pieces

@@ -1,13 +1,15 @@
 //! The picture of a report.
 
-ghost use Rattle.std.specs.Prelude.{◌≡◌, ◌-◌, ◌++◌, IfOk, OnOk, map, take};
+ghost use Rattle.std.specs.Prelude.{◌≡◌, ◌++◌, IfOk, OnOk, map, take};
 ghost use Rattle.vx_report_reader.specs.Lawful.{IsLawful};
-ghost use Rattle.vx_picture.specs.Pictures.{drawn_nodes, edge, edges_of, ellipse, greatest, picture_of};
+ghost use Rattle.vx_picture.specs.Marks.{has_mark};
+ghost use Rattle.vx_picture.specs.Pictures.{boxes_of, drawn_nodes, edge, edges_of, ellipse, greatest, kept, nodes_of, picture_of};
 ghost use Rattle.vx_picture.specs.Subjects.{numbered};
 ghost use Rattle.vx_picture.specs.Walks.{Walks};
 
-use crate::shape::{Edge, Ellipse, Picture};
-use crate::subject::subjects;
+use crate::marks::{has_mark, marks_of};
+use crate::shape::{Drawn, Edge, Ellipse, Picture};
+use crate::subject::{Subject, end_subjects, subject_of_piece, subjects};
 use std::alloc::{AllocError, Global};
 use vx_bdd_tools::Node;
 use vx_list::Items;
@@ -56,16 +58,52 @@ fn drawn_nodes(report: &Report) -> &[Node]
     first_nodes(report.nodes.as_slice(), last.saturating_sub(1))
 }
 
-/// The ellipses of nodes.
-fn ellipses(alloc: Global, nodes: &[Node]) -> Result<Vec<Ellipse>, AllocError>
-    ensures { IfOk result (λ drawn. drawn.items ≡ numbered ellipse 2 nodes.now) }
+/// The nodes among which those of some boxes are.
+fn nodes_of(report: &Report, drawn: Drawn) -> &[Node]
+    ensures { result.now ≡ nodes_of drawn report.now }
+{
+    match drawn {
+        Drawn::All => drawn_nodes(report),
+        Drawn::Ends | Drawn::Piece(_) => report.nodes.as_slice(),
+    }
+}
+
+/// The boxes that are drawn.
+fn boxes_of(alloc: Global, report: &Report, drawn: Drawn) -> Result<Vec<Subject>, AllocError>
+    ensures { IfOk result (λ boxes. boxes.items ≡ boxes_of drawn report.now) }
+{
+    match drawn {
+        Drawn::All => subjects(alloc, report),
+        Drawn::Ends => end_subjects(alloc, report),
+        Drawn::Piece(index) => subject_of_piece(alloc, report, index),
+    }
+}
+
+/// Puts the ellipse of a node, where the node is marked.
+fn push_ellipse(
+    drawn: &mut Vec<Ellipse>,
+    marks: &[bool],
+    number: u64,
+    node: &Node,
+) -> Result<(), AllocError>
+    ensures { OnOk result (drawn.new.items ≡ drawn.old.items ++ kept (has_mark marks.now) ellipse number node.now) }
+{
+    if has_mark(marks, number) {
+        drawn.push(Ellipse {
+            number,
+            option: node.option,
+        })?;
+    }
+    Ok(())
+}
+
+/// The ellipses of the nodes that are marked.
+fn ellipses(alloc: Global, nodes: &[Node], marks: &[bool]) -> Result<Vec<Ellipse>, AllocError>
+    ensures { IfOk result (λ drawn. drawn.items ≡ numbered (kept (has_mark marks.now) ellipse) 2 nodes.now) }
 {
     let mut drawn = Vec::new(alloc);
     for (place, node) in nodes.iter().enumerate() {
-        drawn.push(Ellipse {
-            number: place as u64 + 2,
-            option: node.option,
-        })?;
+        push_ellipse(&mut drawn, marks, place as u64 + 2, node)?;
     }
     Ok(drawn)
 }
@@ -81,37 +119,47 @@ fn push_edge(edges: &mut Vec<Edge>, from: u64, high: bool, to: u64) -> Result<()
     Ok(())
 }
 
-/// Puts the edges of a node.
-fn push_edges(edges: &mut Vec<Edge>, number: u64, node: &Node) -> Result<(), AllocError>
-    ensures { OnOk result (edges.new.items ≡ edges.old.items ++ edges_of number node.now) }
+/// Puts the edges of a node, where the node is marked.
+fn push_edges(
+    edges: &mut Vec<Edge>,
+    marks: &[bool],
+    number: u64,
+    node: &Node,
+) -> Result<(), AllocError>
+    ensures { OnOk result (edges.new.items ≡ edges.old.items ++ kept (has_mark marks.now) edges_of number node.now) }
 {
+    if !has_mark(marks, number) {
+        return Ok(());
+    }
     push_edge(edges, number, false, node.low)?;
     push_edge(edges, number, true, node.high)
 }
 
-/// The edges of nodes.
-fn edges(alloc: Global, nodes: &[Node]) -> Result<Vec<Edge>, AllocError>
-    ensures { IfOk result (λ drawn. drawn.items ≡ numbered edges_of 2 nodes.now) }
+/// The edges of the nodes that are marked.
+fn edges(alloc: Global, nodes: &[Node], marks: &[bool]) -> Result<Vec<Edge>, AllocError>
+    ensures { IfOk result (λ drawn. drawn.items ≡ numbered (kept (has_mark marks.now) edges_of) 2 nodes.now) }
 {
     let mut drawn = Vec::new(alloc);
     for (place, node) in nodes.iter().enumerate() {
-        push_edges(&mut drawn, place as u64 + 2, node)?;
+        push_edges(&mut drawn, marks, place as u64 + 2, node)?;
     }
     Ok(drawn)
 }
 
-/// The picture of a report's diagrams (Bryant 1986): an ellipse for each node that a piece or an end needs, an edge to each
-/// part of it that isn't never, and a box for each piece and each end with its title and its node. A configuration that begins
-/// at the node of a box and takes the edge of its value at each ellipse comes to always just where the node holds it.
-pub fn picture(alloc: Global, report: &Report) -> Result<Picture, AllocError>
+/// The picture of a report's diagrams (Bryant 1986), or of those of its ends or of one piece: a box for each piece and each end that is
+/// drawn, with its title and its node, an ellipse for each node that the boxes need, with the report's number, and an edge to each part
+/// of it that isn't never. A configuration that begins at the node of a box and takes the edge of its value at each ellipse comes to
+/// always just where the node holds it. Of a piece that isn't there nothing is drawn.
+pub fn picture(alloc: Global, report: &Report, drawn: Drawn) -> Result<Picture, AllocError>
     requires { IsLawful report.now }
-    ensures picture { IfOk result (λ picture. picture ≡ picture_of report.now) }
+    ensures picture { IfOk result (λ picture. picture ≡ picture_of drawn report.now) }
     ensures walks { IfOk result (Walks report.now) }
 {
-    let nodes = drawn_nodes(report);
-    let ellipses = ellipses(alloc, nodes)?;
-    let edges = edges(alloc, nodes)?;
-    let boxes = subjects(alloc, report)?;
+    let nodes = nodes_of(report, drawn);
+    let boxes = boxes_of(alloc, report, drawn)?;
+    let marks = marks_of(alloc, report, drawn, nodes, boxes.as_slice())?;
+    let ellipses = ellipses(alloc, nodes, marks.as_slice())?;
+    let edges = edges(alloc, nodes, marks.as_slice())?;
     Ok(Picture {
         ellipses: Items::of(ellipses),
         edges: Items::of(edges),

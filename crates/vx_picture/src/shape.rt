@@ -3,6 +3,14 @@
 use crate::subject::Subject;
 use vx_list::Items;
 
+/// What of a report is drawn: all pieces and ends, the ends alone, or the piece with this number, from 1 on.
+#[derive(Clone, Copy, Debug)]
+pub enum Drawn {
+    All,
+    Ends,
+    Piece(u64),
+}
+
 /// A node: its number, and the option that it asks.
 #[derive(Clone, Copy, Debug)]
 pub struct Ellipse {
@@ -19,13 +27,13 @@ pub struct Edge {
     pub to: u64,
 }
 
-/// A report's diagrams. The nodes that only numbers of attempts need are left out.
+/// A report's diagrams, or a part of them. Nodes that no box needs are left out.
 #[derive(Debug, Drop)]
 pub struct Picture {
-    /// The nodes, from number 2 on.
+    /// The nodes, by ascending numbers.
     pub ellipses: Items<Ellipse>,
     /// The edges from each node in order, the low one first.
     pub edges: Items<Edge>,
-    /// The ends that are not `return`, then `return`, then the pieces, each with an edge to its node.
+    /// The ends that are not `return`, then `return`, then the pieces, as far as they are drawn, each with an edge to its node.
     pub boxes: Items<Subject>,
 }

@@ -1,7 +1,7 @@
 //! The pieces and ends of a report as a person is shown them.
 
 ghost use Rattle.std.specs.Prelude.{◌≡◌, ◌++◌, IfOk, OnOk};
-ghost use Rattle.vx_picture.specs.Subjects.{end_subject, is_return, numbered, piece_subject, same, subjects};
+ghost use Rattle.vx_picture.specs.Subjects.{end_subject, end_subjects, is_return, numbered, piece_subject, same, subject_of_piece, subjects};
 
 use crate::title::{put_end_title, put_piece_title};
 use std::alloc::{AllocError, Global};
@@ -106,13 +106,40 @@ fn push_pieces(alloc: Global, found: &mut Vec<Subject>, pieces: &[Piece]) -> Res
     Ok(())
 }
 
-/// The ends of a report that are not `return`, then `return`, then the pieces, each with its number among its kind.
-pub fn subjects(alloc: Global, report: &Report) -> Result<Vec<Subject>, AllocError>
-    ensures { IfOk result (λ found. found.items ≡ subjects report.now) }
+/// The ends of a report that are not `return`, then `return`, each with its number.
+pub fn end_subjects(alloc: Global, report: &Report) -> Result<Vec<Subject>, AllocError>
+    ensures { IfOk result (λ found. found.items ≡ end_subjects report.now) }
 {
     let mut found = Vec::new(alloc);
     push_ends(alloc, &mut found, false, report.ends.as_slice())?;
     push_ends(alloc, &mut found, true, report.ends.as_slice())?;
+    Ok(found)
+}
+
+/// The piece with a number, from 1 on; none where there is no such piece.
+pub fn subject_of_piece(
+    alloc: Global,
+    report: &Report,
+    index: u64,
+) -> Result<Vec<Subject>, AllocError>
+    ensures { IfOk result (λ found. found.items ≡ subject_of_piece report.now index) }
+{
+    let mut found = Vec::new(alloc);
+    let Some(place) = index.checked_sub(1) else {
+        return Ok(found);
+    };
+    let Some(piece) = report.pieces.get(place as usize) else {
+        return Ok(found);
+    };
+    push_piece(alloc, &mut found, index, piece)?;
+    Ok(found)
+}
+
+/// The ends of a report that are not `return`, then `return`, then the pieces, each with its number among its kind.
+pub fn subjects(alloc: Global, report: &Report) -> Result<Vec<Subject>, AllocError>
+    ensures { IfOk result (λ found. found.items ≡ subjects report.now) }
+{
+    let mut found = end_subjects(alloc, report)?;
     push_pieces(alloc, &mut found, report.pieces.as_slice())?;
     Ok(found)
 }

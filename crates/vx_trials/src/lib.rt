@@ -287,7 +287,7 @@ mod tests {
     /// The same of refused runs and words, and of the version.
     const REFUSAL_CASES: [(&str, u8, &str, &str); 15] = [
         ("run n e Main 0 1", 2, "", "usage\n"),
-        ("--version", 0, "varexj 0.9\n", ""),
+        ("--version", 0, "varexj 0.10\n", ""),
         ("--version run", 2, "", "usage\n"),
         ("-h", 2, "", "usage\n"),
         (
@@ -319,7 +319,7 @@ mod tests {
     ];
 
     /// The same of commands that read reports.
-    const REPORT_CASES: [(&str, u8, &str, &str); 19] = [
+    const REPORT_CASES: [(&str, u8, &str, &str); 45] = [
         ("project report -", 0, "out 0\\0a\nend return\n", ""),
         ("project report A", 0, "out 1\\0a\nend return\n", ""),
         ("project part -", 11, "", "not allowed\n"),
@@ -330,6 +330,55 @@ mod tests {
             "varexj interact 1\npiece 1 1 A\npiece 2 1 A\nend 1 0 -\ndone\n",
             "",
         ),
+        ("output report A", 0, "1\n", ""),
+        ("output report - out", 0, "0\n", ""),
+        ("output report A err", 0, "", ""),
+        ("output report B", 11, "", "not allowed\n"),
+        ("output part -", 11, "", "not allowed\n"),
+        ("output cut -", 10, "", "bad report line 6\n"),
+        ("output report", 2, "", "usage\n"),
+        ("output report A in", 2, "", "usage\n"),
+        ("output report A out err", 2, "", "usage\n"),
+        (
+            "count report",
+            0,
+            "varexj count 1\nof 2\n2 end return\n1 out 1 2 0\\0a\n1 out 2 2 1\\0a\ndone\n",
+            "",
+        ),
+        ("count cut", 10, "", "bad report line 6\n"),
+        ("count report 1", 2, "", "usage\n"),
+        (
+            "list report",
+            0,
+            "varexj list 1\nof 2\n- return\nA return\ndone\n",
+            "",
+        ),
+        (
+            "list report 1",
+            0,
+            "varexj list 1\nof 2\n- return\ndone\n",
+            "",
+        ),
+        ("list cut 1", 10, "", "bad report line 6\n"),
+        ("list report 0", 2, "", "usage\n"),
+        ("list report 01", 2, "", "usage\n"),
+        ("list report 1000001", 2, "", "usage\n"),
+        (
+            "picture report ends",
+            0,
+            "digraph report {\n1 [label=\"always\", shape=box];\nend1 [label=\"end return\", shape=box];\nend1 -> 1;\n}\n",
+            "",
+        ),
+        (
+            "picture report 2",
+            0,
+            "digraph report {\n3 [label=\"A\"];\n1 [label=\"always\", shape=box];\n3 -> 1;\npiece2 [label=\"out 2 2 1\\\\0a\", shape=box];\npiece2 -> 3;\n}\n",
+            "",
+        ),
+        ("picture report 3", 11, "", "not allowed\n"),
+        ("picture report 0", 2, "", "usage\n"),
+        ("picture report pieces", 2, "", "usage\n"),
+        ("picture cut ends", 10, "", "bad report line 6\n"),
         ("interact cut", 10, "", "bad report line 6\n"),
         ("interact report A", 2, "", "usage\n"),
         (
@@ -353,6 +402,8 @@ mod tests {
             "",
         ),
         ("explain cut", 10, "", "bad report line 6\n"),
+        ("page cut", 10, "", "bad report line 6\n"),
+        ("page report A", 2, "", "usage\n"),
         (
             "agree report report",
             0,
@@ -414,7 +465,7 @@ mod tests {
     ];
 
     /// Words, the calls of the files, of `out` and of `err` that fail, and what has to come.
-    const FAULTS: [(&str, u64, u64, u64, u8, &str, &str); 10] = [
+    const FAULTS: [(&str, u64, u64, u64, u8, &str, &str); 14] = [
         (
             "run n e Main 100 1",
             0,
@@ -437,6 +488,10 @@ mod tests {
         ("run f e Main 100 1", 2, 0, 0, 3, "", "read fault f\n"),
         ("run f e Main 100 1", 1, 0, 0, 3, "", "read fault e\n"),
         ("agree report report", 2, 0, 0, 3, "", "read fault report\n"),
+        ("count absent", 0, 0, 0, 3, "", "read fault absent\n"),
+        ("page absent", 0, 0, 0, 3, "", "read fault absent\n"),
+        ("page report", 0, 2, 0, 4, "<!doctype ", "write fault\n"),
+        ("output report A", 1, 0, 0, 3, "", "read fault report\n"),
         ("agree absent cut", 0, 0, 0, 3, "", "read fault absent\n"),
         ("agree report absent", 0, 0, 0, 3, "", "read fault absent\n"),
         (
@@ -460,7 +515,7 @@ mod tests {
     ];
 
     /// Words of each command, and how many calls of the files they make.
-    const READS: [(&str, u64); 13] = [
+    const READS: [(&str, u64); 17] = [
         ("run a m Main 100 1", 3),
         ("run f e Main 100 1", 7),
         ("verify a m Main", 3),
@@ -471,13 +526,17 @@ mod tests {
         ("picture report", 1),
         ("cover report", 1),
         ("explain report", 1),
+        ("output report A", 1),
+        ("count report", 1),
+        ("page report", 1),
+        ("list report 1", 1),
         ("agree report part", 2),
         ("load 1 2", 0),
         ("--version", 0),
     ];
 
     /// Words of each command.
-    const WRITES: [&str; 12] = [
+    const WRITES: [&str; 15] = [
         "run n e Main 100 1",
         "verify a m Main",
         "replay a m Main 3 -",
@@ -487,6 +546,9 @@ mod tests {
         "picture report",
         "cover report",
         "explain report",
+        "output report A",
+        "count report",
+        "list report",
         "agree report part",
         "load 1 1",
         "--version",

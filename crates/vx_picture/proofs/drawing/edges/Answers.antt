@@ -1,7 +1,8 @@
 use Rattle.std.proofs.Common.{[], ◌∙◌}
-use Rattle.vx_picture.specs.Pictures.{edges_of}
+use Rattle.vx_picture.specs.Marks.{has_mark}
+use Rattle.vx_picture.specs.Pictures.{edges_of, kept}
 use Rattle.vx_picture.proofs.Numbered.{numbered-more}
 use Rattle.vx_picture.proofs.drawing.edges.Goals as goal
 
 pub loop-place-preserved : goal.loop-place-preserved
-loop-place-preserved c = c.in_ok-push_edges.ensures ∙ numbered-more edges_of [] _ _ _ _ _ c.loop-place-test.true c.loop-place.invariant
+loop-place-preserved c = c.in_ok-push_edges.ensures ∙ numbered-more (kept (has_mark c.args.marks.now) edges_of) [] _ _ _ _ _ c.loop-place-test.true c.loop-place.invariant

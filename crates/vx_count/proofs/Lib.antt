@@ -1,0 +1,5 @@
+pub mod Adding
+pub mod Bytes
+pub mod Fronts
+pub mod Halves
+pub mod Titled

@@ -1,0 +1,4 @@
+pub mod Folder
+pub mod ModelFile
+pub mod Reports
+pub mod Traced

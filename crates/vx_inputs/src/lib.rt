@@ -1,0 +1,15 @@
+//! What commands read: models, the class files of a folder with the program that they link to, and reports. Each stage is proved
+//! against its part of a plan.
+#![tactic(auto)]
+
+mod job;
+mod modeling;
+mod reading;
+mod reports;
+mod taken;
+
+pub use job::{names_of, program_in};
+pub use modeling::{Modeled, allowing_model, read_any_model, read_model_file};
+pub use reading::{MOST_BYTES, read_file, read_folder};
+pub use reports::read_report_file;
+pub use taken::{Traced, parted};

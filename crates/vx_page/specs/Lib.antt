@@ -1,0 +1,4 @@
+pub mod Back
+pub mod Escapes
+pub mod Front
+pub mod Page

@@ -1,0 +1,9 @@
+//! What the commands stand on: how a call ends and the line of it, and plans, which say what is asked of the files and what comes
+//! of the answers.
+#![tactic(auto)]
+
+mod line;
+mod status;
+
+pub use line::put_line;
+pub use status::Status;

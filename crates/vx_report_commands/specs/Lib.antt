@@ -1,0 +1,5 @@
+pub mod Project
+pub mod Output
+pub mod Tell
+pub mod Agree
+pub mod Assemble
