@@ -3,26 +3,16 @@
 #![tactic(auto)]
 
 #[cfg(test)]
-mod call_cases;
-#[cfg(test)]
 mod callers;
 #[cfg(test)]
 mod cases;
 #[cfg(test)]
-mod exception_cases;
-#[cfg(test)]
 mod findings;
-#[cfg(test)]
-mod init_cases;
 #[cfg(test)]
 mod last_key;
 #[cfg(test)]
 mod least_key;
 pub mod long_run;
-#[cfg(test)]
-mod native_cases;
-#[cfg(test)]
-mod object_cases;
 mod programs;
 #[cfg(test)]
 mod runs;

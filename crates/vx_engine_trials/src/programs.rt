@@ -1,6 +1,6 @@
 //! From the sources of classes to a program with the model of its options.
 
-ghost use Rattle.std.specs.Prelude.{◌≡◌, ◌≤◌, All, IfOk, length, map, true};
+ghost use Rattle.std.specs.Prelude.{◌≡◌, All, IfOk, length, map, true};
 ghost use Rattle.vx_class.specs.File.{Holds};
 ghost use Rattle.vx_families.specs.Bounds.{IsBounded};
 ghost use Rattle.vx_heap.specs.Heap.{has_options};
@@ -35,43 +35,23 @@ fn class(alloc: Global, source: &[u8]) -> Result<ClassFile, Fail>
     Ok(read_class(alloc, bytes.as_slice())?)
 }
 
-/// The folder of the classes that sources name: `Main`, and at most eight others.
-fn folder(alloc: Global, main: &[u8], others: &[&[u8]]) -> Result<Vec<ClassFile>, Fail>
-    ensures few { IfOk result (λ classes. length classes.items ≤ 9) }
+/// The folder of the one class that a source names.
+fn folder(alloc: Global, source: &[u8]) -> Result<Vec<ClassFile>, Fail>
+    ensures few { IfOk result (λ classes. length classes.items ≡ 1) }
     ensures read { IfOk result (λ classes. All Holds classes.items) }
 {
-    if others.len() > 8 {
-        return Err(Fail::new("there are more classes"));
-    }
     let mut classes = Vec::new(alloc);
-    classes.push(class(alloc, main)?)?;
-    for other in others {
-        classes.push(class(alloc, other)?)?;
-    }
+    classes.push(class(alloc, source)?)?;
     Ok(classes)
 }
 
-/// The program of the source of one class and a model, linked with the core classes.
+/// The program of the source of the class `Main` and a model, linked with the core classes.
 pub(crate) fn linked(alloc: Global, source: &[u8], model: &[u8]) -> Result<Example, Fail>
     ensures bounded { IfOk result (λ example. IsBounded example.program) }
     ensures options { IfOk result (λ example. has_options (length example.model.options) example.program.fields ≡ true) }
     ensures lawful { IfOk result (λ example. IsModel example.model) }
 {
-    linked_with(alloc, source, &[], model)
-}
-
-/// The program of the source of `Main`, others beside it and a model, linked with the core classes.
-pub(crate) fn linked_with(
-    alloc: Global,
-    main: &[u8],
-    others: &[&[u8]],
-    model: &[u8],
-) -> Result<Example, Fail>
-    ensures bounded { IfOk result (λ example. IsBounded example.program) }
-    ensures options { IfOk result (λ example. has_options (length example.model.options) example.program.fields ≡ true) }
-    ensures lawful { IfOk result (λ example. IsModel example.model) }
-{
-    let classes = folder(alloc, main, others)?;
+    let classes = folder(alloc, source)?;
     let core = core(alloc)?;
     let model = read_model(alloc, model)?;
     linked_are_bounded();

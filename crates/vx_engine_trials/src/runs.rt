@@ -6,7 +6,7 @@ ghost use Rattle.vx_heap.specs.Heap.{has_options};
 ghost use Rattle.vx_model.specs.Models.{IsModel};
 
 use crate::cases::Case;
-use crate::programs::{Example, linked_with, names_of};
+use crate::programs::{Example, linked, names_of};
 use std::alloc::{AllocError, Global};
 use std::process::Abort;
 use std::test::Fail;
@@ -88,18 +88,7 @@ pub(crate) fn report_of<K: Picker>(
     case: &Case,
     picker: &mut K,
 ) -> Result<Vec<u8>, Fail> {
-    report_with(rt, alloc, case, &[], picker)
-}
-
-/// The same of a case with other classes beside `Main`, each by its source.
-pub(crate) fn report_with<K: Picker>(
-    rt: &impl Abort,
-    alloc: Global,
-    case: &Case,
-    others: &[&[u8]],
-    picker: &mut K,
-) -> Result<Vec<u8>, Fail> {
-    let example = linked_with(alloc, case.source, others, case.model)?;
+    let example = linked(alloc, case.source, case.model)?;
     let text = report_over_masks(rt, alloc, case, &example, picker)?;
     let again = report_over_diagrams(rt, alloc, case, &example, picker)?;
     assert!(rt; again.as_slice() == text.as_slice());

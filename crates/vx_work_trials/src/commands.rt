@@ -7,42 +7,10 @@ use std::process::Abort;
 use std::test::Fail;
 use vx_cli::varex;
 use vx_gen::workload;
-use vx_io::{MemorySink, SteadyFiles, SteadySink, are_distinct};
+use vx_io::{SteadyFiles, SteadySink, are_distinct};
 use vx_report_reader::read_report;
 use vx_summary::summary_text;
 use vx_writer::write_class;
-
-/// Words, and what has to come: the code, `out`, and `err`.
-const CASES: [(&str, u8, &str, &str); 13] = [
-    (
-        "load 3 1",
-        0,
-        "varexj load 1\nseed 3\noptions 1\nrounds 37\nnodes 2\npieces 2\nends 1\nall 3\\0a\nnone 0\\0a\ndone\n",
-        "",
-    ),
-    (
-        "load 3 2",
-        0,
-        "varexj load 1\nseed 3\noptions 2\nrounds 54\nnodes 5\npieces 3\nends 1\nall 2\\0a\nnone 0\\0a\ndone\n",
-        "",
-    ),
-    (
-        "load 5 3",
-        0,
-        "varexj load 1\nseed 5\noptions 3\nrounds 71\nnodes 9\npieces 4\nends 1\nall 3\\0a\nnone 0\\0a\ndone\n",
-        "",
-    ),
-    ("load 5 0", 2, "", "usage\n"),
-    ("load 5 65", 2, "", "usage\n"),
-    ("load 5 18446744073709551616", 2, "", "usage\n"),
-    ("load 18446744073709551616 3", 2, "", "usage\n"),
-    ("load 05 3", 2, "", "usage\n"),
-    ("load 5 -3", 2, "", "usage\n"),
-    ("load 5", 2, "", "usage\n"),
-    ("load 5 3 1", 2, "", "usage\n"),
-    ("load", 2, "", "usage\n"),
-    ("loads 5 3", 2, "", "usage\n"),
-];
 
 fn words(alloc: Global, text: &str) -> Result<Vec<String>, AllocError> {
     let mut words = Vec::new(alloc);
@@ -52,12 +20,11 @@ fn words(alloc: Global, text: &str) -> Result<Vec<String>, AllocError> {
     Ok(words)
 }
 
-/// What a command comes to: its code, and what is written.
+/// What a command comes to: its code, and what it writes.
 #[derive(Drop)]
 struct Answer {
     code: u8,
     out: SteadySink,
-    err: SteadySink,
 }
 
 fn called(rt: &impl Abort, alloc: Global, files: &mut SteadyFiles, text: &str) -> Answer {
@@ -68,7 +35,6 @@ fn called(rt: &impl Abort, alloc: Global, files: &mut SteadyFiles, text: &str) -
     Answer {
         code: status.code(),
         out,
-        err,
     }
 }
 
@@ -77,46 +43,6 @@ fn no_files(rt: &impl Abort, alloc: Global) -> SteadyFiles {
     let held = Vec::new(alloc);
     assert!(rt; are_distinct(held.as_slice()));
     SteadyFiles::new(alloc, held).expect(rt, "memory")
-}
-
-/// Whether a command without files comes to this code, and to this on `out` and on `err`.
-fn comes(rt: &impl Abort, alloc: Global, case: (&str, u8, &str, &str)) -> bool {
-    let (text, code, written, line) = case;
-    let mut files = no_files(rt, alloc);
-    let answer = called(rt, alloc, &mut files, text);
-    answer.code == code
-        && answer.out.written() == written.as_bytes()
-        && answer.err.written() == line.as_bytes()
-}
-
-/// Calls each of these commands, and aborts where one doesn't come to what it has to.
-fn all_come(rt: &impl Abort, alloc: Global, cases: &[(&str, u8, &str, &str)]) {
-    for &case in cases {
-        assert!(rt; comes(rt, alloc, case), "{case:?}");
-    }
-}
-
-#[test]
-fn summaries_and_refusals(rt: HostRuntime) {
-    all_come(&rt, rt.alloc(), &CASES);
-}
-
-/// A sink that takes at most 10 bytes at a time, of which the second call fails.
-fn failing_sink(rt: &impl Abort, alloc: Global) -> MemorySink {
-    let fails = Vec::from_slice(alloc, &[2]).expect(rt, "memory");
-    MemorySink::new(alloc, 10, fails).expect(rt, "memory")
-}
-
-#[test]
-fn a_sink_that_fails(rt: HostRuntime) {
-    let alloc = rt.alloc();
-    let words = words(alloc, "load 5 3").expect(&rt, "memory");
-    let mut files = no_files(&rt, alloc);
-    let mut out = failing_sink(&rt, alloc);
-    let mut err = SteadySink::new(alloc).expect(&rt, "memory");
-    let status = varex(alloc, &words, &mut files, &mut out, &mut err);
-    assert!(rt; status.code() == 4 && out.written() == b"varexj loa".as_slice());
-    assert!(rt; err.written() == b"write fault\n".as_slice());
 }
 
 /// The paths of the class files, in the order of the workload.

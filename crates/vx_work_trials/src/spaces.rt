@@ -19,7 +19,6 @@ use vx_linker::link;
 use vx_list::Items;
 use vx_model::{Model, allowed};
 use vx_program_bounds::linked_are_bounded;
-use vx_report_reader::read_report;
 use vx_reporting::report_findings;
 use vx_sched::LeastKey;
 use vx_space::{MaskSpace, Space};
@@ -113,34 +112,6 @@ fn is_same_in_both(rt: &impl Abort, alloc: Global, seed: u64, options: u32) -> R
     let text = report_in(rt, alloc, &example, &mut masks)?;
     let again = report_in(rt, alloc, &example, &mut diagrams)?;
     Ok(text.as_slice() == again.as_slice())
-}
-
-/// How many rounds, nodes and pieces the report of the workload has, over the space of diagrams.
-fn sizes(
-    rt: &impl Abort,
-    alloc: Global,
-    seed: u64,
-    options: u32,
-) -> Result<(u128, usize, usize), Fail>
-    requires least { 1 ≤ options }
-    requires most { options ≤ 64 }
-{
-    let example = linked_work(alloc, seed, options)?;
-    let count = example.model.options.len();
-    assert!(rt; count <= 64);
-    let mut diagrams = BddSpace::new(alloc, count as u32)?;
-    let text = report_in(rt, alloc, &example, &mut diagrams)?;
-    let report = read_report(alloc, text.as_slice())?;
-    Ok((report.rounds, report.nodes.len(), report.pieces.len()))
-}
-
-#[test]
-fn sizes_of_reports(rt: HostRuntime) -> Result<(), Fail> {
-    assert!(rt; sizes(&rt, rt.alloc(), 3, 1)? == (37, 2, 2));
-    assert!(rt; sizes(&rt, rt.alloc(), 3, 2)? == (54, 5, 3));
-    assert!(rt; sizes(&rt, rt.alloc(), 5, 3)? == (71, 9, 4));
-    assert!(rt; sizes(&rt, rt.alloc(), 11_400_714_819_323_198_485, 64)? == (1108, 253, 4));
-    Ok(())
 }
 
 #[test]
