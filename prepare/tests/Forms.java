@@ -8,7 +8,10 @@ import org.objectweb.asm.Label;
 import org.objectweb.asm.MethodVisitor;
 import org.objectweb.asm.Opcodes;
 
-/** Writes class files that javac doesn't make: Forms FOLDER writes FOLDER/old (subroutines), FOLDER/constant (a dynamic constant) and FOLDER/later. */
+/**
+ * Writes class files that javac doesn't make: Forms FOLDER writes FOLDER/old (subroutines), FOLDER/constant (a dynamic constant), FOLDER/later (Java 21),
+ * FOLDER/own (with a class of the machine's name) and FOLDER/crowd (more classes than the machine takes).
+ */
 public final class Forms {
     private static final String PRINT = "(Ljava/lang/String;)V";
 
@@ -76,7 +79,22 @@ public final class Forms {
         end(writer, main, folder, 1);
     }
 
+    private static void empty(Path folder, String name, int access) throws Exception {
+        ClassWriter writer = new ClassWriter(0);
+        writer.visit(Opcodes.V1_8, access, name, null, "java/lang/Object", null);
+        writer.visitEnd();
+        Path file = folder.resolve(name + ".class");
+        Files.createDirectories(file.getParent());
+        Files.write(file, writer.toByteArray());
+    }
+
     public static void main(String[] args) throws Exception {
+        later(Paths.get(args[0], "own"));
+        empty(Paths.get(args[0], "own"), "java/lang/Runnable", Opcodes.ACC_PUBLIC | Opcodes.ACC_INTERFACE | Opcodes.ACC_ABSTRACT);
+        later(Paths.get(args[0], "crowd"));
+        for (int at = 0; at < 1024; at++) {
+            empty(Paths.get(args[0], "crowd"), "C" + at, Opcodes.ACC_PUBLIC | Opcodes.ACC_SUPER);
+        }
         old(Paths.get(args[0], "old"));
         constant(Paths.get(args[0], "constant"));
         later(Paths.get(args[0], "later"));

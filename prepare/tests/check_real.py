@@ -6,7 +6,8 @@
     python3 check_real.py jars VAREXJ [NAME..]    the same of the programs in `jars`, over jars that nobody here wrote, as far as they stand on this computer
 
 A program is a folder with `src`; `words`, the words for `prepare`, a line each; where it has rules, `rules`, the model that is given to it; where it is not
-compiled for Java 17, `javac`, the words for javac; and, where an option is taken from a call, `ask`: how the original is asked instead.
+compiled for Java 17, `javac`, the words for javac; where an option is taken from a call, `ask`: how the original is asked instead; and `loose`: the facts `loose`
+that have to be told, no others.
 
 What is expected comes from the original classes on a Java machine, in each configuration. The prepared classes are run by varexj, and once more on the Java machine
 with its own class library in place of the one here, and so with its verifier. Each end `unsupported` has to have been told before, and a program without
@@ -33,6 +34,7 @@ import real
 
 LIMIT = '10000000'
 JAR_CONFIGURATIONS = 64
+PREPARE = os.path.join(TOP, 'prepare', 'prepare')
 JAVA = ['java', '-Xmx1g', '-XX:TieredStopAtLevel=1']
 
 
@@ -143,10 +145,14 @@ def asked(program, main, configurations, sources, bound, places, preview):
     return ''.join(f'config {configuration}\n{said[configuration]}' for configuration in configurations)
 
 
+def prepare(*words):
+    return subprocess.run([PREPARE, *words], capture_output=True, text=True)
+
+
 def prepared(program, original, out, model):
     words = [word for pair in program.words() for word in pair]
     words += ['--model', program.place('rules')] if program.text('rules') else []
-    done = subprocess.run([os.path.join(TOP, 'prepare', 'prepare'), '--out', out, '--model-out', model, *words, original, *program.jars()], capture_output=True, text=True)
+    done = prepare('--out', out, '--model-out', model, *words, original, *program.jars())
     if done.returncode not in (0, 1):
         raise RuntimeError(f'{program.name}: prepare: {done.stderr}')
     return done.stdout
@@ -156,11 +162,17 @@ def main_of(facts):
     return next(line.split(' ', 1)[1] for line in facts.splitlines() if line.startswith('main '))
 
 
+def compiled_original(program, room):
+    """Compiles the original into the room; gives whether it has features that are only previewed."""
+    original = os.path.join(room, 'original')
+    os.makedirs(original)
+    return program.compiled(original)
+
+
 def built(program, room, asks=True):
     """Compiles, prepares and asks; makes in the room classes, model, main, facts and expected."""
     original, out = os.path.join(room, 'original'), os.path.join(room, 'classes')
-    os.makedirs(original)
-    preview = program.compiled(original)
+    preview = compiled_original(program, room)
     facts = prepared(program, original, out, os.path.join(room, 'model'))
     main = main_of(facts)
     model = program.model(os.path.join(room, 'model'))
@@ -214,15 +226,28 @@ def is_part(said, text):
     return end.startswith('end unsupported ') and text.startswith('\n'.join(out))
 
 
-def judged(varexj, program, room):
-    """What is wrong with a program."""
-    facts, model, configurations, preview = built(program, room)
+def not_kept(program, room):
+    """What of a program isn't as it is kept."""
     for name in ('model', 'main', 'expected') if program.is_kept() else ():
         if not filecmp.cmp(os.path.join(room, name), program.place(name), shallow=False):
             yield f'{name} is not what is kept'
     if program.is_kept() and not same_folders(os.path.join(room, 'classes'), program.place('classes')):
         yield 'classes are not what is kept'
+
+
+def judged(varexj, program, room):
+    """What is wrong with a program."""
+    made = built(program, room)
+    yield from not_kept(program, room)
+    yield from misbehaved(varexj, program, room, *made)
+
+
+def misbehaved(varexj, program, room, facts, model, configurations, preview):
+    """What is wrong with what was prepared and told, over a room that `built` filled."""
     main, classes = main_of(facts), os.path.join(room, 'classes')
+    wanted = program.text('loose', None)
+    if wanted is not None and [line for line in facts.splitlines() if line.startswith('loose ')] != wanted.splitlines():
+        yield 'other places are loose'
     done = subprocess.run([varexj, 'run', classes, os.path.join(room, 'model'), main, LIMIT, '1'], capture_output=True)
     if done.returncode != 0:
         yield f'status {done.returncode}: {done.stderr.decode()}'
@@ -277,4 +302,5 @@ def main(words):
     return 1 if failed else 0
 
 
-sys.exit(main(sys.argv[1:]))
+if __name__ == '__main__':
+    sys.exit(main(sys.argv[1:]))

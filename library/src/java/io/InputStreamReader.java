@@ -1,5 +1,7 @@
 package java.io;
 
+import java.nio.charset.Charset;
+import java.nio.charset.StandardCharsets;
 import varexj.lang.StringMembers;
 import varexj.lang.Utf8;
 
@@ -21,6 +23,13 @@ public class InputStreamReader extends Reader {
         this(in);
         if (!StringMembers.equalsIgnoreCase("UTF-8", charset)) {
             otherCharset(charset);
+        }
+    }
+
+    public InputStreamReader(InputStream in, Charset charset) {
+        this(in);
+        if (!charset.equals(StandardCharsets.UTF_8)) {
+            otherCharset(charset.name());
         }
     }
 

@@ -1,5 +1,8 @@
 package java.io;
 
+import java.nio.charset.Charset;
+import java.nio.charset.StandardCharsets;
+
 import varexj.lang.Utf8;
 
 /** As in the class library, in UTF-8: bytes come through at a flush, at the end, and where 8,192 of them are there. */
@@ -20,6 +23,13 @@ public class OutputStreamWriter extends Writer {
         this(out);
         if (!varexj.lang.StringMembers.equalsIgnoreCase("UTF-8", charset)) {
             otherCharset(charset);
+        }
+    }
+
+    public OutputStreamWriter(OutputStream out, Charset charset) {
+        this(out);
+        if (!charset.equals(StandardCharsets.UTF_8)) {
+            otherCharset(charset.name());
         }
     }
 

@@ -57,7 +57,7 @@ public final class ObjectMembers {
         return object.equals(other);
     }
 
-    /** What {@code object.toString()} gives; the number behind the sign {@code @} of what has no text of its own is {@link #identityHashCode}. */
+    /** What {@code object.toString()} gives; the number behind the sign {@code @} of what has no text of its own is {@link #hashCode}. */
     public static String toString(Object object) {
         if (object instanceof Class) {
             return ClassMembers.toString((Class<?>) object);
@@ -96,9 +96,12 @@ public final class ObjectMembers {
         return number;
     }
 
-    /** What {@code super.toString()} gives where it leads to Object: the name of the class, the sign {@code @} and the number in hexadecimal. */
+    /**
+     * What {@code super.toString()} gives where it leads to Object: the name of the class, the sign {@code @} and the hash in hexadecimal, which is that of
+     * the class where it has one of its own.
+     */
     public static String identityToString(Object object) {
-        return nameOfClass(object).concat("@").concat(IntegerMembers.toHexString(identityHashCode(object)));
+        return nameOfClass(object).concat("@").concat(IntegerMembers.toHexString(hashCode(object)));
     }
 
     /** The next number for an object that is asked for its number for the first time, from 1 on. */

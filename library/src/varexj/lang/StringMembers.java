@@ -1,7 +1,9 @@
 package varexj.lang;
 
+import java.nio.charset.Charset;
 import java.util.Comparator;
 import java.util.Iterator;
+import java.util.Locale;
 
 /** The members of String that the machine doesn't have, as static methods of the text; {@code init} gives what a constructor would. */
 public final class StringMembers {
@@ -60,6 +62,20 @@ public final class StringMembers {
     public static String init(byte[] bytes, int offset, int count) {
         checkPart(offset, count, bytes.length);
         return Utf8.text(bytes, offset, count);
+    }
+
+    /** {@code new String(bytes, charset)}. */
+    public static String init(byte[] bytes, Charset charset) {
+        return init(bytes, 0, bytes.length, charset);
+    }
+
+    /** {@code new String(bytes, offset, count, charset)}. */
+    public static String init(byte[] bytes, int offset, int count, Charset charset) {
+        if (charset == null) {
+            throw new NullPointerException("charset");
+        }
+        checkPart(offset, count, bytes.length);
+        return Octets.text(bytes, offset, count, charset);
     }
 
     private static void checkPart(int offset, int count, int length) {
@@ -121,6 +137,11 @@ public final class StringMembers {
 
     /** {@code String.format(pattern, values)}. */
     public static String format(String pattern, Object... values) {
+        return Format.format(pattern, values);
+    }
+
+    /** {@code String.format(locale, pattern, values)}; each locale that is here writes numbers alike. */
+    public static String format(Locale locale, String pattern, Object... values) {
         return Format.format(pattern, values);
     }
 
@@ -316,6 +337,15 @@ public final class StringMembers {
         return Utf8.bytes(text);
     }
 
+    /** {@code text.getBytes(charset)}. */
+    public static byte[] getBytes(String text, Charset charset) {
+        text.length();
+        if (charset == null) {
+            throw new NullPointerException();
+        }
+        return Octets.of(text, charset);
+    }
+
     /** {@code text.split(expression)}. */
     public static String[] split(String text, String expression) {
         return split(text, expression, 0);
@@ -402,6 +432,20 @@ public final class StringMembers {
             }
         }
         return changed ? new String(units) : text;
+    }
+
+    /** {@code text.toLowerCase(locale)}; each locale that is here has the same cases. */
+    public static String toLowerCase(String text, Locale locale) {
+        text.length();
+        locale.getLanguage();
+        return toLowerCase(text);
+    }
+
+    /** {@code text.toUpperCase(locale)}. */
+    public static String toUpperCase(String text, Locale locale) {
+        text.length();
+        locale.getLanguage();
+        return toUpperCase(text);
     }
 
     /** {@code text.toUpperCase()}, where the language is none of Turkish, Azeri and Lithuanian. */

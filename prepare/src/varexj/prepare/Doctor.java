@@ -50,12 +50,42 @@ final class Doctor {
         return doctor.lacking;
     }
 
+    /** The hash of an object may be asked for, or its text with the hash in it, and that is a number which a Java machine chooses anew in each run. */
     private void identity() {
-        for (MethodNode each : node.methods) {
-            if (Objects.isIdentity(each) && reach.has(each) && world.origin(node.name) == World.Origin.PROGRAM) {
-                facts.add("loose identity " + node.name + ".toString -");
+        if (world.origin(node.name) == World.Origin.PROGRAM && reach.makes(node.name) && isNumbered(node.name)) {
+            loose(world.select(node.name, Objects.HASH, Objects.HASH_TYPE));
+            loose(world.select(node.name, Objects.TEXT, Objects.TEXT_TYPE));
+        }
+    }
+
+    private void loose(World.Member member) {
+        if (Objects.isIdentity(member.method) && reach.has(member.method)) {
+            facts.add("loose identity " + node.name + "." + member.method.name + " -");
+        }
+    }
+
+    /** Whether the hash of an object of this class is a number by first use. */
+    private boolean isNumbered(String type) {
+        World.Member hash = world.select(type, Objects.HASH, Objects.HASH_TYPE);
+        return hash != null && Objects.isIdentity(hash.method);
+    }
+
+    /** A call of the program that gives such a number, or a text with one in it. */
+    private void identity(MethodInsnNode at) {
+        boolean ofProgram = world.origin(node.name) == World.Origin.PROGRAM && reach.has(method) && !Objects.isIdentity(method);
+        boolean gives = at.name.equals("identityHashCode") || at.name.equals("identityToString") && isNumberedBelow(node.name);
+        if (ofProgram && gives && at.owner.startsWith("varexj/lang/")) {
+            facts.add("loose identity " + node.name + "." + method.name + " " + last);
+        }
+    }
+
+    private boolean isNumberedBelow(String type) {
+        for (ClassNode each : world.from(World.Origin.PROGRAM)) {
+            if (reach.makes(each.name) && world.isBelow(each.name, type) && isNumbered(each.name)) {
+                return true;
             }
         }
+        return false;
     }
 
     private void examine() {
@@ -158,6 +188,7 @@ final class Doctor {
         }
         boolean selects = at.getOpcode() == Opcodes.INVOKEVIRTUAL || at.getOpcode() == Opcodes.INVOKEINTERFACE;
         if (at.getOpcode() == Opcodes.INVOKESTATIC) {
+            identity(at);
             initialised(member.owner.name);
         }
         if (!selects || ofArray || !reach.has(method)) {

@@ -7,6 +7,7 @@ import java.nio.file.Files;
 import java.nio.file.Path;
 import java.nio.file.Paths;
 import java.util.Enumeration;
+import java.util.HashMap;
 import java.util.LinkedHashMap;
 import java.util.List;
 import java.util.Map;
@@ -28,6 +29,9 @@ final class Input {
     private static final int NEWEST = 65;
 
     final Map<String, ClassNode> classes = new LinkedHashMap<>();
+    /** By class: the number of the folder or jar that it is from, from 0 on. */
+    final Map<String, Integer> places = new HashMap<>();
+    private int count;
     /** The main class that the first jar with one names, or null. */
     String main;
 
@@ -42,6 +46,7 @@ final class Input {
         } catch (IOException | RuntimeException e) {
             throw e instanceof Refusal ? (Refusal) e : new Refusal(Refusal.UNREADABLE, "can't be read: " + place);
         }
+        count++;
     }
 
     private void readFolder(Path folder) throws IOException {
@@ -87,6 +92,7 @@ final class Input {
     private void take(byte[] data, String place) {
         ClassNode node = node(data, place);
         classes.putIfAbsent(node.name, node);
+        places.putIfAbsent(node.name, count);
     }
 
     /** The class of these bytes. Nothing in the format differs between the versions of Java 20 and 21. */

@@ -22,9 +22,10 @@ final class Objects {
     private static final String CLONEABLE = "java/lang/Cloneable";
     private static final String ITERATOR = "java/util/Iterator";
     private static final String NUMBER = "varexj$identity";
-    private static final String HASH = "hashCode";
-    private static final String TEXT = "toString";
-    private static final String TEXT_TYPE = "()Ljava/lang/String;";
+    static final String HASH = "hashCode";
+    static final String HASH_TYPE = "()I";
+    static final String TEXT = "toString";
+    static final String TEXT_TYPE = "()Ljava/lang/String;";
 
     private final World world;
     private final ClassNode node;
@@ -53,16 +54,15 @@ final class Objects {
             add(CLASS_OF);
             Emit code = Emit.in(node, Opcodes.ACC_PUBLIC, "varexjClass", "()Ljava/lang/Class;", 1);
             code.literal(node.name).op(Opcodes.ARETURN);
-            upToDate();
             iterator();
         }
-        if (first && isRefused(HASH, "()I")) {
+        if (first && isRefused(HASH, HASH_TYPE)) {
             hash();
         }
         trace();
         if (first && isRefused(TEXT, TEXT_TYPE)) {
             Emit code = Emit.in(node, Opcodes.ACC_PUBLIC, TEXT, TEXT_TYPE, 1);
-            code.load(0, self).call(Opcodes.INVOKESTATIC, Texts.NAME, "identity", "(Ljava/lang/Object;)Ljava/lang/String;").op(Opcodes.ARETURN);
+            code.load(0, self).call(Opcodes.INVOKESTATIC, MEMBERS, "identityToString", "(Ljava/lang/Object;)Ljava/lang/String;").op(Opcodes.ARETURN);
         }
     }
 
@@ -77,17 +77,12 @@ final class Objects {
         }
     }
 
-    /** Class literals came with class files of version 49. */
-    private void upToDate() {
-        node.version = Math.max(node.version & 0xffff, Opcodes.V1_5);
-    }
-
     /** A hash of its own, a number by first use. That of an enum is final on a Java machine: only the companion gives it. */
     private void hash() {
         if (world.isBelow(node.name, "java/lang/Enum")) {
             return;
         }
-        Emit code = Emit.in(node, Opcodes.ACC_PUBLIC, HASH, "()I", 3);
+        Emit code = Emit.in(node, Opcodes.ACC_PUBLIC, HASH, HASH_TYPE, 3);
         add(IDENTITY);
         node.visitField(Opcodes.ACC_PRIVATE | Emit.MADE, NUMBER, "I", null, null);
         code.load(0, self).call(Opcodes.INVOKEVIRTUAL, node.name, "varexjIdentity", "()I").op(Opcodes.IRETURN);
@@ -192,8 +187,9 @@ final class Objects {
         code.op(Opcodes.RETURN);
     }
 
-    /** Whether a method is one that was made for the number of an object or the text over it. */
+    /** Whether a method is the hash or the text that a class was given because it has none of its own. */
     static boolean isIdentity(MethodNode method) {
-        return (method.access & Opcodes.ACC_SYNTHETIC) != 0 && method.name.equals(TEXT) && method.desc.equals(TEXT_TYPE);
+        boolean isHash = method.name.equals(HASH) && method.desc.equals(HASH_TYPE);
+        return (method.access & Opcodes.ACC_SYNTHETIC) != 0 && (isHash || method.name.equals(TEXT) && method.desc.equals(TEXT_TYPE));
     }
 }

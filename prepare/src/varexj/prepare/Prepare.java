@@ -107,6 +107,7 @@ public final class Prepare {
         while (again) {
             again = false;
             for (ClassNode node : world.from(World.Origin.PROGRAM)) {
+                Missing.replace(world, library, node, facts);
                 String missing = missingAbove(node);
                 if (missing != null) {
                     facts.add("left-out " + node.name + " no super " + missing);
@@ -143,8 +144,13 @@ public final class Prepare {
             }
             return wanted;
         }
+        if (found.isEmpty()) {
+            throw new Refusal(Refusal.USAGE, "no class has a main");
+        }
+        int first = found.stream().mapToInt(input.places::get).min().getAsInt();
+        found.removeIf(name -> input.places.get(name) != first);
         if (found.size() != 1) {
-            throw new Refusal(Refusal.USAGE, found.isEmpty() ? "no class has a main" : "--main has to say which: " + String.join(", ", found));
+            throw new Refusal(Refusal.USAGE, "--main has to say which: " + String.join(", ", found));
         }
         return found.get(0);
     }

@@ -147,8 +147,8 @@ final class Redirects {
     /** hashCode and toString of Object. By `super` they are those of the identity, and never the virtual ones again. */
     private void refused(MethodInsnNode call, String owner, boolean bySuper) {
         if (bySuper) {
-            boolean isHash = call.name.equals("hashCode");
-            turnTo(call, isHash ? Objects.MEMBERS : Texts.NAME, isHash ? "identityHashCode" : "identity", with(World.OBJECT, call.desc));
+            String name = call.name.equals(Objects.HASH) ? "identityHashCode" : "identityToString";
+            turnTo(call, Objects.MEMBERS, name, with(World.OBJECT, call.desc));
         } else {
             toCompanion(call, owner);
         }

@@ -8,7 +8,6 @@ import org.objectweb.asm.tree.ClassNode;
 /** The made class through which texts, hashes and equality of any object go, so that arrays and class objects have them too. */
 final class Texts {
     static final String NAME = "varexj/made/Texts";
-    private static final String MEMBERS = "varexj/lang/ObjectMembers";
     private static final String STREAM = "java/io/PrintStream";
     private static final Type OBJECT = Type.getObjectType(World.OBJECT);
 
@@ -21,28 +20,16 @@ final class Texts {
         Label there = new Label();
         Emit of = Emit.in(node, access, "of", "(Ljava/lang/Object;)Ljava/lang/String;", 1);
         of.load(0, OBJECT).jump(Opcodes.IFNONNULL, there).text("null").op(Opcodes.ARETURN).same(there);
-        of.load(0, OBJECT).call(Opcodes.INVOKESTATIC, MEMBERS, "toString", "(Ljava/lang/Object;)Ljava/lang/String;").op(Opcodes.ARETURN);
+        of.load(0, OBJECT).call(Opcodes.INVOKESTATIC, Objects.MEMBERS, "toString", "(Ljava/lang/Object;)Ljava/lang/String;").op(Opcodes.ARETURN);
         through(node, Emit.BUILDER, "append", "Ljava/lang/StringBuilder;");
         through(node, STREAM, "print", "V");
         through(node, STREAM, "println", "V");
         Label some = new Label();
         Emit hash = Emit.in(node, access, "hash", "(Ljava/lang/Object;)I", 1);
         hash.load(0, OBJECT).jump(Opcodes.IFNONNULL, some).number(0).op(Opcodes.IRETURN).same(some);
-        hash.load(0, OBJECT).call(Opcodes.INVOKESTATIC, MEMBERS, "hashCode", "(Ljava/lang/Object;)I").op(Opcodes.IRETURN);
-        identity(Emit.in(node, access, "identity", "(Ljava/lang/Object;)Ljava/lang/String;", 2));
+        hash.load(0, OBJECT).call(Opcodes.INVOKESTATIC, Objects.MEMBERS, "hashCode", "(Ljava/lang/Object;)I").op(Opcodes.IRETURN);
         same(Emit.in(node, access, "same", "(Ljava/lang/Object;Ljava/lang/Object;)Z", 2));
         return node;
-    }
-
-    /** The text that Object gives: the name of the class, and the hash in hexadecimal, which may be the class's own. */
-    private static void identity(Emit code) {
-        String concat = "(Ljava/lang/String;)Ljava/lang/String;";
-        code.load(0, OBJECT).call(Opcodes.INVOKESTATIC, MEMBERS, "getClass", "(Ljava/lang/Object;)Ljava/lang/Class;");
-        code.call(Opcodes.INVOKESTATIC, "varexj/lang/ClassMembers", "getName", "(Ljava/lang/Class;)Ljava/lang/String;");
-        code.text("@").call(Opcodes.INVOKEVIRTUAL, Emit.STRING, "concat", concat);
-        code.load(0, OBJECT).call(Opcodes.INVOKESTATIC, MEMBERS, "hashCode", "(Ljava/lang/Object;)I");
-        code.call(Opcodes.INVOKESTATIC, "varexj/lang/IntegerMembers", "toHexString", "(I)Ljava/lang/String;");
-        code.call(Opcodes.INVOKEVIRTUAL, Emit.STRING, "concat", concat).op(Opcodes.ARETURN);
     }
 
     private static void same(Emit code) {

@@ -58,7 +58,9 @@ public class Main {
 
     public static void main(String[] args) {
         Part first = LOWER ? new Lower() : new Part(9);
+        int number = first.hashCode();
         Part second = first.clone();
+        System.out.println((number == second.hashCode()) + " " + (number == first.hashCode()));
         second.size = 1;
         second.marks[0] = 50;
         System.out.println(first + " " + second + " " + Part.made + " " + (second.getClass() == first.getClass()));

@@ -64,6 +64,18 @@ public class Main {
         }
     }
 
+    interface Named {
+        String name();
+
+        default Supplier<String> asked() {
+            return this::name;
+        }
+    }
+
+    static long coded(long unit) {
+        return unit + 1;
+    }
+
     private final int[] held = {1, 2};
 
     private int sum(int more) {
@@ -106,6 +118,11 @@ public class Main {
         ToLongFunction<Integer> widened = Main::wide;
         System.out.println(widened.applyAsLong(7));
         ToIntFunction<String> length = String::length;
+        ToLongFunction<String> wideLength = String::length;
+        Function<Character, Long> code = Main::coded;
+        System.out.println(wideLength.applyAsLong("abcd") + code.apply('c'));
+        Named named = () -> "named";
+        System.out.println(named.asked().get());
         Supplier<Integer> boxed = "four"::length;
         System.out.println(length.applyAsInt("abc") + boxed.get());
         IntFunction<int[]> array = int[]::new;

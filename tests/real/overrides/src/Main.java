@@ -35,6 +35,24 @@ public class Main {
         }
     }
 
+    static class Kept implements Iterator<Integer> {
+        @Override
+        public boolean hasNext() {
+            return true;
+        }
+
+        @Override
+        public Integer next() {
+            return 5;
+        }
+
+        @Override
+        public void remove() {
+            System.out.println("to be removed");
+            Iterator.super.remove();
+        }
+    }
+
     static class Backwards extends Range {
         Backwards(int to) {
             super(to);
@@ -162,6 +180,11 @@ public class Main {
             walk.remove();
         } catch (UnsupportedOperationException e) {
             System.out.println(e.getMessage());
+        }
+        try {
+            new Kept().remove();
+        } catch (UnsupportedOperationException e) {
+            System.out.println(e.getMessage() + " it");
         }
         walk.forEachRemaining(n -> System.out.println("left " + n));
         try {

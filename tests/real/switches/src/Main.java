@@ -33,6 +33,38 @@ public class Main {
         };
     }
 
+    static String length(String text) {
+        return switch (text) {
+            case "one" -> "1";
+            case String s && s.length() > 3 -> "long";
+            case String s -> s;
+        };
+    }
+
+    static String count(Integer n) {
+        return switch (n) {
+            case 5 -> "five";
+            case Integer i && i > 10 -> "many";
+            case Integer i -> "some";
+        };
+    }
+
+    static String unit(Character c) {
+        return switch (c) {
+            case 'c' -> "c";
+            case Character u && u > 'x' -> "late";
+            case Character u -> "unit";
+        };
+    }
+
+    static String size(Size size) {
+        return switch (size) {
+            case SMALL -> "small";
+            case Size s && s.ordinal() > 1 -> "above";
+            case Size s -> "between";
+        };
+    }
+
     static int word(String text) {
         switch (text) {
             case "Aa":
@@ -52,6 +84,8 @@ public class Main {
             System.out.println(tell(o));
         }
         System.out.println(rank(BIG ? Size.LARGE : Size.MEDIUM) + rank(Size.SMALL));
+        System.out.println(length(TEXT ? "one" : "four") + length("two") + count(BIG ? 50 : 5) + count(6) + unit('c') + unit('y') + unit('d'));
+        System.out.println(size(BIG ? Size.LARGE : Size.SMALL) + size(Size.MEDIUM));
         System.out.println(word("Aa") + word("BB") + word(TEXT ? "C" : "D"));
         System.out.println(rank(NONE ? null : Size.SMALL));
     }

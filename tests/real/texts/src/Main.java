@@ -43,6 +43,7 @@ public class Main {
         System.out.println(builder + " " + builder.indexOf("a") + builder.substring(2) + builder.reverse());
         System.out.println(new String(new char[] {'a', 'b', 'c', 'd'}, 1, 2) + Integer.toHexString(-1) + Integer.parseInt("-7f", 16) + Long.parseLong("123456789012"));
         System.out.println(Character.isDigit('7') + " " + Character.toUpperCase('q') + Character.isLetter('_') + Character.valueOf('z') + Integer.valueOf(77).hashCode());
+        System.out.println(String.CASE_INSENSITIVE_ORDER.compare("abc", "ABD") < 0);
         System.out.println("b".compareTo("abc") + "Hash".hashCode() + text.strip().length());
     }
 }
