@@ -66,7 +66,7 @@ class Tests:
         if name not in self.programs:
             place = os.path.join(self.room, name)
             os.mkdir(place)
-            program = (check_real.jar_programs if name == 'doctor' else check_real.real_programs)([name])[0]
+            program = (check_real.jar_programs if name.startswith('doctor') else check_real.real_programs)([name])[0]
             self.programs[name] = (program, place, check_real.compiled_original(program, place))
         return self.programs[name]
 

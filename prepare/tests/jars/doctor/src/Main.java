@@ -7,7 +7,7 @@ import java.util.Set;
 
 /** Each option comes to something that isn't there: its run prints what a Java machine prints, or ends unsupported, and that was told before. */
 public class Main {
-    static boolean INTERN, FLOAT, BOX, NATIVE, TREE, LETTER, CLASS, FIELD, THREAD, STREAM, ARRAY, CAST, TRACE, COPY, OUTPUT, HOME, PATH, VERSION, BODIES;
+    static boolean INTERN, FLOAT, BOX, NATIVE, TREE, LETTER, CLASS, FIELD, THREAD, STREAM, ARRAY, CAST, TRACE;
 
     static class Worker extends Thread {
         @Override
@@ -56,28 +56,6 @@ public class Main {
         public Throwable fillInStackTrace() {
             System.out.println("filled");
             return this;
-        }
-    }
-
-    static class Numbers implements java.util.PrimitiveIterator.OfInt {
-        @Override
-        public boolean hasNext() {
-            return true;
-        }
-
-        @Override
-        public int nextInt() {
-            return 4;
-        }
-    }
-
-    static class Copied extends RuntimeException implements Cloneable {
-        Copied(String text) {
-            super(text);
-        }
-
-        Object copy() throws CloneNotSupportedException {
-            return super.clone();
         }
     }
 
@@ -130,26 +108,6 @@ public class Main {
         }
         if (TRACE) {
             System.out.println(new Traced().getMessage());
-        }
-        if (COPY) {
-            System.out.println(((Copied) new Copied("copied").copy()).getMessage());
-        }
-        if (BODIES) {
-            java.util.Iterator<Integer> numbers = new Numbers();
-            System.out.println(numbers.next());
-        }
-        if (OUTPUT) {
-            Object o = System.out;
-            ((java.io.OutputStream) o).flush();
-        }
-        if (HOME) {
-            System.out.println(System.getProperty("user.home") == null);
-        }
-        if (PATH) {
-            System.out.println(System.getenv("PATH") == null);
-        }
-        if (VERSION) {
-            System.out.println(System.getProperty("java.version") == null);
         }
         if (NATIVE) {
             System.out.println(new Held().size());

@@ -1,0 +1,59 @@
+import java.io.OutputStream;
+import java.util.Iterator;
+import java.util.Locale;
+import java.util.PrimitiveIterator;
+
+/** As the doctor beside this: copies, streams, settings of the machine, and interfaces with bodies. */
+public class Main {
+    static boolean COPY, OUTPUT, HOME, PATH, VERSION, BODIES, LOCALE;
+
+    static class Copied extends RuntimeException implements Cloneable {
+        Copied(String text) {
+            super(text);
+        }
+
+        Object copy() throws CloneNotSupportedException {
+            return super.clone();
+        }
+    }
+
+    static class Numbers implements PrimitiveIterator.OfInt {
+        @Override
+        public boolean hasNext() {
+            return true;
+        }
+
+        @Override
+        public int nextInt() {
+            return 4;
+        }
+    }
+
+    public static void main(String[] args) throws Exception {
+        System.out.println("begin");
+        if (COPY) {
+            System.out.println(((Copied) new Copied("copied").copy()).getMessage());
+        }
+        if (LOCALE) {
+            System.out.println(Locale.FRENCH);
+        }
+        if (OUTPUT) {
+            Object o = System.out;
+            ((OutputStream) o).flush();
+        }
+        if (HOME) {
+            System.out.println(System.getProperty("user.home") == null);
+        }
+        if (PATH) {
+            System.out.println(System.getenv("PATH") == null);
+        }
+        if (VERSION) {
+            System.out.println(System.getProperty("java.version") == null);
+        }
+        if (BODIES) {
+            Iterator<Integer> numbers = new Numbers();
+            System.out.println(numbers.next());
+        }
+        System.out.println("end");
+    }
+}
