@@ -64,6 +64,17 @@ public class Main {
         }
     }
 
+    interface Taker<T> {
+        String take(T from);
+    }
+
+    interface TextTaker {
+        String take(String from);
+    }
+
+    interface Both extends Taker<String>, TextTaker {
+    }
+
     interface Named {
         String name();
 
@@ -121,6 +132,10 @@ public class Main {
         ToLongFunction<String> wideLength = String::length;
         Function<Character, Long> code = Main::coded;
         System.out.println(wideLength.applyAsLong("abcd") + code.apply('c'));
+        Both both = from -> "took " + from;
+        Taker<String> taker = both;
+        TextTaker textTaker = both;
+        System.out.println(taker.take("a") + textTaker.take("b"));
         Named named = () -> "named";
         System.out.println(named.asked().get());
         Supplier<Integer> boxed = "four"::length;
