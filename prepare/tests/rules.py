@@ -124,6 +124,6 @@ RULES = [
     rule('native methods are told', 'Doctor', 'lacks("native " + member.owner.name + "." + member.method.name + member.method.desc);', ';', 'doctor'),
     rule('interfaces with an initialiser are told', 'Doctor', 'lacks("class " + above.name);', ';', 'doctor'),
     rule('each method that a call may select is asked', 'Doctor', '                ending(target);', NONE, 'doctor'),
-    rule('what core methods call is come to', 'Reach', '            backCalls(method);', NONE, 'overrides'),
+    rule('what core methods call is come to', 'Reach', '            backCalls(method);', NONE, 'doctor_more'),
     rule('initialisers are come to', 'Reach', 'if (begun.add(node.name))', 'if (false)', 'properties'),
 ]

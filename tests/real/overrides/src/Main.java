@@ -1,3 +1,4 @@
+import java.io.StringWriter;
 import java.util.Iterator;
 import java.util.NoSuchElementException;
 import java.util.function.Consumer;
@@ -172,6 +173,7 @@ public class Main {
         each(lambda);
         CharSequence text = OWN ? new Text() : "xyz";
         System.out.println(text.subSequence(1, 2) + " " + text + " " + new StringBuilder("s").append(text, 0, 2).append(text));
+        System.out.println(new StringWriter().append(text, 1, 2).append('.').append(text, 0, 1));
         Item item = new Item(4);
         System.out.println(item + " " + (item.above() == item.above()) + item.equals(new Item(4)) + item.hashCode());
         Iterator<Integer> walk = new Range(2).iterator();

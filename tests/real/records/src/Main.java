@@ -79,7 +79,7 @@ public class Main {
     }
 
     public static void main(String[] args) {
-        Shape box = CUBE ? new Box(3) : new Box(1, 2, 3_000_000_000L);
+        Shape box = CUBE ? new Box(3) : new Box(1, 2, 30_000_000_000L);
         Shape ball = new Ball(NAMED ? "round" : null);
         Object[] all = {box, ball, new Nothing(), new Pair<>(box, 5).with("x"), new Own(4), new Pair<>(null, null), "text"};
         Set<Object> seen = new HashSet<>();

@@ -3,9 +3,9 @@ import java.util.Iterator;
 import java.util.Locale;
 import java.util.PrimitiveIterator;
 
-/** As the doctor beside this: copies, streams, settings of the machine, and interfaces with bodies. */
+/** As the doctor beside this: copies, streams, settings of the machine, interfaces with bodies, and what is called where an exception is made. */
 public class Main {
-    static boolean COPY, OUTPUT, HOME, PATH, VERSION, BODIES, LOCALE;
+    static boolean COPY, OUTPUT, HOME, PATH, VERSION, BODIES, LOCALE, CAUSE;
 
     static class Copied extends RuntimeException implements Cloneable {
         Copied(String text) {
@@ -26,6 +26,15 @@ public class Main {
         @Override
         public int nextInt() {
             return 4;
+        }
+    }
+
+    static class Weighed extends Exception {
+        private int weight = 5;
+
+        @Override
+        public String getMessage() {
+            return weight / 2.0 > 1 ? "heavy" : "light";
         }
     }
 
@@ -53,6 +62,9 @@ public class Main {
         if (BODIES) {
             Iterator<Integer> numbers = new Numbers();
             System.out.println(numbers.next());
+        }
+        if (CAUSE) {
+            System.out.println(new RuntimeException(new Weighed()).getMessage());
         }
         System.out.println("end");
     }
