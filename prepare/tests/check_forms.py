@@ -34,6 +34,7 @@ FORMS = {
                  'out before\\0a\nend unsupported native Main.varexj$dynamic$1()Ljava/lang/String; Main.main([Ljava/lang/String;)V@8\n'),
     'later': (['later'], 0, ['main Main', 'done 1 2 4'], LATER),
     'first': (['later', 'old'], 0, ['main Main'], LATER),
+    'beside': (['later', 'other'], 0, ['main Main'], LATER),
     'own': (['own'], 0, ['left-out java/lang/Runnable the machine has its own'], LATER),
     'crowd': (['crowd'], 1, ['lacks room for 1031 classes, of which the machine takes 1024: see --trim'], None),
     'trimmed': (['--trim', 'crowd'], 0, ['done 1 2 3'], LATER),
@@ -50,13 +51,15 @@ def prepare(*words):
 
 
 def made(forms):
-    """Fills the folder of forms: class files, and a jar with two of them, a second version of one, and parts that are no classes of it."""
+    """Fills the folder of forms: class files, a folder with two of them, and a jar with these, a second version of one, and parts that are no classes of it."""
     path = os.path.join(JARS, 'asm.jar')
     subprocess.run(['java', '-Xmx1g', '-XX:TieredStopAtLevel=1', '-cp', path, os.path.join(HERE, 'Forms.java'), forms], check=True)
     source = os.path.join(forms, 'Other.java')
     with open(source, 'w') as file:
         file.write(OTHER)
     subprocess.run(['javac', '-nowarn', '-Xlint:-options', '--release', '8', '-d', os.path.join(forms, 'other'), source], check=True)
+    shutil.copytree(os.path.join(forms, 'other'), os.path.join(forms, 'both'))
+    shutil.copyfile(os.path.join(forms, 'later', 'Main.class'), os.path.join(forms, 'both', 'Main.class'))
     with zipfile.ZipFile(os.path.join(forms, 'two.jar'), 'w') as jar:
         jar.writestr('META-INF/MANIFEST.MF', 'Manifest-Version: 1.0\r\nMain-Class: Main\r\n\r\n')
         jar.write(os.path.join(forms, 'other', 'Other.class'), 'Other.class')
@@ -113,7 +116,7 @@ def call_faults(room, forms):
     later, other = os.path.join(forms, 'later'), os.path.join(forms, 'other')
     calls = ((2, []), (2, ['--check']), (2, ['--out', os.path.join(room, 'x'), '--check', later]), (2, ['--check', '--main', 'None', later]),
              (2, ['--out', forms, later]), (3, ['--check', os.path.join(forms, 'nothing')]), (2, ['--check', '--option', 'A=field:Main.A', later]),
-             (2, ['--check', '--option', 'A=field:Other.FIXED', other]), (2, ['--check', later, other]),
+             (2, ['--check', '--option', 'A=field:Other.FIXED', other]), (2, ['--check', os.path.join(forms, 'both')]),
              (2, ['--check', '--option', 'A=colour:red', later]), (2, ['--check', '--option', 'A=call:Main.none', later]),
              (2, ['--check', '--loose', 'all', later]), (3, ['--check', '--model', os.path.join(room, 'none'), '--model-out', os.path.join(room, 'm'), later]))
     for status, words in calls:

@@ -153,7 +153,7 @@ def prepared(program, original, out, model):
     words = [word for pair in program.words() for word in pair]
     words += ['--model', program.place('rules')] if program.text('rules') else []
     done = prepare('--out', out, '--model-out', model, *words, original, *program.jars())
-    if done.returncode not in (0, 1):
+    if done.returncode not in (0, 1) or not re.search('^done ', done.stdout, re.M):
         raise RuntimeError(f'{program.name}: prepare: {done.stderr}')
     return done.stdout
 

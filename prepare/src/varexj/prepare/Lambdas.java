@@ -134,13 +134,11 @@ final class Lambdas {
         return size;
     }
 
-    /** What the made method calls: the static method of the lambda itself, or a bridge. */
+    /** What the made method calls: the static method of the lambda itself, which Nests opens, or a bridge. */
     private void chooseCall() {
         callOwner = outer.name;
         MethodNode own = target.getOwner().equals(outer.name) ? World.declared(outer, target.getName(), target.getDesc()) : null;
         if (target.getTag() == Opcodes.H_INVOKESTATIC && own != null && (own.access & Opcodes.ACC_SYNTHETIC) != 0) {
-            own.access &= ~Opcodes.ACC_PRIVATE;
-            own.access |= World.isInterface(outer) ? Opcodes.ACC_PUBLIC : 0;
             callName = own.name;
             callType = Type.getMethodType(own.desc);
             return;

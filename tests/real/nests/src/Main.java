@@ -24,10 +24,14 @@ public class Main {
             return "fixed";
         }
 
+        private String tail() {
+            return "tail" + rank();
+        }
+
         int rank();
 
         default String speak() {
-            return word() + fixed();
+            return word() + fixed() + tail();
         }
 
         class Helper {
@@ -45,11 +49,23 @@ public class Main {
         String ask() {
             return who();
         }
+
+        private String rest() {
+            return "upper rest";
+        }
+
+        String askRest() {
+            return rest();
+        }
     }
 
     static class Lower extends Upper implements Speaker {
         private String who() {
             return "lower";
+        }
+
+        String rest() {
+            return "lower rest";
         }
 
         String other() {
@@ -101,6 +117,7 @@ public class Main {
         Lower lower = new Lower();
         Upper upper = OTHER ? new Upper() : lower;
         System.out.println(upper.who() + upper.ask() + lower.other() + lower.who());
+        System.out.println(upper.askRest() + lower.rest());
         System.out.println(lower.speak() + Speaker.Helper.twice(lower));
         Hidden hidden = new Hidden("h");
         Hidden.Inner inner = hidden.new Inner();
