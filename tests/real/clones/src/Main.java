@@ -56,6 +56,53 @@ public class Main {
         }
     }
 
+    static class Shared implements Cloneable {
+        Object copy() throws CloneNotSupportedException {
+            return clone();
+        }
+    }
+
+    static class Counted extends Shared {
+        private int copies;
+
+        @Override
+        protected Object clone() throws CloneNotSupportedException {
+            Counted copy = (Counted) super.clone();
+            copy.copies++;
+            return copy;
+        }
+    }
+
+    static class Amount extends Number implements Cloneable {
+        private int whole = 12;
+
+        @Override
+        public int intValue() {
+            return whole;
+        }
+
+        @Override
+        public long longValue() {
+            return whole;
+        }
+
+        @Override
+        public float floatValue() {
+            throw new UnsupportedOperationException();
+        }
+
+        @Override
+        public double doubleValue() {
+            throw new UnsupportedOperationException();
+        }
+
+        Amount more() throws CloneNotSupportedException {
+            Amount copy = (Amount) super.clone();
+            copy.whole++;
+            return copy;
+        }
+    }
+
     public static void main(String[] args) {
         Part first = LOWER ? new Lower() : new Part(9);
         int number = first.hashCode();
@@ -69,6 +116,11 @@ public class Main {
             System.out.println(((Lower) first).inner == ((Lower) second).inner);
         }
         try {
+            Shared shared = LOWER ? new Counted() : new Shared();
+            Object copy = shared.copy();
+            System.out.println((copy == shared) + " " + (copy instanceof Counted ? ((Counted) copy).copies : 0));
+            Amount amount = new Amount();
+            System.out.println(amount.more().intValue() + " " + amount.longValue());
             new Plain().copy();
         } catch (CloneNotSupportedException e) {
             System.out.println(e.getMessage());

@@ -30,6 +30,13 @@ public class Main {
         }
     }
 
+    static class Passed extends RuntimeException {
+        @Override
+        public Throwable fillInStackTrace() {
+            return super.fillInStackTrace();
+        }
+    }
+
     static int depth(int n) throws Mine {
         try {
             if (n == 0) {
@@ -64,6 +71,11 @@ public class Main {
             Integer n = (Integer) o;
         } catch (ClassCastException e) {
             System.out.println("cast");
+        }
+        try {
+            throw new Passed();
+        } catch (Passed e) {
+            System.out.println(e + " " + (e.fillInStackTrace() == e));
         }
         try {
             throw new AssertionError(5);

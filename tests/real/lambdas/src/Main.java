@@ -83,6 +83,10 @@ public class Main {
         }
     }
 
+    static <T> T itself(T value) {
+        return value;
+    }
+
     static long coded(long unit) {
         return unit + 1;
     }
@@ -132,6 +136,8 @@ public class Main {
         ToLongFunction<String> wideLength = String::length;
         Function<Character, Long> code = Main::coded;
         System.out.println(wideLength.applyAsLong("abcd") + code.apply('c'));
+        ToIntFunction<Byte> itself = Main::itself;
+        System.out.println(itself.applyAsInt((byte) -7));
         Both both = from -> "took " + from;
         Taker<String> taker = both;
         TextTaker textTaker = both;

@@ -27,7 +27,8 @@ public class Main {
         int count = MANY ? 500 : 5;
         Integer boxed = new Integer(count);
         Boolean late = new Boolean(LATE);
-        System.out.println(boxed + " " + boxed.equals(count) + " " + late);
+        Integer length = new Integer(new StringBuilder("four").length());
+        System.out.println(boxed + " " + boxed.equals(count) + " " + late + length);
         System.out.println((System.nanoTime() - start >= 0) + " " + (System.currentTimeMillis() >= begun));
         if (LATE) {
             throw new IllegalStateException("late");

@@ -89,6 +89,7 @@ public class Main {
         System.out.println(new Box(3).equals(box) + " " + box.equals(box) + " " + box.equals(null) + " " + new Nothing().equals(new Nothing()));
         System.out.println(new Pair<>("a", 300).equals(new Pair<>("a", 300)) + " " + seen.contains(new Own(4)) + Ball.made);
         System.out.println(new Ball("x", false, 'c', (byte) 1, (short) 2).hashCode());
+        System.out.println(new Box(3, 3, 4).equals(new Box(3)) + " " + new Box(3).equals(new Box(3, 3, 4)));
         try {
             new Box(-1);
         } catch (IllegalArgumentException e) {

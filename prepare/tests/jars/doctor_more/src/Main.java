@@ -5,7 +5,7 @@ import java.util.PrimitiveIterator;
 
 /** As the doctor beside this: copies, streams, settings of the machine, interfaces with bodies, and what is called where an exception is made. */
 public class Main {
-    static boolean COPY, OUTPUT, HOME, PATH, VERSION, BODIES, LOCALE, CAUSE;
+    static boolean COPY, OUTPUT, HOME, PATH, VERSION, BODIES, LOCALE, CAUSE, LITERAL, GRID, CALL, FIELD, ABOVE;
 
     static class Copied extends RuntimeException implements Cloneable {
         Copied(String text) {
@@ -38,6 +38,18 @@ public class Main {
         }
     }
 
+    static class Held {
+        static int part = (int) (FIELD ? 2.5 : 0.5);
+    }
+
+    static class Above {
+        static int size = (int) (ABOVE ? 1.5 : 0.5);
+    }
+
+    static class Below extends Above {
+        static int part = ABOVE ? 3 : 4;
+    }
+
     public static void main(String[] args) throws Exception {
         System.out.println("begin");
         if (COPY) {
@@ -65,6 +77,21 @@ public class Main {
         }
         if (CAUSE) {
             System.out.println(new RuntimeException(new Weighed()).getMessage());
+        }
+        if (LITERAL) {
+            System.out.println(java.io.File.class == null);
+        }
+        if (GRID) {
+            System.out.println(new java.io.File[2][3].length);
+        }
+        if (CALL) {
+            System.out.println(Runtime.getRuntime() == null);
+        }
+        if (FIELD) {
+            System.out.println(Held.part);
+        }
+        if (ABOVE) {
+            System.out.println(Below.part);
         }
         System.out.println("end");
     }

@@ -15,7 +15,11 @@ public final class Main {
         }
 
         static boolean isDark() {
-            return Boolean.getBoolean("dark");
+            try {
+                return Boolean.getBoolean("dark");
+            } catch (IllegalStateException e) {
+                return false;
+            }
         }
     }
 

@@ -22,6 +22,22 @@ public class Main {
         }
     }
 
+    interface Pet {
+    }
+
+    static class Told {
+        @Override
+        public int hashCode() {
+            return 1;
+        }
+
+        @Override
+        public String toString() {
+            System.out.println("told");
+            return "told";
+        }
+    }
+
     static class Animal {
         final int legs;
 
@@ -75,6 +91,16 @@ public class Main {
         System.out.println(sounds);
         System.out.println(int[].class.getName() + String[].class.getSimpleName() + new int[0].getClass().getName() + "x".getClass());
         System.out.println(Cat.class.getCanonicalName() + " " + new IllegalStateException("y").getClass().getName());
+        class Local {
+        }
+        System.out.println(Local.class.getCanonicalName() + Local.class.getSimpleName() + anonymous.getClass().getCanonicalName());
+        System.out.println(Pet.class.getSuperclass() + " " + (Animal.class.getEnumConstants() == null) + (new Object().getClass() == Object.class));
+        StringBuilder none = null;
+        try {
+            none.append(new Told());
+        } catch (NullPointerException e) {
+            System.out.println("no builder");
+        }
         try {
             Object o = animal;
             Cat cat = Cat.class.cast(o);
