@@ -51,13 +51,11 @@ impl BddSpace {
             high: 0,
         };
         let mut nodes = Slab::new(alloc);
-        let never = nodes.insert(end)?;
-        // No entry is vacant then, so the next one is number 1.
-        nodes.shrink_to_fit();
-        nodes.reserve(1)?;
+        nodes.reserve(2)?;
+        let never = nodes.insert_reserved(end);
         let always = nodes.insert_reserved(end);
         if never != 0 || always != 1 {
-            unreachable!();
+            return Err(AllocError);
         }
         let table = Table {
             options,

@@ -1,3 +1,3 @@
 pub mod Inputs
-pub mod Sourced
+pub mod Lined
 pub mod Allowing

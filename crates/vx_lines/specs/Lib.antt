@@ -1,3 +1,2 @@
 pub mod Tables
 pub mod Lines
-pub mod Sources

@@ -10,4 +10,3 @@ mod unwinding;
 pub use making::exception;
 pub use next::Next;
 pub use throwing::{raise, throw};
-pub use unwinding::{handler_on_top, pass};

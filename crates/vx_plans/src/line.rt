@@ -148,6 +148,5 @@ pub fn put_line<E: Sink>(sink: &mut E, status: &Status) -> Result<(), SinkFault>
             ],
         ),
         Status::Unlike => put_all(sink, b"unlike\n"),
-        Status::NotJoinable => put_all(sink, b"not joinable\n"),
     }
 }

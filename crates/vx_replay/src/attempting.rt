@@ -34,9 +34,8 @@ pub struct Attempted {
     pub written: Option<Written>,
 }
 
-/// Carries out a beginning or a native method; another outcome stays. The only refusal is want of memory, after which nothing is said
-/// of the state.
-pub fn carried_out(
+/// Carries out a beginning or a native method; another outcome stays.
+fn carried_out(
     alloc: Global,
     program: &Program,
     tables: &Tables,
@@ -64,9 +63,8 @@ fn silent(next: Next) -> Attempted
     }
 }
 
-/// Where an outcome leads that has been carried out, and what it writes. Where it ends the run, the frames stand as before it. The only
-/// refusal is want of memory, after which nothing is said of the state.
-pub fn led(
+/// Where an outcome leads, and what it writes.
+fn led(
     alloc: Global,
     program: &Program,
     state: &mut State,

@@ -1,3 +1,3 @@
 pub mod Run
 pub mod Verify
-pub mod Retell
+pub mod Replay

@@ -1,2 +1,3 @@
+mod SignatureLaws
 mod FieldRows
 mod CallRows

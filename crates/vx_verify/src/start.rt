@@ -21,8 +21,7 @@ use vx_java::Sort;
 use vx_java::parts::{descriptor_of_method, flags_of_method};
 use vx_link::{AccessFlags, Program};
 use vx_numbered::EMPTY;
-use vx_references::signature_of_method;
-use vx_type_rows::{class_name_at, current_class, is_of};
+use vx_type_rows::{class_name_at, current_class, is_of, signature};
 use vx_types::{VerType, class_type, ref_of, type_of};
 use vx_value::MethodId;
 
@@ -156,7 +155,7 @@ fn given(
 {
     let mut numbers = receiver(alloc, store, program, method)?;
     let descriptor = descriptor_of_method(program, method);
-    let signature = signature_of_method(alloc, program, method)?;
+    let signature = signature(alloc, descriptor)?;
     let items = signature.arguments.as_slice();
     put_arguments(alloc, store, program, descriptor, items, &mut numbers)?;
     Ok(numbers)

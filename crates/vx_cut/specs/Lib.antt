@@ -1,4 +1,0 @@
-pub mod Choices
-pub mod Cuts
-pub mod Parts
-pub mod Texts

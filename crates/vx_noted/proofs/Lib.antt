@@ -1,5 +1,0 @@
-mod Attempted
-mod Passed
-mod Raised
-mod Turned
-mod Underway

@@ -1,4 +1,0 @@
-/** The option, on which nothing depends. */
-class Options {
-    static boolean A;
-}
