@@ -43,6 +43,7 @@ OWN = {
     'cover': ['cover-one-option', 'cover-mail'],
     'explain': ['explain-one-option', 'explain-mail'],
     'replay': ['replay-exit', 'replay-uncaught', 'replay-with-lines'],
+    'cut': ['cut-by-names', 'cut-by-number-with-a-report', 'cut-clauses', 'cut-unlike'],
     'load': ['workload-summary-3-options']}
 
 # Seeds and numbers of options of `load`; the last two are refused.

@@ -21,7 +21,7 @@ LACKING = 3
 # The words of each command that may be built, over files that aren't there.
 COMMANDS = {'run': ['f', 'm', 'Main', '1'], 'project': ['r', '-'], 'asm': ['s'], 'verify': ['f', 'm', 'Main'], 'interact': ['r'],
             'agree': ['r', 'o'], 'picture': ['r'], 'cover': ['r'], 'explain': ['r'], 'load': ['1', '1'],
-            'replay': ['f', 'm', 'Main', '1', '-'], '--help': [], '--version': []}
+            'replay': ['f', 'm', 'Main', '1', '-'], 'cut': ['m', '1'], '--help': [], '--version': []}
 USAGE = 2
 
 

@@ -11,6 +11,7 @@ the texts by its own means, and finds out at each setting of the options:
 - whether an end or piece depends on an option just where `interactions` says so;
 - whether a walk along the edges of the picture leads to `always` just where a piece or end comes;
 - whether the replay has the output, the end, and the frames and lines that the Java machine had in its configuration;
+- whether the trace is what the Java machine printed there;
 - whether the agreement holds just where the Java machine said the same of both versions.
 
 What isn't so is printed, and the status is then 1.
@@ -111,6 +112,13 @@ def replay_faults(text, said, traces):
         yield 'its frames'
 
 
+def trace_faults(text):
+    with open(os.path.join(os.path.dirname(HERE), 'traces', 'stacks', MAIL.name), encoding='utf-8') as file:
+        stacks = file.read()
+    if 'config %s\n%s' % (REPLAYED, text) not in re.split('(?=^config )', stacks, flags=re.M):
+        yield 'what it says'
+
+
 def agreement_faults(text, said, mended):
     agreement = Report(text)
     root = int(re.search(r'^agree (\d+)$', text, re.M).group(1))
@@ -134,6 +142,7 @@ def main():
         'interactions': list(interaction_faults(report, read('interactions'))),
         'picture.dot': list(picture_faults(report, read('picture.dot'))),
         'replay': list(replay_faults(read('replay'), said, traces)),
+        'trace': list(trace_faults(read('trace'))),
         'agreement': list(agreement_faults(read('agreement'), said, mended)),
     }
     for name, found in faults.items():

@@ -18,7 +18,7 @@ def compiled(program):
     classes = program.place('classes')
     shutil.rmtree(classes, ignore_errors=True)
     files = [path for _, path in sorted(program.sources().items())]
-    subprocess.run(['javac', '--release', '8', '-g:lines', '-Xlint:-options', '-d', classes] + files, check=True)
+    subprocess.run(['javac', '--release', '8', '-g:source,lines', '-Xlint:-options', '-d', classes] + files, check=True)
     return classes
 
 

@@ -23,12 +23,12 @@ fn main(rt: HostRuntime) -> ExitCode {
     let mut err = HostSink::err(rt.stderr());
     let words = match words(&rt, alloc) {
         Ok(words) => words,
-        // A word that is no text is a wrong use, as no words are.
-        Err(e) if e.kind() != ErrorKind::OutOfMemory => Vec::new(alloc),
-        Err(_) => {
+        Err(e) if e.kind() == ErrorKind::OutOfMemory => {
             let _ = put_line(&mut err, &Status::NoMemory);
             return ExitCode::from(Status::NoMemory.code());
         }
+        // A word that is no text is a wrong use, as no words are.
+        Err(_) => Vec::new(alloc),
     };
     let mut files = HostFiles::new(rt);
     let status = varex(alloc, &words, &mut files, &mut out, &mut err);

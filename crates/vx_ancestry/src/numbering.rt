@@ -77,7 +77,7 @@ impl Numbering {
 }
 
 /// The numbers of the places' components.
-pub fn component_numbers(
+pub(crate) fn component_numbers(
     alloc: Global,
     parents: &[Items<usize>],
 ) -> Result<Vec<usize>, AllocError> {

@@ -42,7 +42,7 @@ fn go_up(
 }
 
 /// For the places on a way from a place up to itself the next ones, where there is such a way. Each place is come to once.
-pub fn way_to(
+pub(crate) fn way_to(
     alloc: Global,
     parents: &[Items<usize>],
     place: usize,

@@ -11,7 +11,8 @@ use Rattle.vx_bdd.specs.declared.node.Node.{Node}
 use Rattle.vx_bdd.specs.Diagram.{node_at, is_stored}
 use Rattle.vx_bdd.specs.Table.{id_of, IsIndex, Grows}
 use Rattle.vx_bdd.specs.contracts.node.NodePartialEq.TheImpl as node_eq
-use Rattle.vx_bdd.proofs.TableLaws.{node_eq-refl, node_eq-exact, node_inside, some_same}
+use Rattle.vx_bdd.specs.Hashing.{node_eq-exact}
+use Rattle.vx_bdd.proofs.TableLaws.{node_eq-refl, node_inside, some_same}
 use Rattle.vx_bdd.specs.Marks.{Below, here, low, high, IsClosed, AddsBelow, AreMarked, IsMarking, KeepsMarked, AreStored, AreUnmarked, AreNodes, IsDropped, SlotsWithout, IndexWithout}
 
 pub Below-low : {slots : List (Option Node)} (id : ℕ) (node : Node) (x : ℕ) → node_at slots id ≡ Some node → Below slots node.low x → Below slots id x

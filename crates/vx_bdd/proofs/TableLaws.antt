@@ -1,33 +1,23 @@
 -- What a growing table keeps.
 use Rattle.std.proofs.Common.{◌≡◌, ◌≢◌, ℕ, ◌<◌, ◌≤◌, Bool, true, false, List, refl, sym, ◌∙◌, ap, subst, arith, zero, suc, inl, inr}
-use Rattle.std.specs.Prelude.{Option, Some, None, if◌then◌else◌, is_some, nat_eq, slice_index_or, ◌&&◌}
+use Rattle.std.specs.Prelude.{Option, Some, None, if◌then◌else◌, is_some, nat_eq, slice_index_or}
 use Rattle.std.proofs.lemmas.Bool.{cases_eq}
 use Rattle.std.proofs.lemmas.Bool.Decides.{nat_tests}
-use Rattle.std.proofs.lemmas.Map.Views.{exact_unsigned_eq}
 use Rattle.std.specs.HashMap.{HashMap}
 use Rattle.vx_space.specs.Config.{value_of}
 use Rattle.vx_bdd.specs.declared.node.Node.{Node}
 use Rattle.vx_bdd.specs.contracts.node.NodePartialEq.TheImpl as node_eq
 use Rattle.vx_bdd.specs.Diagram.{node_at, asked_of, walk, reaches, is_stored, level_of, level, IsNode, IsReduced}
-use Rattle.vx_bdd.specs.Canonical.{node_same, node_cases, walk-end, reaches-node}
+use Rattle.vx_bdd.specs.Canonical.{node_cases, walk-end, reaches-node}
+use Rattle.vx_bdd.specs.Hashing.{node_eq-exact}
 use Rattle.vx_bdd.specs.Table.{id_of, IsIndex, Grows, Stands, AreParts}
 
--- equal nodes compare equal, and nodes that compare equal are equal
+-- equal nodes compare equal
 pub node_eq-refl : (m : Node) → node_eq.ghosts.eq m m ≡ true
 node_eq-refl m = rw (nat_same m.option, nat_same m.low, nat_same m.high) refl
   where
     nat_same : (i : ℕ) → nat_eq i i ≡ true
     nat_same i = grind (arith, nat_tests)
-
-pub node_eq-exact : (m n : Node) → node_eq.ghosts.eq m n ≡ true → m ≡ n
-node_eq-exact m n e =
-    let first = and_parts (nat_eq m.option n.option) (nat_eq m.low n.low && nat_eq m.high n.high) e in
-    let rest = and_parts (nat_eq m.low n.low) (nat_eq m.high n.high) first.1 in
-    node_same m n (exact_unsigned_eq m.option n.option first.0) (exact_unsigned_eq m.low n.low rest.0) (exact_unsigned_eq m.high n.high rest.1)
-  where
-    and_parts : (a b : Bool) → (a && b) ≡ true → (a ≡ true) × (b ≡ true)
-    and_parts true b h = (refl, h)
-    and_parts false b h = cc
 
 pub some_same : {i j : ℕ} → Some i ≡ Some j → i ≡ j
 some_same e = cc
@@ -110,6 +100,11 @@ IsIndex-added {S = S} old new ids ids' id node s t x a = record {
     older : (b : Bool) (q : Node) (i : ℕ) → node_eq.ghosts.eq node q ≡ b → id_of ids q ≡ Some i → (if b then Some id else id_of ids q) ≡ Some i
     older true q i k e = cc (a.absent, ap (id_of ids) (node_eq-exact node q k), e)
     older false q i k e = e
+
+pub IsIndex-same : {S : Type 0} {ids ids' : HashMap Node ℕ S} (slots : List (Option Node)) → ids ≡ ids' → IsIndex slots ids' → IsIndex slots ids
+IsIndex-same {S = S} slots e x =
+    let P : HashMap Node ℕ S → Type 0 = λ m. IsIndex slots m in
+    subst P (sym e) x
 
 pub IsReduced-added : {S : Type 0} (options : ℕ) (old new : List (Option Node)) (ids ids' : HashMap Node ℕ S) (id : ℕ) (node : Node) → IsReduced options old → IsIndex old ids → IsNode options old node → IsAddedNode old new ids ids' id node → IsReduced options new
 IsReduced-added options old new ids ids' id node r x n a =

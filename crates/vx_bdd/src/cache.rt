@@ -17,14 +17,24 @@ const MOST: usize = 1048576;
 /// What each place says at first: each operation gives never of never and never.
 const NOTHING: Answer = Answer { a: 0, b: 0, id: 0 };
 
+/// How many answers come before the places are doubled, where so many of them are new, and there are so many in all: eight for each new
+/// one, or more than ever come where there are to be no more.
+fn answers_before_more(new: usize, all: usize) -> usize {
+    if all < MOST {
+        new.saturating_mul(8)
+    } else {
+        usize::MAX
+    }
+}
+
 /// Answers of one operation, at places that their ids name. Each place has one, which gives way to the next that comes to it, so an
 /// answer says no more than that it is right. The places are doubled when eight times as many answers have come, up to a bound: few
 /// places are soon looked at, and where answers give way too early, more come.
 #[derive(Drop)]
 pub struct Cache {
     pub answers: Vec<Answer>,
-    /// How many came since the cache was empty.
-    came: usize,
+    /// How many answers come before the places are doubled.
+    left: usize,
 }
 
 #[tactic(auto, using(crate::proofs::CacheLaws::cache_laws))]
@@ -35,7 +45,7 @@ impl Cache {
     {
         Cache {
             answers: Vec::new(alloc),
-            came: 0,
+            left: 0,
         }
     }
 
@@ -68,7 +78,7 @@ impl Cache {
         ensures { KeepsRight answer self.old.answers.items self.new.answers.items }
     {
         let _made = self.make_room();
-        self.came = self.came.saturating_add(1);
+        self.left = self.left.saturating_sub(1);
         self.place(answer);
     }
 
@@ -76,7 +86,7 @@ impl Cache {
     fn make_room(&mut self) -> Result<(), AllocError>
         ensures { AreStillRight self.old.answers.items self.new.answers.items }
     {
-        if self.came / 8 < self.answers.len() || self.answers.len() >= MOST {
+        if self.left > 0 {
             return Ok(());
         }
         self.grow()
@@ -87,8 +97,10 @@ impl Cache {
         ensures { AreStillRight self.old.answers.items self.new.answers.items }
     {
         let places = self.answers.len();
-        self.answers
-            .resize(places.saturating_mul(2).max(FEWEST), NOTHING)?;
+        let more = places.max(FEWEST);
+        let all = places.saturating_add(more);
+        self.answers.resize(all, NOTHING)?;
+        self.left = answers_before_more(more, all);
         for place in 0..places {
             self.place_again(place);
         }
@@ -126,6 +138,6 @@ impl Cache {
             return;
         }
         self.answers.clear();
-        self.came = 0;
+        self.left = 0;
     }
 }

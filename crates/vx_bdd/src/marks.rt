@@ -1,6 +1,6 @@
 //! Marks of ids.
 
-ghost use Rattle.std.specs.Prelude.{◌≡◌, ℕ, [], true, false, OnOk, if◌then◌else◌, nat_eq, slice_index_or};
+ghost use Rattle.std.specs.Prelude.{◌≡◌, ℕ, [], true, false, OnOk, ◌<◌, if◌then◌else◌, length, nat_eq, slice_index_or};
 ghost use Rattle.std.proofs.Props.{props};
 ghost use Rattle.vx_bdd.specs.Stamps.{has_stamp, AreUpTo};
 
@@ -50,6 +50,7 @@ impl Marks {
     fn reach(&mut self, id: usize) -> Result<(), AllocError>
         ensures stamps { (x : ℕ) → slice_index_or self.new.stamps.items x 0 ≡ slice_index_or self.old.stamps.items x 0 }
         ensures current { self.new.current ≡ self.old.current }
+        ensures reached { OnOk result (id < length self.new.stamps.items) }
     {
         if id < self.stamps.len() {
             return Ok(());
@@ -63,9 +64,6 @@ impl Marks {
         ensures { OnOk result ((x : ℕ) → has_stamp self.new.stamps.items self.new.current x ≡ (if nat_eq id x then true else has_stamp self.old.stamps.items self.old.current x)) }
     {
         self.reach(id)?;
-        if id >= self.stamps.len() {
-            return Err(AllocError);
-        }
         self.stamps[id] = self.current;
         Ok(())
     }

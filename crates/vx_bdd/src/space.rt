@@ -51,11 +51,13 @@ impl BddSpace {
             high: 0,
         };
         let mut nodes = Slab::new(alloc);
-        nodes.reserve(2)?;
-        let never = nodes.insert_reserved(end);
+        let never = nodes.insert(end)?;
+        // No entry is vacant then, so the next one is number 1.
+        nodes.shrink_to_fit();
+        nodes.reserve(1)?;
         let always = nodes.insert_reserved(end);
         if never != 0 || always != 1 {
-            return Err(AllocError);
+            unreachable!();
         }
         let table = Table {
             options,

@@ -14,6 +14,7 @@ use crate::node::Node;
 use slab::Slab;
 use std::alloc::{AllocError, Global};
 use std::collections::HashMap;
+use std::collections::hash_map::Entry;
 use vx_space::{Config, SpaceFault};
 
 /// The nodes by id, and the ids by node (the unique table). The ids 0 and 1 are never and always, which have no node.
@@ -40,14 +41,14 @@ impl Table {
         ensures grows { Grows self.old.nodes.slots self.new.nodes.slots }
         ensures ok { IfOk result (λ id. node_at self.new.nodes.slots id ≡ Some node) }
     {
-        match self.ids.get(&node) {
-            Some(id) => Ok(*id),
-            None => {
+        match self.ids.entry(node)? {
+            Entry::Occupied(entry) => Ok(*entry.get()),
+            Entry::Vacant(entry) => {
                 self.grown = true;
                 self.nodes.reserve(1)?;
-                let id = self.nodes.vacant_key();
-                self.ids.insert(node, id)?;
-                Ok(self.nodes.insert_reserved(node))
+                let id = self.nodes.insert_reserved(node);
+                entry.insert(id);
+                Ok(id)
             }
         }
     }

@@ -15,8 +15,8 @@ use Rattle.vx_report_reader.specs.Rules.{ReportText}
 use Rattle.vx_reporting.proofs.OneText.{one_text}
 use Rattle.vx_reporting.specs.Reported.{IsReported}
 use Rattle.vx_summary.specs.Summary.{summary_text}
-use Rattle.vx_cli.specs.Causes.{AreClasses, AreGiven, HasOneResult, IsAgreeing, IsReplaying, IsReport, IsResult, IsSaidOf, IsShown, IsTold, IsVerification}
-use Rattle.vx_commands.specs.Command.{Agree, Asm, Command, Load, Output, Project, Replay, Run, Show, Tell, Verify}
+use Rattle.vx_cli.specs.Causes.{AreClasses, AreGiven, HasOneResult, IsAgreeing, IsJoining, IsReport, IsResult, IsRetelling, IsSaidOf, IsShown, IsTold, IsVerification}
+use Rattle.vx_commands.specs.Command.{Agree, Asm, Command, Cut, Join, Load, Output, Project, Retell, Run, Show, Tell, Verify}
 use Rattle.vx_cli.specs.Ends.{Ends}
 use Rattle.vx_plans.specs.Job.{names_of, program_in}
 use Rattle.vx_plans.specs.Load.{IsSummary, load_limit, load_model, load_program}
@@ -24,7 +24,8 @@ use Rattle.vx_cli.specs.PlanOf.{plan_of}
 use Rattle.vx_report.specs.declared.report.Report.{Report}
 use Rattle.vx_report_commands.specs.Output.{printed}
 use Rattle.vx_report_commands.specs.Project.{projected}
-use Rattle.vx_run_commands.specs.Replay.{allowed_at, run_text, traced_program}
+use Rattle.vx_run_commands.specs.Retell.{allowed_at, retold_text, traced_program}
+use Rattle.vx_run_commands.specs.declared.words.Retelling.{Retelling}
 use Rattle.vx_inputs.specs.Folder.{class_paths}
 use Rattle.vx_inputs.specs.Traced.{traced_of}
 use Rattle.vx_plans.specs.Verdicts.{IsVerdictText}
@@ -32,7 +33,11 @@ use Rattle.vx_plans.specs.declared.status.Status.{Status}
 use Rattle.vx_plans.specs.declared.status.Status.TheVariants.{Done}
 use Rattle.vx_cli.proofs.FolderShown.{same_given}
 use Rattle.vx_run_commands.proofs.Judging.{one_verdict_text}
+use Rattle.vx_cli.proofs.JoinShown.{reports_same}
+use Rattle.vx_cli.proofs.CutShown.{one_parted}
 use Rattle.vx_cli.proofs.OneListing.{one_listing}
+use Rattle.vx_join.proofs.OneText.{one_joined_text}
+use Rattle.vx_join.specs.Text.{IsJoinedText}
 use Rattle.vx_cli.proofs.Shown.{call_shows}
 use Rattle.vx_plans.proofs.Told.{same_value}
 
@@ -59,18 +64,18 @@ one_verification held folder path main one other h k =
     (subst (λ c. program_in main h.model c ≡ Ok k.judged.program) (sym classes) (subst (λ m. program_in main m k.classes ≡ Ok k.judged.program) (sym model) k.judged.is_program)) in
     one_verdict_text h.judged.program one other h.judged.is_text (subst (λ p. IsVerdictText p other) (sym program) k.judged.is_text)
 
--- and so the same run of one configuration
-one_replay : (held : Held) (folder path main : List ℕ) (limit : ℕ) (word one other : List ℕ) → IsReplaying held folder path main limit word one → IsReplaying held folder path main limit word other → one ≡ other
-one_replay held folder path main limit word one other h k =
+-- and so the same is told of the run of one configuration
+one_retelling : (held : Held) (retelling : Retelling) (folder path main : List ℕ) (limit : ℕ) (word one other : List ℕ) → IsRetelling held retelling folder path main limit word one → IsRetelling held retelling folder path main limit word other → one ≡ other
+one_retelling held retelling folder path main limit word one other h k =
     let model : h.model ≡ k.model = same_value h.model k.model _ h.modeled.reads k.modeled.reads in
     let configuration : h.configuration ≡ k.configuration = same_value h.configuration k.configuration (allowed_at h.model word) h.allowed (subst (λ m. allowed_at m word ≡ Ok k.configuration) (sym model) k.allowed) in
     let listing = one_listing held folder h.all.listed.listing k.all.listed.listing h.all.listed.listed k.all.listed.listed in
     let paths : h.paths ≡ k.paths = h.all.listed.classes ∙ ap class_paths listing ∙ sym k.all.listed.classes in
     let traced : h.traced ≡ k.traced = same_given traced_of held folder h.paths h.traced k.traced h.all.good (subst (λ p. AreGiven traced_of held folder p k.traced) (sym paths) k.all.good) in
-    let program : h.replayed.program ≡ k.replayed.program = same_value h.replayed.program k.replayed.program (traced_program main h.model h.traced) h.replayed.is_program
-    (subst (λ t. traced_program main h.model t ≡ Ok k.replayed.program) (sym traced) (subst (λ m. traced_program main m k.traced ≡ Ok k.replayed.program) (sym model) k.replayed.is_program)) in
-    let texts : run_text limit h.configuration h.traced h.replayed.program ≡ run_text limit k.configuration k.traced k.replayed.program = λ i. run_text limit (configuration i) (traced i) (program i) in
-    h.replayed.is_text ∙ texts ∙ sym k.replayed.is_text
+    let program : h.retold.program ≡ k.retold.program = same_value h.retold.program k.retold.program (traced_program main h.model h.traced) h.retold.is_program
+    (subst (λ t. traced_program main h.model t ≡ Ok k.retold.program) (sym traced) (subst (λ m. traced_program main m k.traced ≡ Ok k.retold.program) (sym model) k.retold.is_program)) in
+    let texts : retold_text retelling limit h.configuration h.traced h.retold.program ≡ retold_text retelling limit k.configuration k.traced k.retold.program = λ i. retold_text retelling limit (configuration i) (traced i) (program i) in
+    h.retold.is_text ∙ texts ∙ sym k.retold.is_text
 
 one_said : (said : Report → Result (List ℕ) Status) (held : Held) (path one other : List ℕ) → IsSaidOf said held path one → IsSaidOf said held path other → one ≡ other
 one_said said held path one other h k =
@@ -88,6 +93,11 @@ one_agreeing held path against one other h k =
     let reference : h.against ≡ k.against = report_same (contents held against) h.against k.against h.is_other.spells k.is_other.spells in
     one_agreement_text h.report h.against one other h.is_text (subst (λ r. IsAgreementText r h.against other) (sym report) (subst (λ r. IsAgreementText k.report r other) (sym reference) k.is_text))
 
+one_joining : (held : Held) (paths : List (List ℕ)) (one other : List ℕ) → IsJoining held paths one → IsJoining held paths other → one ≡ other
+one_joining held paths one other h k =
+    let reports : h.reports ≡ k.reports = reports_same held paths h.reports k.reports h.are k.are in
+    one_joined_text h.reports one other h.is_text (subst (λ rs. IsJoinedText rs other) (sym reports) k.is_text)
+
 -- one report, and so one summary
 one_summary : (seed options : ℕ) (one other : List ℕ) → IsSummary seed options one → IsSummary seed options other → one ≡ other
 one_summary seed options one other h k =
@@ -103,10 +113,12 @@ one_result held (Project path word) one other p h k = one_said (λ r. projected 
 one_result held (Output path word stream) one other p h k = one_said (λ r. printed r stream word) held path one other h k
 one_result held (Tell telling path) one other p h k = one_telling held telling path one other p h k
 one_result held (Agree path against) one other p h k = one_agreeing held path against one other h k
+one_result held (Join paths) one other p h k = one_joining held paths one other h k
 one_result held (Asm path) one other p h k = same_value one other _ h.is_text k.is_text
 one_result held (Load seed options) one other p h k = one_summary seed options one other h k
 one_result held (Verify folder path main) one other p h k = one_verification held folder path main one other h k
-one_result held (Replay folder path main limit word) one other p h k = one_replay held folder path main limit word one other h k
+one_result held (Retell retelling folder path main limit word) one other p h k = one_retelling held retelling folder path main limit word one other h k
+one_result held (Cut model choice report) one other p h k = one_parted held model choice report one other p h k
 one_result held (Show page) one other p h k = h ∙ sym k
 
 -- a call that is done has written each text that its command asks for, of which there is one

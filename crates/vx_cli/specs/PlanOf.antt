@@ -1,13 +1,15 @@
 -- The plan of each command.
-use Rattle.vx_commands.specs.Command.{Command, Run, Project, Output, Tell, Agree, Asm, Load, Verify, Replay, Show}
+use Rattle.vx_commands.specs.Command.{Command, Run, Project, Output, Tell, Agree, Join, Asm, Load, Verify, Retell, Cut, Show}
+use Rattle.vx_cut_command.specs.Cut.{cut_plan}
 use Rattle.vx_report_commands.specs.Agree.{agree_plan}
 use Rattle.vx_report_commands.specs.Assemble.{asm_plan}
+use Rattle.vx_report_commands.specs.Join.{join_plan}
 use Rattle.vx_plans.specs.Job.{Exactly, Summary}
 use Rattle.vx_commands.specs.Pages.{page_text}
 use Rattle.vx_plans.specs.Plan.{Plan, Write}
 use Rattle.vx_report_commands.specs.Output.{output_plan}
 use Rattle.vx_report_commands.specs.Project.{project_plan}
-use Rattle.vx_run_commands.specs.Replay.{replay_plan}
+use Rattle.vx_run_commands.specs.Retell.{retell_plan}
 use Rattle.vx_run_commands.specs.Run.{run_plan}
 use Rattle.vx_report_commands.specs.Tell.{tell_plan}
 use Rattle.vx_run_commands.specs.Verify.{verify_plan}
@@ -18,8 +20,10 @@ plan_of (Project report configuration) = project_plan report configuration
 plan_of (Output report configuration stream) = output_plan report configuration stream
 plan_of (Tell telling report) = tell_plan telling report
 plan_of (Agree report other) = agree_plan report other
+plan_of (Join reports) = join_plan reports
 plan_of (Asm source) = asm_plan source
 plan_of (Load seed options) = Write (Summary seed options)
 plan_of (Verify folder model main) = verify_plan folder model main
-plan_of (Replay folder model main limit configuration) = replay_plan folder model main limit configuration
+plan_of (Retell retelling folder model main limit configuration) = retell_plan retelling folder model main limit configuration
+plan_of (Cut model choice report) = cut_plan model choice report
 plan_of (Show page) = Write (Exactly (page_text page))

@@ -2,7 +2,7 @@
 use Rattle.std.proofs.Common.{◌≡◌, ◌≢◌, ◌<◌, ◌≤◌, ◌+◌, ◌^◌, ℕ, List, [], ◌∷◌, codes, decimal, arith, length, get_or, drop, take, take_all, ◌-◌, ◌*◌, map, string_bytes, String, Global, ap, refl, subst, sym, ◌∙◌}
 use Rattle.std.specs.Prelude.{◌==◌, if◌then◌else◌, false, true, Option, Some, None}
 use Rattle.std.specs.Str.{bytes_eq}
-use Rattle.std.specs.Str.Parse.{AllDigits}
+use Rattle.std.specs.Str.Parse.{AllDigits, IsNumeral}
 use Rattle.std.proofs.lemmas.Fmt.{decimal_injective, decimal_is_IsNumeral}
 use Rattle.std.proofs.lemmas.Slice.Eq.{bytes_eq-Decides}
 use Rattle.std.proofs.lemmas.Str.Parse.{digit_from_value}
@@ -13,10 +13,16 @@ use Rattle.vx_people.specs.declared.telling.Telling.TheVariants.{Interactions, P
 use Rattle.vx_people.specs.Words.{IsTellingInRange, telling_words}
 use Rattle.vx_picture.specs.declared.shape.Drawn.{Drawn}
 use Rattle.vx_picture.specs.declared.shape.Drawn.TheVariants.{All, Ends, Piece}
-use Rattle.vx_commands.specs.Asked.{asked_words, telling_name}
-use Rattle.vx_commands.specs.Command.{Command, Run, Project, Output, Tell, Agree, Asm, Load, Verify, Replay, Show, AreWordsOf, IsLimit, IsSpelled, HasNoReading, IsStream, IsVersion, page_word}
+use Rattle.vx_commands.specs.Asked.{IsFromOne, asked_words, telling_name}
+use Rattle.vx_words.specs.Names.{begins_with_digit}
+use Rattle.std.specs.Char.{is_ascii_digit}
+use Rattle.std.proofs.lemmas.Bool.Decides.{nat_tests}
+use Rattle.vx_commands.specs.Command.{Command, Run, Project, Output, Tell, Agree, Join, Asm, Load, Verify, Retell, Cut, Show, AreWordsOf, IsChoiceInRange, IsLimit, IsSpelled, HasNoReading, IsStream, IsVersion, choice_word, page_word, report_words, retelling_word}
+use Rattle.vx_cut_command.specs.Cut.{Choice, Many, Named}
 use Rattle.vx_commands.specs.declared.page.Page.{Page}
 use Rattle.vx_commands.specs.declared.page.Page.TheVariants.{Help, Version}
+use Rattle.vx_run_commands.specs.declared.words.Retelling.{Retelling}
+use Rattle.vx_run_commands.specs.declared.words.Retelling.TheVariants.{Replay, Trace}
 
 -- the first three bytes of the first word, 0 for each that isn't there
 unfoldable pub first_code : List (List ℕ) → ℕ
@@ -39,6 +45,10 @@ unfoldable pub page_code : Page → ℕ
 page_code Help = 2960744
 page_code Version = 2960758
 
+unfoldable pub retelling_code : Retelling → ℕ
+retelling_code Replay = 7497072
+retelling_code Trace = 7631457
+
 -- by which the names of the commands differ
 unfoldable pub code_of : Command → ℕ
 code_of (Run folder model main limit version) = 7501166
@@ -48,9 +58,11 @@ code_of (Agree report other) = 6383474
 code_of (Asm source) = 6386541
 code_of (Load seed options) = 7106401
 code_of (Verify folder model main) = 7759218
-code_of (Replay folder model main limit configuration) = 7497072
+code_of (Retell retelling folder model main limit configuration) = retelling_code retelling
 code_of (Show page) = page_code page
 code_of (Output report configuration stream) = 7304564
+code_of (Join reports) = 6975337
+code_of (Cut model choice report) = 6518132
 
 -- the name of a telling
 pub telling_is : (telling : Telling) (rest : List (List ℕ)) → first_code (telling_name telling ∷ rest) ≡ telling_code telling
@@ -92,6 +104,26 @@ pub one_page : (p q : Page) → page_word p ≡ page_word q → p ≡ q
 one_page p q e =
     let same : page_code p ≡ page_code q = sym (page_is p []) ∙ ap (λ word. first_code (word ∷ [])) e ∙ page_is q [] in
     sym (page_back p) ∙ ap page_of same ∙ page_back q
+
+-- the word of a retelling
+pub retelling_is : (retelling : Retelling) (rest : List (List ℕ)) → first_code (retelling_word retelling ∷ rest) ≡ retelling_code retelling
+unfolding first_code retelling_code
+retelling_is Replay rest = refl
+retelling_is Trace rest = refl
+
+-- one word asks for one retelling
+retelling_of : ℕ → Retelling
+retelling_of n = if n == 7497072 then Replay else Trace
+
+retelling_back : (retelling : Retelling) → retelling_of (retelling_code retelling) ≡ retelling
+unfolding retelling_of retelling_code
+retelling_back Replay = refl
+retelling_back Trace = refl
+
+pub one_retelling : (r t : Retelling) → retelling_word r ≡ retelling_word t → r ≡ t
+one_retelling r t e =
+    let same : retelling_code r ≡ retelling_code t = sym (retelling_is r []) ∙ ap (λ word. first_code (word ∷ [])) e ∙ retelling_is t [] in
+    sym (retelling_back r) ∙ ap retelling_of same ∙ retelling_back t
 
 -- the number of a telling
 abbrev telling_kind : Telling → ℕ
@@ -165,9 +197,11 @@ code_is words (Agree r o) h = ap first_code h
 code_is words (Asm s) h = ap first_code h
 code_is words (Load s o) h = ap first_code h
 code_is words (Verify f m a) h = ap first_code h
-code_is words (Replay f m a l c) h = ap first_code h
+code_is words (Retell r f m a l c) h = ap first_code h ∙ retelling_is r (f ∷ m ∷ a ∷ decimal l ∷ c ∷ [])
 code_is words (Show p) h = ap first_code h ∙ page_is p []
 code_is words (Output r c s) h = ap first_code h.1
+code_is words (Join rs) h = ap first_code h
+code_is words (Cut m c r) h = ap first_code h
 
 -- the number of a command
 abbrev pub kind_of : Command → ℕ
@@ -178,17 +212,19 @@ kind_of (Agree r o) = 3
 kind_of (Asm s) = 4
 kind_of (Load s o) = 5
 kind_of (Verify f m a) = 6
-kind_of (Replay f m a l c) = 7
+kind_of (Retell r f m a l c) = 7
 kind_of (Show p) = 8
 kind_of (Output r c s) = 9
+kind_of (Join rs) = 10
+kind_of (Cut m c r) = 11
 
 -- of that whose name begins so
 pub kind_at : ℕ → ℕ
 kind_at n =
-    if n == 7501166 then 0 else (if n == 7369327 then 1 else (if n == 6383474 then 3 else (if n == 6386541 then 4 else (if n == 7106401 then 5 else (if n == 7759218 then 6 else (if n == 7497072 then 7 else (if n == 2960758 then 8 else (if n == 2960744 then 8 else (if n == 7304564 then 9 else 2)))))))))
+    if n == 7501166 then 0 else (if n == 7369327 then 1 else (if n == 6383474 then 3 else (if n == 6386541 then 4 else (if n == 7106401 then 5 else (if n == 7759218 then 6 else (if n == 7497072 then 7 else (if n == 7631457 then 7 else (if n == 2960758 then 8 else (if n == 2960744 then 8 else (if n == 7304564 then 9 else (if n == 6975337 then 10 else (if n == 6518132 then 11 else 2))))))))))))
 
 kind_back : (command : Command) → kind_at (code_of command) ≡ kind_of command
-unfolding kind_at code_of telling_code page_code
+unfolding kind_at code_of telling_code page_code retelling_code
 kind_back (Run f m a l v) = refl
 kind_back (Project r c) = refl
 kind_back (Tell Interactions r) = refl
@@ -202,10 +238,13 @@ kind_back (Agree r o) = refl
 kind_back (Asm s) = refl
 kind_back (Load s o) = refl
 kind_back (Verify f m a) = refl
-kind_back (Replay f m a l c) = refl
+kind_back (Retell Replay f m a l c) = refl
+kind_back (Retell Trace f m a l c) = refl
 kind_back (Show Help) = refl
 kind_back (Show Version) = refl
 kind_back (Output r c s) = refl
+kind_back (Join rs) = refl
+kind_back (Cut m c r) = refl
 
 -- the kind of a command is seen at its words
 pub kind_is : (words : List (List ℕ)) (command : Command) → AreWordsOf words command → kind_at (first_code words) ≡ kind_of command
@@ -218,6 +257,10 @@ tell_kind telling rest = ap kind_at (telling_is telling rest) ∙ kind_back (Tel
 show_kind : (page : Page) (rest : List (List ℕ)) → kind_at (first_code (page_word page ∷ rest)) ≡ 8
 unfolding page_code code_of
 show_kind page rest = ap kind_at (page_is page rest) ∙ kind_back (Show page)
+
+retell_kind : (retelling : Retelling) (rest : List (List ℕ)) → kind_at (first_code (retelling_word retelling ∷ rest)) ≡ 7
+unfolding retelling_code code_of
+retell_kind retelling rest = ap kind_at (retelling_is retelling rest) ∙ kind_back (Retell retelling [] [] [] 0 [])
 
 -- the words of two commands of different kinds differ
 pub one_kind : (words : List (List ℕ)) (a b : Command) → IsSpelled words a → IsSpelled words b → kind_of a ≡ kind_of b
@@ -240,6 +283,62 @@ pub no_output : (rest : List (List ℕ)) → ((r c : List ℕ) (stream : Stream)
 unfolding first_code kind_at
 no_output rest h (Output r c stream) s = h r c stream s
 no_output rest h command s = let e : 9 ≡ kind_of command = kind_is (codes "output" ∷ rest) command s.spelled in omega (arith, e)
+
+-- words behind `cut`
+pub no_cut : (rest : List (List ℕ)) → ((m : List ℕ) (c : Choice) (r : Option (List ℕ)) → IsSpelled (codes "cut" ∷ rest) (Cut m c r) → ⊥) → HasNoReading (codes "cut" ∷ rest)
+unfolding first_code kind_at
+no_cut rest h (Cut m c r) s = h m c r s
+no_cut rest h command s = let e : 11 ≡ kind_of command = kind_is (codes "cut" ∷ rest) command s.spelled in omega (arith, e)
+
+-- too few words
+pub few_cut : (rest : List (List ℕ)) → length rest < 2 → HasNoReading (codes "cut" ∷ rest)
+few_cut rest few = no_cut rest (λ m c r s.
+    let e = s.spelled in
+    let is : rest ≡ m ∷ choice_word c ∷ report_words r = cc in
+    let size : length rest ≡ 2 + length (report_words r) = ap length is ∙ omega arith in
+    omega (arith, size, few))
+
+-- the word behind the model chooses nothing
+pub no_chosen : (model word : List ℕ) (last : List (List ℕ)) → ((choice : Choice) → IsChoiceInRange choice → word ≢ choice_word choice) → HasNoReading (codes "cut" ∷ model ∷ word ∷ last)
+no_chosen model word last h = no_cut (model ∷ word ∷ last) (λ m c r s. let e = s.spelled in let is : word ≡ choice_word c = cc in h c s.in_range is)
+
+-- the words behind it are more than a report
+pub no_model_report : (model word : List ℕ) (last : List (List ℕ)) → ((report : Option (List ℕ)) → last ≢ report_words report) → HasNoReading (codes "cut" ∷ model ∷ word ∷ last)
+no_model_report model word last h = no_cut (model ∷ word ∷ last) (λ m c r s. let e = s.spelled in let is : last ≡ report_words r = cc in h r is)
+
+pub cuts : (model word : List ℕ) (last : List (List ℕ)) (choice : Choice) (report : Option (List ℕ)) → IsChoiceInRange choice → word ≡ choice_word choice → last ≡ report_words report → IsSpelled (codes "cut" ∷ model ∷ word ∷ last) (Cut model choice report)
+cuts model word last choice report range is also = record { spelled = λ i. codes "cut" ∷ model ∷ is i ∷ also i; in_range = range }
+
+-- a number begins with a digit
+digit_first : (ds : List ℕ) → IsNumeral 10 ds → begins_with_digit ds ≡ true
+digit_first [] h = absurd (omega (arith, h.0))
+digit_first (d ∷ ds) h = let is = digit_from_value d h.1.0 in grind (arith, nat_tests, is)
+
+pub number_first : (n : ℕ) → n < 2 ^ 64 → begins_with_digit (decimal n) ≡ true
+number_first n small = digit_first (decimal n) (decimal_is_IsNumeral n small).0
+
+-- one word chooses in one way
+pub one_choice : (a b : Choice) → IsChoiceInRange a → IsChoiceInRange b → choice_word a ≡ choice_word b → a ≡ b
+one_choice (Named w) (Named v) h k e = ap Named e
+one_choice (Named w) (Many n) h k e = let wrong : false ≡ true = sym h ∙ ap begins_with_digit e ∙ number_first n (omega (arith, k.1)) in cc (wrong)
+one_choice (Many m) (Named v) h k e = let wrong : false ≡ true = sym k ∙ ap begins_with_digit (sym e) ∙ number_first m (omega (arith, h.1)) in cc (wrong)
+one_choice (Many m) (Many n) h k e = ap Many (decimal_injective m n (omega (arith, h.1)) (omega (arith, k.1)) e)
+
+pub one_model_report : (a b : Option (List ℕ)) → report_words a ≡ report_words b → a ≡ b
+one_model_report None None e = refl
+one_model_report None (Some r) e = cc
+one_model_report (Some r) None e = cc
+one_model_report (Some r) (Some s) e = let same : r ≡ s = cc in ap Some same
+
+-- a word that begins with a digit, and spells no number of options
+pub no_choice : (word : List ℕ) → begins_with_digit word ≡ true → ((n : ℕ) → IsFromOne 16 n → word ≢ decimal n) → (choice : Choice) → IsChoiceInRange choice → word ≢ choice_word choice
+no_choice word digit none (Named w) h e = let wrong : true ≡ false = sym digit ∙ ap begins_with_digit e ∙ h in cc (wrong)
+no_choice word digit none (Many n) h e = none n h e
+
+-- more words than a report
+pub no_report_words : (rest : List (List ℕ)) → 2 ≤ length rest → (report : Option (List ℕ)) → rest ≢ report_words report
+no_report_words rest many None e = omega (arith, many, ap length e)
+no_report_words rest many (Some r) e = omega (arith, many, ap length e)
 
 -- words behind the name of a telling
 pub no_tell : (telling : Telling) (rest : List (List ℕ)) → ((u : Telling) (r : List ℕ) → IsSpelled (telling_name telling ∷ rest) (Tell u r) → ⊥) → HasNoReading (telling_name telling ∷ rest)
@@ -290,6 +389,12 @@ unfolding first_code kind_at
 no_agree rest h (Agree r o) s = let e = s.spelled in let is : rest ≡ r ∷ o ∷ [] = cc in h (ap length is)
 no_agree rest h command s = let e : 3 ≡ kind_of command = kind_is (codes "agree" ∷ rest) command s.spelled in omega (arith, e)
 
+-- words behind `join` that spell no join
+pub no_join : (rest : List (List ℕ)) → length rest < 2 → HasNoReading (codes "join" ∷ rest)
+unfolding first_code kind_at
+no_join rest few (Join rs) s = let e = s.spelled in let is : rest ≡ rs = cc in let size = ap length is in let least = s.in_range in omega (arith, size, few, least)
+no_join rest few command s = let e : 10 ≡ kind_of command = kind_is (codes "join" ∷ rest) command s.spelled in omega (arith, e)
+
 -- words behind `asm` that spell no assembly
 pub no_asm : (rest : List (List ℕ)) → (length rest ≡ 1 → ⊥) → HasNoReading (codes "asm" ∷ rest)
 unfolding first_code kind_at
@@ -328,35 +433,37 @@ unfolding first_code kind_at
 no_verify rest h (Verify f m a) s = let e = s.spelled in let is : rest ≡ f ∷ m ∷ a ∷ [] = cc in h (ap length is)
 no_verify rest h command s = let e : 6 ≡ kind_of command = kind_is (codes "verify" ∷ rest) command s.spelled in omega (arith, e)
 
--- words behind `replay`
-pub no_replay : (rest : List (List ℕ)) → ((f m a : List ℕ) (l : ℕ) (c : List ℕ) → IsSpelled (codes "replay" ∷ rest) (Replay f m a l c) → ⊥) → HasNoReading (codes "replay" ∷ rest)
-unfolding first_code kind_at
-no_replay rest h (Replay f m a l c) s = h f m a l c s
-no_replay rest h command s = let e : 7 ≡ kind_of command = kind_is (codes "replay" ∷ rest) command s.spelled in omega (arith, e)
+-- words behind that of a retelling
+pub no_retell : (retelling : Retelling) (rest : List (List ℕ)) → ((r : Retelling) (f m a : List ℕ) (l : ℕ) (c : List ℕ) → IsSpelled (retelling_word retelling ∷ rest) (Retell r f m a l c) → ⊥) → HasNoReading (retelling_word retelling ∷ rest)
+no_retell t rest h (Retell r f m a l c) s = h r f m a l c s
+no_retell t rest h command s = let e : 7 ≡ kind_of command = sym (retell_kind t rest) ∙ kind_is (retelling_word t ∷ rest) command s.spelled in omega (arith, e)
 
 -- not five words
-pub other_than_five : (rest : List (List ℕ)) → (length rest ≡ 5 → ⊥) → HasNoReading (codes "replay" ∷ rest)
-other_than_five rest h = no_replay rest (λ f m a l c s. let e = s.spelled in let is : rest ≡ f ∷ m ∷ a ∷ decimal l ∷ c ∷ [] = cc in h (ap length is))
+pub other_than_five : (retelling : Retelling) (rest : List (List ℕ)) → (length rest ≡ 5 → ⊥) → HasNoReading (retelling_word retelling ∷ rest)
+other_than_five t rest h = no_retell t rest (λ r f m a l c s. let e = s.spelled in let is : rest ≡ f ∷ m ∷ a ∷ decimal l ∷ c ∷ [] = cc in h (ap length is))
 
 -- the word behind the main class is no number of attempts
-pub no_replay_limit : (folder model main limit configuration : List ℕ) → ((n : ℕ) → IsLimit n → limit ≢ decimal n) → HasNoReading (codes "replay" ∷ folder ∷ model ∷ main ∷ limit ∷ configuration ∷ [])
-no_replay_limit folder model main limit configuration h = no_replay (folder ∷ model ∷ main ∷ limit ∷ configuration ∷ []) (λ f m a l c spelled.
+pub no_retell_limit : (retelling : Retelling) (folder model main limit configuration : List ℕ) → ((n : ℕ) → IsLimit n → limit ≢ decimal n) → HasNoReading (retelling_word retelling ∷ folder ∷ model ∷ main ∷ limit ∷ configuration ∷ [])
+no_retell_limit t folder model main limit configuration h = no_retell t (folder ∷ model ∷ main ∷ limit ∷ configuration ∷ []) (λ r f m a l c spelled.
     let e = spelled.spelled in
     let is : limit ≡ decimal l = cc in
     h l spelled.in_range is)
 
 -- a first word that names no command
-pub no_command : (name : List ℕ) (rest : List (List ℕ)) → (name ≡ codes "run" → ⊥) → (name ≡ codes "project" → ⊥) → (name ≡ codes "agree" → ⊥) → (name ≡ codes "asm" → ⊥) → (name ≡ codes "load" → ⊥) → (name ≡ codes "verify" → ⊥) → (name ≡ codes "replay" → ⊥) → (name ≡ codes "output" → ⊥) → ((page : Page) → name ≢ page_word page) → ((telling : Telling) → name ≢ telling_name telling) → HasNoReading (name ∷ rest)
-no_command name rest run project agree asm load verify replay output show tell (Run f m a l v) s = let e = s.spelled.1 in run cc
-no_command name rest run project agree asm load verify replay output show tell (Project r c) s = let e = s.spelled in project cc
-no_command name rest run project agree asm load verify replay output show tell (Tell t r) s = let e = s.spelled ∙ telling_parts t r in tell t cc
-no_command name rest run project agree asm load verify replay output show tell (Agree r o) s = let e = s.spelled in agree cc
-no_command name rest run project agree asm load verify replay output show tell (Asm t) s = let e = s.spelled in asm cc
-no_command name rest run project agree asm load verify replay output show tell (Load x o) s = let e = s.spelled in load cc
-no_command name rest run project agree asm load verify replay output show tell (Verify f m a) s = let e = s.spelled in verify cc
-no_command name rest run project agree asm load verify replay output show tell (Replay f m a l c) s = let e = s.spelled in replay cc
-no_command name rest run project agree asm load verify replay output show tell (Output r c t) s = let e = s.spelled.1 in output cc
-no_command name rest run project agree asm load verify replay output show tell (Show p) s = let e = s.spelled in show p cc
+pub no_command : (name : List ℕ) (rest : List (List ℕ)) → (name ≡ codes "run" → ⊥) → (name ≡ codes "project" → ⊥) → (name ≡ codes "agree" → ⊥) → (name ≡ codes "asm" → ⊥) → (name ≡ codes "load" → ⊥) → (name ≡ codes "verify" → ⊥) → (name ≡ codes "replay" → ⊥) → (name ≡ codes "output" → ⊥) → (name ≡ codes "trace" → ⊥) → (name ≡ codes "join" → ⊥) → (name ≡ codes "cut" → ⊥) → ((page : Page) → name ≢ page_word page) → ((telling : Telling) → name ≢ telling_name telling) → HasNoReading (name ∷ rest)
+no_command name rest run project agree asm load verify replay output trace join cut show tell (Run f m a l v) s = let e = s.spelled.1 in run cc
+no_command name rest run project agree asm load verify replay output trace join cut show tell (Project r c) s = let e = s.spelled in project cc
+no_command name rest run project agree asm load verify replay output trace join cut show tell (Tell t r) s = let e = s.spelled ∙ telling_parts t r in tell t cc
+no_command name rest run project agree asm load verify replay output trace join cut show tell (Agree r o) s = let e = s.spelled in agree cc
+no_command name rest run project agree asm load verify replay output trace join cut show tell (Asm t) s = let e = s.spelled in asm cc
+no_command name rest run project agree asm load verify replay output trace join cut show tell (Load x o) s = let e = s.spelled in load cc
+no_command name rest run project agree asm load verify replay output trace join cut show tell (Verify f m a) s = let e = s.spelled in verify cc
+no_command name rest run project agree asm load verify replay output trace join cut show tell (Retell Replay f m a l c) s = let e = s.spelled in replay cc
+no_command name rest run project agree asm load verify replay output trace join cut show tell (Retell Trace f m a l c) s = let e = s.spelled in trace cc
+no_command name rest run project agree asm load verify replay output trace join cut show tell (Output r c t) s = let e = s.spelled.1 in output cc
+no_command name rest run project agree asm load verify replay output trace join cut show tell (Join rs) s = let e = s.spelled in join cc
+no_command name rest run project agree asm load verify replay output trace join cut show tell (Cut m c r) s = let e = s.spelled in cut cc
+no_command name rest run project agree asm load verify replay output trace join cut show tell (Show p) s = let e = s.spelled in show p cc
 
 -- a word that another one isn't
 pub not_word : (shown name word : List ℕ) → shown ≡ name → false ≡ bytes_eq shown word → name ≡ word → ⊥
@@ -371,8 +478,10 @@ no_words (Agree r o) s = let e = s.spelled in cc
 no_words (Asm t) s = let e = s.spelled in cc
 no_words (Load x o) s = let e = s.spelled in cc
 no_words (Verify f m a) s = let e = s.spelled in cc
-no_words (Replay f m a l c) s = let e = s.spelled in cc
+no_words (Retell r f m a l c) s = let e = s.spelled in cc
 no_words (Output r c t) s = let e = s.spelled.1 in cc
+no_words (Join rs) s = let e = s.spelled in cc
+no_words (Cut m c r) s = let e = s.spelled in cc
 no_words (Show p) s = let e = s.spelled in cc
 
 -- too few words behind `run`

@@ -29,11 +29,15 @@ const HELP: &[u8] =
 \x20 varexj picture REPORT [ends|N]   a diagram of it, its ends or piece N, for Graphviz\n\
 \x20 varexj page REPORT               a page that shows it in a browser\n\
 \x20 varexj agree REPORT OTHER        where two reports say the same\n\
+\x20 varexj join REPORT OTHER..       one report out of several, of parts of a model\n\
 \x20 varexj asm SOURCE                the class file that a source names\n\
 \x20 varexj load SEED OPTIONS         the size of a report of a program made for trials\n\
 \x20 varexj verify FOLDER MODEL MAIN  whether each method has a typing\n\
 \x20 varexj replay FOLDER MODEL MAIN LIMIT CONFIG  how one configuration runs, and the lines\n\
 \x20                                               of source where it ends\n\
+\x20 varexj trace FOLDER MODEL MAIN LIMIT CONFIG   the stack trace of its end, as in Java\n\
+\x20 varexj cut MODEL A,B|N [REPORT]  models that divide what MODEL allows, by options A\n\
+\x20                                  and B, or by N options\n\
 \x20 varexj --help, varexj --version  this page, and the version\n\
 \n\
 FOLDER  a folder of class files of Java 8 or before\n\
@@ -48,7 +52,7 @@ Exit codes, with one line on the standard error for each but 0:\n\
 \x20 0 done          4 write fault        8 bad link      12 bad source\n\
 \x20 1 no memory     5 bad model         10 bad report    13 too large\n\
 \x20 2 usage         6 no configuration  11 not allowed   14 unlike\n\
-\x20 3 read fault    7 bad class\n\
+\x20 3 read fault    7 bad class                          18 not joinable\n\
 \n\
 Example: varexj run classes shop.cnf shop.Main 100000 > shop.report\n\
 \x20        varexj explain shop.report\n";

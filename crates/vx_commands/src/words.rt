@@ -1,20 +1,24 @@
 //! The words of a command. Reading them takes no memory.
 
-ghost use Rattle.std.specs.Prelude.{◌≡◌, ◌≢◌, ◌<◌, ◌^◌, ℕ, [], map, string_bytes, MatchOption, decimal, codes, ◌∷◌, Some};
+ghost use Rattle.std.specs.Prelude.{◌≡◌, ◌≢◌, ◌<◌, ◌^◌, ℕ, List, Option, [], map, option_map, string_bytes, MatchOption, decimal, codes, ◌∷◌, Some};
 ghost use Rattle.vx_commands.specs.Asked.{IsFromOne, asked_words, telling_name};
-ghost use Rattle.vx_commands.specs.Command.{HasNoReading, IsLimit, IsSpelled, IsStream, IsVersion, command_of, page_word};
+ghost use Rattle.vx_commands.specs.Command.{HasNoReading, IsChoiceInRange, IsLimit, IsSpelled, IsStream, IsVersion, choice_word, command_of, page_word, report_words, retelling_word};
 ghost use Rattle.vx_commands.specs.declared.page.Page as shown;
+ghost use Rattle.vx_cut_command.specs.Cut as cut;
+ghost use Rattle.vx_cut_command.specs.Words.{choice_of};
 ghost use Rattle.vx_people.specs.Words.{IsTellingInRange};
 ghost use Rattle.vx_people.specs.declared.telling.Telling as asked;
 ghost use Rattle.vx_people.specs.declared.telling.Telling.TheVariants.{Picture};
 ghost use Rattle.vx_picture.specs.declared.shape.Drawn as drawn;
 ghost use Rattle.vx_value.specs.declared.end.Stream as printed;
+ghost use Rattle.vx_words.specs.Names.{begins_with_digit};
 
 use crate::page::Page;
+use vx_cut_command::{Chosen, CutWords};
 use vx_people::Telling;
 use vx_picture::Drawn;
-use vx_report_commands::{AgreeWords, OutputWords, ProjectWords, TellWords};
-use vx_run_commands::{LoadWords, ReplayWords, RunWords, VerifyWords};
+use vx_report_commands::{AgreeWords, JoinWords, OutputWords, ProjectWords, TellWords};
+use vx_run_commands::{LoadWords, RetellWords, Retelling, RunWords, VerifyWords};
 use vx_value::Stream;
 use vx_words::printed_u64;
 
@@ -26,11 +30,13 @@ pub enum Request<'a> {
     Output(OutputWords<'a>),
     Tell(TellWords<'a>),
     Agree(AgreeWords<'a>),
+    Join(JoinWords<'a>),
     /// A source.
     Asm(&'a str),
     Load(LoadWords),
     Verify(VerifyWords<'a>),
-    Replay(ReplayWords<'a>),
+    Retell(RetellWords<'a>),
+    Cut(CutWords<'a>),
     Show(Page),
 }
 
@@ -39,6 +45,9 @@ const MOST_ATTEMPTS: u64 = 1_000_000_000;
 
 /// The most options of the workload.
 const MOST_OPTIONS: u64 = 64;
+
+/// The most options by which a model is cut.
+const MOST_CHOSEN: u64 = 16;
 
 /// The most configurations that are listed.
 const MOST_LISTED: u64 = 1_000_000;
@@ -248,6 +257,17 @@ fn read_agree(words: &[String]) -> Option<Request<'_>>
     }))
 }
 
+/// Reads the words of `join` behind its name: two reports at least.
+fn read_join(words: &[String]) -> Option<Request<'_>>
+    ensures { let spelled = codes "join" ∷ map string_bytes words.now in
+        MatchOption result (HasNoReading spelled) (λ request. IsSpelled spelled (command_of request)) }
+{
+    if words.len() < 2 {
+        return None;
+    }
+    Some(Request::Join(JoinWords { reports: words }))
+}
+
 /// Reads the word of `asm` behind its name.
 fn read_asm(words: &[String]) -> Option<Request<'_>>
     ensures { let spelled = codes "asm" ∷ map string_bytes words.now in
@@ -293,21 +313,73 @@ fn read_verify(words: &[String]) -> Option<Request<'_>>
     }))
 }
 
-/// Reads the words of `replay` behind its name.
-fn read_replay(words: &[String]) -> Option<Request<'_>>
-    ensures { let spelled = codes "replay" ∷ map string_bytes words.now in
+/// Reads the words of `replay` or `trace` behind its name.
+fn read_retell(retelling: Retelling, words: &[String]) -> Option<Request<'_>>
+    ensures { let spelled = retelling_word retelling ∷ map string_bytes words.now in
         MatchOption result (HasNoReading spelled) (λ request. IsSpelled spelled (command_of request)) }
 {
     let [folder, model, main, limit, configuration] = words else {
         return None;
     };
     let limit = read_limit(limit.as_str())?;
-    Some(Request::Replay(ReplayWords {
+    Some(Request::Retell(RetellWords {
+        retelling,
         folder: folder.as_str(),
         model: model.as_str(),
         main: main.as_str(),
         limit,
         configuration: configuration.as_str(),
+    }))
+}
+
+/// Whether a word begins with a digit.
+fn begins_with_digit(word: &str) -> bool
+    ensures { result ≡ begins_with_digit word.now }
+{
+    match word.as_bytes() {
+        [] => false,
+        [first, ..] => first.is_ascii_digit(),
+    }
+}
+
+/// Reads how the options of a cut are chosen: by their number, which begins with a digit, or by their names.
+fn read_chosen(word: &str) -> Option<Chosen<'_>>
+    ensures { MatchOption result ((choice : cut.Choice) → IsChoiceInRange choice → word.now ≢ choice_word choice)
+        (λ chosen. IsChoiceInRange (choice_of chosen) × (word.now ≡ choice_word (choice_of chosen))) }
+{
+    if !begins_with_digit(word) {
+        return Some(Chosen::Named(word));
+    }
+    let count = read_from_one(word, MOST_CHOSEN)?;
+    Some(Chosen::Many(count as u32))
+}
+
+/// Reads the report behind the other words of `cut`, where there is one.
+fn read_model_report(words: &[String]) -> Option<Option<&str>>
+    ensures { MatchOption result ((report : Option (List ℕ)) → map string_bytes words.now ≢ report_words report)
+        (λ report. map string_bytes words.now ≡ report_words (option_map (λ r. r.now) report)) }
+{
+    match words {
+        [] => Some(None),
+        [report] => Some(Some(report.as_str())),
+        _ => None,
+    }
+}
+
+/// Reads the words of `cut` behind its name.
+fn read_cut(words: &[String]) -> Option<Request<'_>>
+    ensures { let spelled = codes "cut" ∷ map string_bytes words.now in
+        MatchOption result (HasNoReading spelled) (λ request. IsSpelled spelled (command_of request)) }
+{
+    let [model, chosen, last @ ..] = words else {
+        return None;
+    };
+    let chosen = read_chosen(chosen.as_str())?;
+    let report = read_model_report(last)?;
+    Some(Request::Cut(CutWords {
+        model: model.as_str(),
+        chosen,
+        report,
     }))
 }
 
@@ -357,9 +429,15 @@ pub fn read_words(words: &[String]) -> Option<Request<'_>>
     } else if name.as_str() == "verify" {
         read_verify(others)
     } else if name.as_str() == "replay" {
-        read_replay(others)
+        read_retell(Retelling::Replay, others)
     } else if name.as_str() == "output" {
         read_output(others)
+    } else if name.as_str() == "trace" {
+        read_retell(Retelling::Trace, others)
+    } else if name.as_str() == "join" {
+        read_join(others)
+    } else if name.as_str() == "cut" {
+        read_cut(others)
     } else {
         match read_page(name.as_str()) {
             Some(page) => read_show(page, others),

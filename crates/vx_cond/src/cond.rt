@@ -79,7 +79,7 @@ impl<T: Exact, S: Space> Cond<T, S> {
     }
 
     /// The allocator of the leaves.
-    pub fn allocator(&self) -> Global {
+    fn allocator(&self) -> Global {
         *self.leaves.allocator()
     }
 

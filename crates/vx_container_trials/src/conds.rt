@@ -92,7 +92,7 @@ fn zipped<S: Space>(alloc: Global, space: &mut S) -> Result<bool, SpaceFault> {
 #[tactic(auto, using(crate::proofs::Trials::trial_words))]
 fn ids_held<S: Space>(alloc: Global, space: &mut S) -> Result<bool, SpaceFault> {
     let both = choice(alloc, space, 1, 2)?;
-    let mut ids = Vec::new(both.allocator());
+    let mut ids = Vec::new(alloc);
     Projects::ids_out(&both, &mut ids)?;
     Ok(ids.len() == 3 && ids[0] == space.always())
 }

@@ -1,5 +1,5 @@
 -- What a few configurations cover of a report: each piece and each end that a run has.
-use Rattle.std.specs.Prelude.{◌≡◌, ℕ, ◌≤◌, zero, suc, Bool, true, false, not, ◌&&◌, List, map, take, length, nat_eq}
+use Rattle.std.specs.Prelude.{◌≡◌, ℕ, ◌+◌, ◌≤◌, zero, suc, Bool, true, false, not, ◌&&◌, List, map, take, length, nat_eq}
 use Rattle.std.specs.List.{AllByRecursion, count_by, list_any, sum_by}
 use Rattle.vx_list.specs.Places.{item_or}
 use Rattle.vx_bdd_tools.specs.declared.node.Node.{Node}
@@ -45,9 +45,11 @@ pub record IsRun (r : Report) (c : List Bool) : Type 0 where
   pub values : length c ≡ length r.options
   pub ended : has_end r c ≡ true
 
--- at each configuration the report has an end; the lines cover its ends, at most one in a line, and its pieces
+-- at each configuration the report has an end; the lines cover its ends, at most one in a line, and its pieces; and each line has an end or a piece, which stands in no
+-- other line, so there are at most as many lines as ends and pieces
 pub record IsCover (r : Report) (tries : List Try) : Type 0 where
   pub runs : AllByRecursion (λ (t : Try). IsRun r t.configuration) tries
+  pub some : AllByRecursion (λ (t : Try). 1 ≤ length t.ends + length t.pieces) tries
   pub ends : IsCoverOf (has_this_end r) (λ t. t.ends) tries
   pub one_end : AllByRecursion (λ (t : Try). length t.ends ≤ 1) tries
   pub pieces : IsCoverOf (has_this_piece r) (λ t. t.pieces) tries

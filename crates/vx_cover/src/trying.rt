@@ -31,7 +31,7 @@ pub struct Patience {
 }
 
 /// What is tried before the first line.
-pub fn full_patience<S: Space>(space: &S) -> Patience {
+pub(crate) fn full_patience<S: Space>(space: &S) -> Patience {
     Patience {
         sets: space.count().saturating_add(MOST_SETS),
         misses: MOST_MISSES,

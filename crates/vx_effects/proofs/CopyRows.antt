@@ -1,6 +1,6 @@
 -- What a copy of elements comes to at each configuration of a condition is what the ordinary machine says.
-use Rattle.std.proofs.Common.{◌≡◌, ℕ, ◌+◌, ◌<◌, ◌≤◌, Bool, true, false, List, ◌&&◌, refl, sym, ◌∙◌, ap, arith, drop, length, subst, if◌then◌else◌}
-use Rattle.std.proofs.lemmas.Bool.{eq-eqb, eqb-true}
+use Rattle.std.proofs.Common.{◌≡◌, ℕ, ◌+◌, ◌^◌, ◌<◌, ◌≤◌, Bool, true, false, List, ◌&&◌, refl, sym, ◌∙◌, ap, arith, drop, length, subst, if◌then◌else◌}
+use Rattle.std.proofs.lemmas.Bool.{eq-eqb, eqb-true, leb-true}
 use Rattle.std.proofs.lemmas.List.{length-take}
 use Rattle.std.specs.List.{list_all, take_while}
 use Rattle.std.specs.Prelude.{None, Option, Some, is_some, not, slice_set, unwrap_or, ◌==◌}
@@ -17,6 +17,7 @@ use Rattle.vx_group_states.specs.Answers.{answer_cmp}
 use Rattle.vx_group_states.specs.Sites.{IsSomewhere}
 use Rattle.vx_group_states.specs.declared.answer.Answer.{Answer}
 use Rattle.vx_group_states.specs.declared.answer.Answer.TheVariants as answer
+use Rattle.vx_heap.proofs.Cells.{is_object_in}
 use Rattle.vx_heap.proofs.HeapLaws.{globals_at-extends, is_held-extends, name_at-extends}
 use Rattle.vx_heap.specs.Changing.{IsChangedIn}
 use Rattle.vx_heap.specs.Heap.{Globals, HeapView, IsHeap, class_at_slot, globals_at, is_held, name_at, object_in}
@@ -30,7 +31,7 @@ use Rattle.vx_list.specs.Places.{item_or}
 use Rattle.vx_natives.proofs.CharLaws.{cells_number}
 use Rattle.vx_natives.proofs.Keeping.{IsKept-changed, IsKept-later}
 use Rattle.vx_natives.specs.Cells.{cells_of}
-use Rattle.vx_natives.specs.Deeds.{copies, deed_says}
+use Rattle.vx_natives.specs.Deeds.{copies, deed_says, has_elements}
 use Rattle.vx_natives.specs.Doing.{IsDone, IsSaid, over, said_over}
 use Rattle.vx_space.specs.Sets.{Extends, IsLawful, IsSet, Sets}
 use Rattle.vx_value.specs.declared.ids.ClassId.{ClassId}
@@ -101,6 +102,14 @@ module _ (p : Program) (g : Globals) (h : Here) (rest : List Value) (to at : ℕ
 
 -- ---- the answers
 
+there_in : {S I : Type 0} (sets : Sets I) (heap : HeapView S I) (condition : I) (array from other to count : ℕ) → IsHeldIn sets heap condition (copies array from other to count) → (c : List Bool) → sets.test condition c ≡ true → (is_held sets heap c (Ref array) && is_held sets heap c (Ref other)) ≡ true
+there_in sets heap condition array from other to count held c t =
+    both_first (is_held sets heap c (Ref array) && is_held sets heap c (Ref other)) (has_elements heap array from count && has_elements heap other to count) (held.held c t)
+
+elements_in : {S I : Type 0} (sets : Sets I) (heap : HeapView S I) (condition : I) (array from other to count : ℕ) → IsHeldIn sets heap condition (copies array from other to count) → (c : List Bool) → sets.test condition c ≡ true → (has_elements heap array from count && has_elements heap other to count) ≡ true
+elements_in sets heap condition array from other to count held c t =
+    both_second (is_held sets heap c (Ref array) && is_held sets heap c (Ref other)) (has_elements heap array from count && has_elements heap other to count) (held.held c t)
+
 module _ {S I : Type 0} (p : Program) {s0 s1 s2 : Sets I} (before after : HeapView S I) (condition fitting : I) (array from other to count : ℕ) (component : Option ClassId) (answers : Conditional Answer S I) (v : IsHeap s0 before) (held : IsHeldIn s0 before condition (copies array from other to count)) (known : s0.is_known condition ≡ true) (enough : to + count ≤ length (object_in before other).cells) (e : Extends s1 s2) (d : Extends s0 s1) (component_of_it : component ≡ component_in p (class_at_slot before (Ref other))) (done : AreCopied p component s0 s1 before after condition array from other to count fitting) where
   abbrev Fits : List Bool → Value → Bool
   Fits c = fits_at p s0 before component c
@@ -115,7 +124,7 @@ module _ {S I : Type 0} (p : Program) {s0 s1 s2 : Sets I} (before after : HeapVi
   Answer-by b = if b then answer.Pass else answer.Raise (as_class (core_class p "java/lang/ArrayStoreException")) None
 
   other_held : (c : List Bool) → s0.test condition c ≡ true → is_held s0 before c (Ref other) ≡ true
-  other_held c t = both_second (is_held s0 before c (Ref array)) (is_held s0 before c (Ref other)) (held.held c t)
+  other_held c t = both_second (is_held s0 before c (Ref array)) (is_held s0 before c (Ref other)) (there_in s0 before condition array from other to count held c t)
 
   room : (c : List Bool) → s0.test condition c ≡ true → to + length (Elements c) ≤ length (cells_of s0 before c other)
   room c t =
@@ -219,7 +228,7 @@ AreCopied-done p component {s0 = s0} {s1 = s1} {s2 = s2} d e before after condit
 
 module _ {S I : Type 0} (sets : Sets I) (heap : HeapView S I) (condition : I) (array from other to count : ℕ) (held : IsHeldIn sets heap condition (copies array from other to count)) where
   array_held : (c : List Bool) → sets.test condition c ≡ true → is_held sets heap c (Ref array) ≡ true
-  array_held c t = both_first (is_held sets heap c (Ref array)) (is_held sets heap c (Ref other)) (held.held c t)
+  array_held c t = both_first (is_held sets heap c (Ref array)) (is_held sets heap c (Ref other)) (there_in sets heap condition array from other to count held c t)
 
   pub array-there : IsSomewhere sets condition → array < length heap.objects
   array-there some = (reference_held sets heap some.config array (array_held some.config some.inside)).0
@@ -227,6 +236,23 @@ module _ {S I : Type 0} (sets : Sets I) (heap : HeapView S I) (condition : I) (a
   pub array-inside : IsInside sets condition (object_in heap array).presence
   array-inside = record { inside = λ c t. (reference_held sets heap c array (array_held c t)).1 }
 
+  other-there : IsSomewhere sets condition → other < length heap.objects
+  other-there some =
+      (reference_held sets heap some.config other (both_second (is_held sets heap some.config (Ref array)) (is_held sets heap some.config (Ref other)) (there_in sets heap condition array from other to count held some.config some.inside))).0
+
+  -- both arrays have the elements, and a cell for each
+  pub array-cells : IsSomewhere sets condition → IsHeap sets heap → (from + count ≤ length (object_in heap array).cells) × (from + count < 2 ^ 32)
+  array-cells some v =
+      let object = is_object_in sets heap array (object_in heap array) v (array-there some) refl in
+      let few = leb-true (from + count) (object_in heap array).length (both_first (has_elements heap array from count) (has_elements heap other to count) (elements_in sets heap condition array from other to count held some.config some.inside)) in
+      (omega (arith, few, object.sized), omega (arith, few, object.short))
+
+  pub other-cells : IsSomewhere sets condition → IsHeap sets heap → (to + count ≤ length (object_in heap other).cells) × (to + count < 2 ^ 32)
+  other-cells some v =
+      let object = is_object_in sets heap other (object_in heap other) v (other-there some) refl in
+      let few = leb-true (to + count) (object_in heap other).length (both_second (has_elements heap array from count) (has_elements heap other to count) (elements_in sets heap condition array from other to count held some.config some.inside)) in
+      (omega (arith, few, object.sized), omega (arith, few, object.short))
+
   -- over a later space
   pub other-later : {later : Sets I} → Extends sets later → IsHeap sets heap → sets.is_known condition ≡ true → (c : List Bool) → later.test condition c ≡ true → is_held later heap c (Ref other) ≡ true
-  other-later e v known c t = is_held-extends e heap v c (Ref other) ∙ both_second (is_held sets heap c (Ref array)) (is_held sets heap c (Ref other)) (held.held c (sym (e.test condition c known) ∙ t))
+  other-later e v known c t = is_held-extends e heap v c (Ref other) ∙ both_second (is_held sets heap c (Ref array)) (is_held sets heap c (Ref other)) (there_in sets heap condition array from other to count held c (sym (e.test condition c known) ∙ t))

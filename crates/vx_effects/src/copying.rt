@@ -31,9 +31,6 @@ use vx_ready::where_yes;
 use vx_space::{Space, SpaceFault};
 use vx_value::{ClassId, Slot};
 
-/// The most cells of an array; an array has fewer.
-const MOST_CELLS: usize = 4_294_967_295;
-
 /// The class of the components of arrays of a class, where they are references.
 fn components_of(program: &Program, class: ClassId) -> Option<ClassId>
     ensures { result ≡ component_in program.now (Some class) }
@@ -222,27 +219,6 @@ fn copy_answers<S: Space>(
     Ok(answers)
 }
 
-/// Whether two arrays have cells from these places on, and so many. Each array has a cell for each of its elements.
-fn are_there<S: Space>(
-    heap: &Heap<S>,
-    array: u64,
-    from: u32,
-    other: u64,
-    to: u32,
-    count: u32,
-) -> bool
-    ensures enough { result ≡ true → from + count ≤ length (object_in heap.now array).cells }
-    ensures few { result ≡ true → from + count < 2 ^ 32 }
-    ensures room { result ≡ true → to + count ≤ length (object_in heap.now other).cells }
-    ensures within { result ≡ true → to + count < 2 ^ 32 }
-{
-    let cells = heap.cell_count(array);
-    let others = heap.cell_count(other);
-    let from_end = from as usize + count as usize;
-    let to_end = to as usize + count as usize;
-    from_end <= cells && from_end <= MOST_CELLS && to_end <= others && to_end <= MOST_CELLS
-}
-
 /// Elements of an array are copied to another one, or to itself, in a condition, in which both are there. Where an element doesn't fit
 /// that is a reference, those before it are copied, and an exception is raised.
 pub(crate) fn copied<S: Space>(
@@ -265,9 +241,6 @@ pub(crate) fn copied<S: Space>(
     ensures extends { Extends (S.sets space.old) (S.sets space.new) }
     ensures done { IfOk result (IsDone program.now (S.sets space.old) (S.sets space.new) heap.old heap.new condition (deed_says (S.sets space.old) heap.old (copies array from other to count))) }
 {
-    if !are_there(heap, array, from, other, to, count) {
-        return Err(SpaceFault::NoMemory);
-    }
     let component = component_in(program, heap.class_at(Slot::Ref(other)));
     let fitting = copy_fitting(
         alloc, program, space, heap, component, array, from, other, to, count, condition,

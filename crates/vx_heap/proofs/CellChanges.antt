@@ -181,7 +181,7 @@ IsCellWritten-set {S = S} {I = I} {old = old} {new = new} x heap reference cell 
     let e = object_there heap reference o l q in
     let fresh : IsHeap new heap = IsHeap-extends x heap v in
     record {
-      is_heap = later_is_heap new heap reference o cells l e fresh (record { known = x.known o.presence object.known; cells = a.cells; short = object.short }) holds;
+      is_heap = later_is_heap new heap reference o cells l e fresh (record { known = x.known o.presence object.known; cells = a.cells; short = object.short; sized = rw a.count object.sized }) holds;
       grows = record {
         allowed = refl;
         objects = λ i y k. kept-set o cells heap.objects reference l e i y k;

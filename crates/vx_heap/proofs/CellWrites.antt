@@ -1,7 +1,7 @@
 -- What reading and writing one of the cells of an object makes.
 use Rattle.std.proofs.Common.{◌≡◌, ℕ, zero, suc, ◌≤◌, Bool, true, false, List, [], ◌∷◌, ◌++◌, refl, sym, ◌∙◌, ap, map, length, arith, if◌then◌else◌}
 use Rattle.std.proofs.Math.ListN.{set}
-use Rattle.std.proofs.lemmas.List.{length-map, map-set}
+use Rattle.std.proofs.lemmas.List.{length-map, length-set, map-set}
 use Rattle.std.specs.List.{flat_map}
 use Rattle.std.specs.Option.{option_or}
 use Rattle.std.specs.Prelude.{Option, None, Some, is_some, slice_get}
@@ -194,6 +194,7 @@ AreWritten-set {S = S} {I = I} {old = old} {new = new} lawful e presence cells p
     let valid = IsCond-of slot_cmp new (first_of (cond_at old value) (value_within old presence (read_at old cells place))) made m in
     record {
       cells = AreCells-set new presence cells place cell (AreCells-extends e presence cells h) (new_cell new presence made cell is valid scope);
+      count = length-set cells place cell;
       inside = λ c t. written c (n.inside c t) ∙ ap (set (cells_at old cells c) place) (first_slot (cond_at old value c) (value_within old presence (read_at old cells place) c) (cond_at-covers slot_cmp old value v c ∙ t));
       outside = λ c t f.
           written c t
@@ -223,6 +224,7 @@ nothing_there (x ∷ xs) (suc i) e = omega (arith, nothing_there xs i e)
 pub AreWritten-behind : {S I : Type 0} (sets : Sets I) (presence : I) (cells : List (Cell S I)) (place : ℕ) (value : Conditional Slot S I) → AreCells sets presence cells → None ≡ slice_get cells place → AreWritten sets sets presence cells place value cells
 AreWritten-behind sets presence cells place value h e = record {
   cells = h;
+  count = refl;
   inside = λ c t. sym (set_behind (cells_at sets cells c) place (slot_at sets value c) (few c));
   outside = λ c t f. refl;
 }

@@ -1,6 +1,6 @@
 -- What copying an object makes of a heap.
 use Rattle.std.proofs.Common.{◌≡◌, ℕ, ◌+◌, ◌<◌, ◌≤◌, zero, suc, Bool, true, List, [], ◌∷◌, ◌++◌, refl, sym, ◌∙◌, ap, arith, get_or, length, map, take}
-use Rattle.std.proofs.lemmas.List.{map-append, take_all, take_more}
+use Rattle.std.proofs.lemmas.List.{length-append, map-append, take_all, take_more}
 use Rattle.std.specs.Prelude.{Some}
 use Rattle.vx_cond.specs.Cond.{Conditional, IsCondOf, IsInside, cond_at}
 use Rattle.vx_cond.specs.Leaves.{value_within}
@@ -62,10 +62,11 @@ first_same a b e = cc
 pub record IsCopying {S I : Type 0} (start sets : Sets I) (path : I) (xs : List (Cell S I)) (i : ℕ) (made : List (Cell S I)) : Type 0 where
   pub extends : Extends start sets
   pub cells : AreCells sets path made
+  pub count : length made ≡ length (take i xs)
   pub at : (c : List Bool) → start.test path c ≡ true → cells_at sets made c ≡ cells_at start (take i xs) c
 
 pub IsCopying-start : {S I : Type 0} (sets : Sets I) (path : I) (xs : List (Cell S I)) → IsCopying sets sets path xs 0 []
-IsCopying-start sets path xs = record { extends = Extends-refl sets; cells = tt; at = λ c t. refl }
+IsCopying-start sets path xs = record { extends = Extends-refl sets; cells = tt; count = refl; at = λ c t. refl }
 
 module _ {S I : Type 0} {s0 s1 : Sets I} (path presence : I) (xs : List (Cell S I)) (i : ℕ) (x : Cell S I) (made : List (Cell S I)) (valid : AreCells s0 presence xs) (l : i < length xs) (e : x ≡ get_or xs i x) (k : s0.is_known path ≡ true) (g : IsCopying s0 s1 path xs i made) where
   -- the next cell may be read
@@ -79,6 +80,11 @@ module _ {S I : Type 0} {s0 s1 : Sets I} (path presence : I) (xs : List (Cell S 
   IsCopying-step {s2 = s2} y f w = record {
     extends = Extends-trans g.extends f;
     cells = AreCells-push s2 path made y (AreCells-extends f path made g.cells) w.is_cell;
+    count =
+        let before = length-append made (y ∷ []) in
+        let after = length-append (take i xs) (x ∷ []) in
+        let more : length (take (i + 1) xs) ≡ length (take i xs ++ x ∷ []) = ap length (take_more xs i x l ∙ sym (ap (λ z. take i xs ++ z ∷ []) e)) in
+        omega (arith, before, after, more, g.count);
     at = λ c t.
         let before : cells_at s2 made c ≡ cells_at s0 (take i xs) c = cells_at-extends f path made g.cells c ∙ g.at c t in
         let same : cell_slot s1 c x ≡ cell_slot s0 c x = first_same (cell_slot s1 c x) (cell_slot s0 c x) (cells_at-extends g.extends presence (x ∷ []) (cell_at_place s0 presence xs i x valid l e, tt) c) in
@@ -92,6 +98,7 @@ module _ {S I : Type 0} {s0 s1 : Sets I} (path presence : I) (xs : List (Cell S 
 pub AreCellsWithin-end : {S I : Type 0} {s0 s1 : Sets I} (path : I) (xs : List (Cell S I)) (i : ℕ) (made : List (Cell S I)) → IsCopying s0 s1 path xs i made → length xs ≤ i → AreCellsWithin s0 s1 path xs made
 AreCellsWithin-end {s0 = s0} path xs i made g l = record {
   cells = g.cells;
+  count = g.count ∙ ap length (take_all i xs l);
   at = λ c t. g.at c t ∙ ap (λ cells. cells_at s0 cells c) (take_all i xs l);
 }
 
@@ -108,7 +115,7 @@ IsMadeAt-copied {S = S} {I = I} {old = old} {new = new} e heap reference path o 
     let known = is_object_in old heap reference o v l q in
     let later = IsHeap-extends e heap v in
     let made : HeapObject S I = record { class = o.class; length = o.length; presence = path; cells = cells } in
-    let is : IsObject new made = record { known = e.known path k; cells = w.cells; short = known.short } in
+    let is : IsObject new made = record { known = e.known path k; cells = w.cells; short = known.short; sized = rw w.count known.sized } in
     let inside : (c : List Bool) → new.test path c ≡ true → old.test path c ≡ true = λ c t. sym (e.test path c k) ∙ t in
     let held : (c : List Bool) → new.test path c ≡ true → are_held new heap c (cells_at new cells c) ≡ true = λ c t.
     ap (are_held new heap c) (w.at c (inside c t)) ∙ are_held-extends e heap v c (cells_at old o.cells c) ∙ holds_in old heap reference o v l q c (n.inside c (inside c t)) in

@@ -124,6 +124,7 @@ module _ {S I : Type 0} (sets : Sets I) (allowed : I) (known : sets.is_known all
     known = rw l.presence_is known;
     cells = rw l.cells_are (AreCells-plain S sets h.presence (slots_of o.cell));
     short = rw l.length_is (omega arith);
+    sized = rw l.length_is (omega arith);
   }
 
   are_objects : (os : List FirstObject) (hs : List (HeapObject S I)) → AreLifted allowed os hs → AreObjects sets hs

@@ -75,7 +75,7 @@ AreObjects-kept : {S I : Type 0} (old new : Sets I) → new.never ≡ old.never 
 AreObjects-kept old new n [] ks h = tt
 AreObjects-kept old new n (o ∷ os) ks h =
     let here = AreKept-append_left old new (object_ids o) (flat_map object_ids os) ks in (
-      record { known = here.0.known; cells = AreCells-kept old new n o.presence o.cells here.1 h.0.cells; short = h.0.short },
+      record { known = here.0.known; cells = AreCells-kept old new n o.presence o.cells here.1 h.0.cells; short = h.0.short; sized = h.0.sized },
       AreObjects-kept old new n os (AreKept-append_right old new (object_ids o) (flat_map object_ids os) ks) h.1,
     )
 

@@ -1,7 +1,7 @@
 -- What making an object makes of a heap.
 use Rattle.std.proofs.Common.{◌≡◌, ℕ, zero, suc, ◌≤◌, Bool, true, false, List, [], ◌∷◌, ◌++◌, refl, sym, ◌∙◌, ap, map, length, filter, take, arith, if◌then◌else◌, subst}
 use Rattle.std.proofs.lemmas.Bool.{lt-ltb, ltb-true}
-use Rattle.std.proofs.lemmas.List.{length-append}
+use Rattle.std.proofs.lemmas.List.{length-append, length-map, length-replicate}
 use Rattle.std.specs.List.{list_all}
 use Rattle.std.specs.Prelude.{Some, replicate, slice_get}
 use Rattle.vx_value.specs.Texts.{IsNumber, Extends as TextsExtend}
@@ -185,10 +185,11 @@ pub made_held : {S I : Type 0} (sets : Sets I) (heap : HeapView S I) (o : HeapOb
 made_held sets heap o c t = ap (is_object_held sets c) (get_last heap.objects o) ∙ t
 
 -- an object was made
-pub IsMade-plain : {S I : Type 0} (sets : Sets I) (heap : HeapView S I) (class : ClassId) (size : ℕ) (path : I) (slots : List Slot) → IsHeap sets heap → sets.is_known path ≡ true → size ≤ length_bound → list_all (is_among 0 (length heap.texts)) slots ≡ true → IsMade sets heap path (record { class = class.0; size = size; cells = map (value_in heap.texts) slots }) (grown sets heap (plain_object class size path slots)) (length heap.objects)
-IsMade-plain {S = S} {I = I} sets heap class size path slots v k l m =
+pub IsMade-plain : {S I : Type 0} (sets : Sets I) (heap : HeapView S I) (class : ClassId) (size : ℕ) (path : I) (slots : List Slot) → IsHeap sets heap → sets.is_known path ≡ true → size ≤ length_bound → size ≤ length slots → list_all (is_among 0 (length heap.texts)) slots ≡ true → IsMade sets heap path (record { class = class.0; size = size; cells = map (value_in heap.texts) slots }) (grown sets heap (plain_object class size path slots)) (length heap.objects)
+IsMade-plain {S = S} {I = I} sets heap class size path slots v k l enough m =
     let o : HeapObject S I = plain_object class size path slots in
-    let is : IsObject sets o = record { known = k; cells = AreCells-plain S sets path slots; short = l } in
+    let count : length o.cells ≡ length slots = length-map slots _ in
+    let is : IsObject sets o = record { known = k; cells = AreCells-plain S sets path slots; short = l; sized = omega (arith, enough, count) } in
     record {
       changed = made_changed sets heap o (λ _. record { class = class.0; size = size; cells = map (value_in heap.texts) slots }) v is (λ c t. ap (are_held sets heap c) (cells_at-plain S sets c slots) ∙ are_held_plain sets heap c slots m) (λ c t. object c);
       reference_is = refl;
@@ -225,7 +226,7 @@ MakesObject-put {S = S} {I = I} heap middle class path slots values same more ar
     let later : IsHeap sets before = (KeepsPlain-texts heap middle.texts more sets v).0 in
     let P : List Value → Type 0 = λ cells. IsMade sets before path (record { class = class.0; size = 0; cells = cells }) (grown sets before (plain_object class 0 path slots)) (length heap.objects) in
     let Q : HeapView S I → Type 0 = λ m. IsMade sets heap path (record { class = class.0; size = 0; cells = values }) (grown sets m (plain_object class 0 path slots)) (length m.objects) in
-    let made : P values = subst P are.0 (IsMade-plain sets before class 0 path slots later k (omega arith) are.1) in
+    let made : P values = subst P are.0 (IsMade-plain sets before class 0 path slots later k (omega arith) (omega arith) are.1) in
     subst Q (sym same) (IsMade-texts sets heap middle.texts path (record { class = class.0; size = 0; cells = values }) (grown sets before (plain_object class 0 path slots)) (length heap.objects) v more made)
 
 pub slots_begin : (empty : ℕ) (texts : List (List ℕ)) (slots : List Slot) (values : List Value) → IsNumber texts empty [] → AreSlotsOf empty slots values → (map (value_in texts) slots ≡ values) × (list_all (is_among 0 (length texts)) slots ≡ true)
@@ -261,4 +262,4 @@ MakesObject-filled {S = S} {I = I} heap class count path element cells short pla
     let are = filled_anywhere heap.texts count element plain in
     let P : List Value → Type 0 = λ values. IsMade sets heap path (record { class = class.0; size = count; cells = values }) (grown sets heap (plain_object class count path (replicate count element))) (length heap.objects) in
     let Q : List (Cell S I) → Type 0 = λ cs. IsMade sets heap path (filled class.0 count (value_in [] element)) (grown sets heap (record { class = class; length = count; presence = path; cells = cs })) (length heap.objects) in
-    subst Q (sym (e ∙ plain_replicate S I count element)) (subst P are.0 (IsMade-plain sets heap class count path (replicate count element) v k short are.1))
+    subst Q (sym (e ∙ plain_replicate S I count element)) (subst P are.0 (IsMade-plain sets heap class count path (replicate count element) v k short (omega (arith, length-replicate count element)) are.1))

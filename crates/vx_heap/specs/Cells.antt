@@ -1,5 +1,5 @@
 -- The cells of an object at a configuration at which it is there, and what holds of them over a space (own).
-use Rattle.std.specs.Prelude.{◌≡◌, ℕ, Bool, true, false, List, [], ◌∷◌, map, slice_set}
+use Rattle.std.specs.Prelude.{◌≡◌, ℕ, Bool, true, false, List, [], ◌∷◌, length, map, slice_set}
 use Rattle.vx_value.specs.declared.slot.Slot.{Slot}
 use Rattle.vx_value.specs.Slot.{slot_cmp}
 use Rattle.vx_space.specs.Sets.{Sets}
@@ -43,6 +43,7 @@ IsCellOf cond (Differs made) = made.value ≡ cond
 -- a value was written to a cell in its scope
 pub record AreWritten {S I : Type 0} (old new : Sets I) (presence : I) (before : List (Cell S I)) (place : ℕ) (value : Conditional Slot S I) (after : List (Cell S I)) : Type 0 where
   pub cells : AreCells new presence after
+  pub count : length after ≡ length before
   pub inside : (c : List Bool) → old.test value.scope c ≡ true → cells_at new after c ≡ slice_set (cells_at old before c) place (slot_at old value c)
   pub outside : (c : List Bool) → old.test presence c ≡ true → old.test value.scope c ≡ false → cells_at new after c ≡ cells_at old before c
 
@@ -54,4 +55,5 @@ pub record IsCellWithin {S I : Type 0} (old new : Sets I) (path : I) (before aft
 -- and so have cells
 pub record AreCellsWithin {S I : Type 0} (old new : Sets I) (path : I) (before after : List (Cell S I)) : Type 0 where
   pub cells : AreCells new path after
+  pub count : length after ≡ length before
   pub at : (c : List Bool) → old.test path c ≡ true → cells_at new after c ≡ cells_at old before c

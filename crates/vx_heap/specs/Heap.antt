@@ -97,6 +97,8 @@ pub record IsObject {S I : Type 0} (sets : Sets I) (o : HeapObject S I) : Type 0
   pub known : sets.is_known o.presence ≡ true
   pub cells : AreCells sets o.presence o.cells
   pub short : o.length ≤ length_bound
+  -- an array has a cell for each of its elements; any other object has the length 0
+  pub sized : o.length ≤ length o.cells
 
 abbrev pub AreObjects : {S I : Type 0} → Sets I → List (HeapObject S I) → Type 0
 AreObjects sets [] = Unit {0}

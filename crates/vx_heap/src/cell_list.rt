@@ -95,7 +95,7 @@ impl<S: Space> CellList<S> {
     pub fn read(
         &self,
         space: &mut S,
-        place: u32,
+        place: usize,
         path: S::Id,
         presence: S::Id,
     ) -> Result<Cond<Slot, S>, SpaceFault>
@@ -105,7 +105,7 @@ impl<S: Space> CellList<S> {
         ensures extends { Extends (S.sets space.old) (S.sets space.new) }
         ensures ok { IfOk result (IsCondOf slot_cmp (S.sets space.new) (value_within (S.sets space.old) path (λ c. Some (item_or (cells_at (S.sets space.old) self.now c) place Top)))) }
     {
-        match self.get(place as usize) {
+        match self.get(place) {
             Some(cell) => value_inside(self.allocator(), space, cell, path),
             None => {
                 let nothing = Cond::one(self.allocator(), space, Slot::Top, path)?;
@@ -150,7 +150,7 @@ impl<S: Space> CellList<S> {
         ensures ok { IfOk result (AreCellsWithin (S.sets space.old) (S.sets space.new) path self.now) }
     {
         let mut made = CellList::none(alloc, self.cells.len())?;
-        put_inside(space, &self.cells, path, presence, &mut made)?;
+        put_inside(alloc, space, &self.cells, path, presence, &mut made)?;
         Ok(made)
     }
 
@@ -183,7 +183,7 @@ impl<S: Space> CellList<S> {
             return Ok(());
         };
         let made = written_over(self.allocator(), space, before, presence, value)?;
-        let cell = cell_of(made)?;
+        let cell = cell_of(self.allocator(), made)?;
         self.set(place as usize, cell);
         Ok(())
     }
@@ -224,7 +224,12 @@ fn value_inside<S: Space>(
 }
 
 /// A cell inside a path, which is inside the presence of its object.
-fn cell_inside<S: Space>(space: &mut S, cell: &Cell<S>, path: S::Id) -> Result<Cell<S>, SpaceFault>
+fn cell_inside<S: Space>(
+    alloc: Global,
+    space: &mut S,
+    cell: &Cell<S>,
+    path: S::Id,
+) -> Result<Cell<S>, SpaceFault>
     requires cell { IsCellInside (S.sets space.old) path cell.now }
     requires known { IsKnown (S.sets space.old) path }
     ensures extends { Extends (S.sets space.old) (S.sets space.new) }
@@ -234,7 +239,7 @@ fn cell_inside<S: Space>(space: &mut S, cell: &Cell<S>, path: S::Id) -> Result<C
         Cell::Plain(slot) => Ok(Cell::Plain(*slot)),
         Cell::Differs(cond) => {
             let value = cond.restrict(space, path)?;
-            let inner = cell_of(value)?;
+            let inner = cell_of(alloc, value)?;
             Ok(inner)
         }
     }
@@ -242,6 +247,7 @@ fn cell_inside<S: Space>(space: &mut S, cell: &Cell<S>, path: S::Id) -> Result<C
 
 /// Puts cells inside a path, which is inside the presence of their object, into a list that has none.
 fn put_inside<S: Space>(
+    alloc: Global,
     space: &mut S,
     cells: &[Cell<S>],
     path: S::Id,
@@ -257,7 +263,7 @@ fn put_inside<S: Space>(
     ensures ok { OnOk result (AreCellsWithin (S.sets space.old) (S.sets space.new) path cells.now made.new) }
 {
     for cell in cells {
-        let inner = cell_inside(space, cell, path)?;
+        let inner = cell_inside(alloc, space, cell, path)?;
         made.push(inner)?;
     }
     Ok(())
@@ -300,14 +306,14 @@ fn may_differ<S: Space>(others: bool, cell: &Cell<S>) -> bool
 }
 
 /// The cell of a value.
-fn cell_of<S: Space>(value: Cond<Slot, S>) -> Result<Cell<S>, AllocError>
+fn cell_of<S: Space>(alloc: Global, value: Cond<Slot, S>) -> Result<Cell<S>, AllocError>
     ensures { IfOk result (IsCellOf value) }
 {
     let leaves = value.leaves();
     if leaves.len() == 1 {
         return Ok(Cell::Plain(leaves[0].value));
     }
-    let cond = Box::new(value.allocator(), value)?;
+    let cond = Box::new(alloc, value)?;
     Ok(Cell::Differs(cond))
 }
 

@@ -213,7 +213,27 @@ impl<S: Space> Heap<S> {
         self.words
     }
 
-    /// The value of a cell inside a path, which is inside the presence of the object. A cell that isn't there is `Top`.
+    /// The value of the cell at a place inside a path, which is inside the presence of the object. A cell that isn't there is `Top`.
+    pub fn read_place(
+        &self,
+        space: &mut S,
+        reference: u64,
+        place: usize,
+        path: S::Id,
+    ) -> Result<Cond<Slot, S>, SpaceFault>
+        requires heap { IsHeap (S.sets space.old) self.now }
+        requires reference { reference < length self.now.objects }
+        requires known { IsKnown (S.sets space.old) path }
+        requires inside { IsInside (S.sets space.old) path (object_in self.now reference).presence }
+        ensures extends { Extends (S.sets space.old) (S.sets space.new) }
+        ensures ok { IfOk result (IsCellRead (S.sets space.old) (S.sets space.new) self.now reference place path) }
+    {
+        let object = self.object(reference);
+        let value = object.cells.read(space, place, path, object.presence)?;
+        Ok(value)
+    }
+
+    /// The same of a place that an instruction names by 32 bits.
     pub fn read_cell(
         &self,
         space: &mut S,
@@ -228,9 +248,7 @@ impl<S: Space> Heap<S> {
         ensures extends { Extends (S.sets space.old) (S.sets space.new) }
         ensures ok { IfOk result (IsCellRead (S.sets space.old) (S.sets space.new) self.now reference cell path) }
     {
-        let object = self.object(reference);
-        let value = object.cells.read(space, cell, path, object.presence)?;
-        Ok(value)
+        self.read_place(space, reference, cell as usize, path)
     }
 
     /// Writes a cell in the scope of the value, which is inside the presence of the object. Where there is no such cell,
@@ -333,7 +351,7 @@ impl<S: Space> Heap<S> {
     }
 
     /// Makes an object in the configurations of a path, with a cell for each of these values, which name no object, and no text that
-    /// isn't there. After want of memory the heap is as it was.
+    /// isn't there; of an array its length is no more than that. After want of memory the heap is as it was.
     pub fn alloc_cells(
         &mut self,
         alloc: Global,
@@ -343,6 +361,7 @@ impl<S: Space> Heap<S> {
         path: S::Id,
     ) -> Result<u64, AllocError>
         requires size { size ≤ length_bound }
+        requires enough { size ≤ length slots.now }
         requires slots { list_all (is_among 0 (length self.old.texts)) slots.now ≡ true }
         ensures ok { IfOk result (MakesObject self.old path (of_cells class.0 size (map (value_in self.old.texts) slots.now)) self.new) }
         ensures err { OnErr result (self.new ≡ self.old) }

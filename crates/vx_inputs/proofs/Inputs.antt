@@ -1,5 +1,6 @@
 -- What the parts of plans that read models, class files and reports may give.
 use Rattle.std.proofs.Common.{◌≡◌, ◌≤◌, ◌<◌, ◌+◌, ℕ, Bool, true, false, List, length, IfSome, Option, Result, Ok, Err, inl, inr, refl, ap, subst, sym, ◌∙◌, arith, map, filter, [], ◌∷◌, cond, ◌⊎◌, IfOk, IfErr, MatchResult, String, Vec, Global, string_bytes, drop, drop-cons, get_or, add-one, ◌++◌}
+use Rattle.std.specs.List.{AllByRecursion}
 use Rattle.vx_io.specs.Held.{Held, FilesState, IsListing}
 use Rattle.vx_plans.specs.declared.status.Status.{Status}
 use Rattle.vx_plans.specs.declared.status.Status.TheVariants.{TooLarge, NoMemory, NoConfiguration}
@@ -10,7 +11,7 @@ use Rattle.vx_plans.specs.Job.{model_of}
 use Rattle.vx_report.specs.declared.report.Report.{Report}
 use Rattle.vx_report_reader.specs.Rules.{ReportText}
 use Rattle.vx_plans.specs.KeepsFiles.{KeepsFiles}
-use Rattle.vx_inputs.specs.Reports.{most_report_bytes, read_report}
+use Rattle.vx_inputs.specs.Reports.{most_report_bytes, read_report, read_reports}
 use Rattle.vx_inputs.specs.Folder.{read_checked, read_classes, list_classes, read_folder, class_paths, or_bad_class, place_of, most_classes}
 use Rattle.vx_inputs.specs.ModelFile.{read_model, read_any_model}
 use Rattle.vx_plans.specs.Sized.{most_bytes, read_sized}
@@ -163,3 +164,27 @@ pub any_model_err : (old new : FilesState) (path bytes : List ℕ) (r : Result M
     → IfErr r (λ status. (next : Model → Plan) → MayStop old new (read_any_model path next) status)
 any_model_err old new path bytes (Ok model) keeps leads read = tt
 any_model_err old new path bytes (Err e) keeps leads read = λ next. value_stops old new (read_any_model path next) (model_of path bytes) next e keeps (leads (λ b. attempt (model_of path b) next)) read
+
+-- the reports so far, and one more
+pub one_report_more : (held : Option Held) (plan : Plan) (next : List Report → Plan) (paths : List (String Global)) (i : ℕ) (d : String Global) (path : List ℕ) (done : List Report) (more : Report) → i < length paths
+    → path ≡ string_bytes (get_or paths i d)
+    → Leads held plan (read_reports next done (map string_bytes (drop i paths)))
+    → ((n : Report → Plan) → Leads held (read_report path n) (n more))
+    → Leads held plan (read_reports next (done ++ more ∷ []) (map string_bytes (drop (i + 1) paths)))
+one_report_more held plan next paths i d path done more small is leads read =
+    let at : map string_bytes (drop i paths) ≡ path ∷ map string_bytes (drop (i + 1) paths) = ap (map string_bytes) (drop-cons paths i d small) ∙ rw (sym is, add-one i) in
+    then_leads (rw at at leads) (read (λ r. read_reports next (done ++ r ∷ []) (map string_bytes (drop (i + 1) paths))))
+
+-- the plan at a report
+pub at_report : (held : Option Held) (plan : Plan) (next : List Report → Plan) (paths : List (String Global)) (i : ℕ) (d : String Global) (path : List ℕ) (done : List Report) → i < length paths
+    → path ≡ string_bytes (get_or paths i d)
+    → Leads held plan (read_reports next done (map string_bytes (drop i paths)))
+    → Leads held plan (read_report path (λ r. read_reports next (done ++ r ∷ []) (map string_bytes (drop (i + 1) paths))))
+at_report held plan next paths i d path done small is leads =
+    let at : map string_bytes (drop i paths) ≡ path ∷ map string_bytes (drop (i + 1) paths) = ap (map string_bytes) (drop-cons paths i d small) ∙ rw (sym is, add-one i) in
+    rw at at leads
+
+-- what holds of all items holds with one more
+pub all_more : {A : Type 0} (P : A → Type 0) (xs : List A) (x : A) → AllByRecursion P xs → P x → AllByRecursion P (xs ++ x ∷ [])
+all_more P [] x all here = (here, tt)
+all_more P (y ∷ xs) x all here = (all.0, all_more P xs x all.1 here)

@@ -1,3 +1,3 @@
 pub mod Inputs
-pub mod Lined
+pub mod Sourced
 pub mod Allowing

@@ -8,8 +8,8 @@ mod reading;
 mod reports;
 mod taken;
 
-pub use job::{names_of, program_in};
-pub use modeling::{Modeled, allowing_model, read_any_model, read_model_file};
+pub use job::{is_dimacs, names_of, program_in};
+pub use modeling::{Modeled, allowing_model, model_of, read_any_model, read_model_file};
 pub use reading::{MOST_BYTES, read_file, read_folder};
-pub use reports::read_report_file;
-pub use taken::{Traced, parted};
+pub use reports::{read_report_file, read_report_files};
+pub use taken::{Parts, Traced, parted};

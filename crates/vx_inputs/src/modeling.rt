@@ -43,7 +43,7 @@ fn spelled_model(alloc: Global, path: &str, text: &[u8]) -> Result<Model, ModelF
 }
 
 /// The model of a file of this path, or the refusal of its first bad line.
-fn model_of(alloc: Global, path: &str, text: &[u8]) -> Result<Model, Status>
+pub fn model_of(alloc: Global, path: &str, text: &[u8]) -> Result<Model, Status>
     ensures exact { MatchResult result (λ model. model_of path.now text.now ≡ Ok model)
         (λ status. (status ≡ Status.NoMemory) ⊎ (model_of path.now text.now ≡ Err status)) }
     ensures lawful { IfOk result IsModel }

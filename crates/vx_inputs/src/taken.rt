@@ -1,14 +1,15 @@
-//! What is taken from a class file, whose bytes are then let go: its class, or with it the lines of its methods.
+//! What is taken from a class file, whose bytes are then let go: its class, or with it what it says of its source.
 
-ghost use Rattle.std.specs.Prelude.{◌≡◌, IfOk, List, Result, map, ℕ};
+ghost use Rattle.std.specs.Prelude.{◌≡◌, IfOk, List, Result, ℕ};
 ghost use Rattle.vx_class.specs.File.{File};
 ghost use Rattle.vx_class.specs.declared.class_file.ClassFile as file;
-ghost use Rattle.vx_inputs.specs.Traced.{traced_of, with_lines};
+ghost use Rattle.vx_inputs.specs.Traced.{ArePartsOf, traced_of, with_source};
 ghost use Rattle.vx_cursor.specs.Reading.{Answers, Fault};
 
 use std::alloc::{AllocError, Global};
 use vx_class::{ClassFault, ClassFile, read_class};
-use vx_lines::{LineTable, read_lines};
+use vx_lines::{LineTable, read_lines, read_source};
+use vx_value::Name;
 
 /// What is taken from a class file.
 pub trait FromClassFile: Sized + Drop {
@@ -36,46 +37,59 @@ impl FromClassFile for ClassFile {
     }
 }
 
-/// A class, with the lines of its methods.
+/// A class, with the lines of its methods and the name of its source file, where it has one.
 #[derive(Drop)]
 pub struct Traced {
     pub class: ClassFile,
     pub lines: LineTable,
+    pub file: Option<Name>,
 }
 
-/// A class that bytes hold, with the lines that they give.
-fn with_lines(alloc: Global, bytes: &[u8], class: ClassFile) -> Result<Traced, AllocError>
+/// A class that bytes hold, with what they say of its source.
+fn with_source(alloc: Global, bytes: &[u8], class: ClassFile) -> Result<Traced, AllocError>
     requires { File bytes.now class }
-    ensures { IfOk result (λ traced. traced ≡ with_lines bytes.now class) }
+    ensures { IfOk result (λ traced. traced ≡ with_source bytes.now class) }
 {
     let lines = read_lines(alloc, bytes, &class)?;
-    Ok(Traced { class, lines })
+    let file = read_source(alloc, bytes, &class)?;
+    Ok(Traced { class, lines, file })
 }
 
-/// The class that the bytes of a class file hold, with the lines of its methods, or the first check that fails.
-fn class_with_lines(alloc: Global, bytes: &[u8]) -> Result<Traced, ClassFault>
+/// The class that the bytes of a class file hold, with what they say of its source, or the first check that fails.
+fn class_with_source(alloc: Global, bytes: &[u8]) -> Result<Traced, ClassFault>
     ensures exact { Answers result (traced_of bytes.now) }
     ensures found { IfOk result (λ traced. File bytes.now traced.class) }
 {
     let class = read_class(alloc, bytes)?;
-    Ok(with_lines(alloc, bytes, class)?)
+    Ok(with_source(alloc, bytes, class)?)
 }
 
-/// The classes, and beside them the lines of their methods.
-pub fn parted(
-    alloc: Global,
-    all: Vec<Traced>,
-) -> Result<(Vec<ClassFile>, Vec<LineTable>), AllocError>
-    ensures { IfOk result (λ parts. (parts.0.items ≡ map (λ traced. traced.class) all.items) × (parts.1.items ≡ map (λ traced. traced.lines) all.items)) }
+/// Classes, and beside each the lines of its methods and the name of its source file.
+#[derive(Drop)]
+pub struct Parts {
+    pub classes: Vec<ClassFile>,
+    pub tables: Vec<LineTable>,
+    pub files: Vec<Option<Name>>,
+}
+
+/// The classes, and beside them what is said of their sources. The only refusal is want of memory.
+pub fn parted(alloc: Global, all: Vec<Traced>) -> Result<Parts, AllocError>
+    ensures { IfOk result (ArePartsOf all.items) }
 {
     let mut classes = Vec::new(alloc);
     let mut tables = Vec::new(alloc);
+    let mut files = Vec::new(alloc);
     for traced in all {
-        let Traced { class, lines } = traced;
+        let Traced { class, lines, file } = traced;
         classes.push(class)?;
         tables.push(lines)?;
+        files.push(file)?;
     }
-    Ok((classes, tables))
+    Ok(Parts {
+        classes,
+        tables,
+        files,
+    })
 }
 
 impl FromClassFile for Traced {
@@ -84,6 +98,6 @@ impl FromClassFile for Traced {
     ghost class = { λ taken. taken.class };
 
     fn from_class_file(alloc: Global, bytes: &[u8]) -> Result<Traced, ClassFault> {
-        class_with_lines(alloc, bytes)
+        class_with_source(alloc, bytes)
     }
 }

@@ -79,7 +79,7 @@ impl Sink for MemorySink {
         let count = self.piece.min(bytes.len());
         match self.written.extend_from_slice(&bytes[..count]) {
             Ok(()) => Ok(count),
-            Err(_) => {
+            Err(AllocError) => {
                 self.shortages = self.shortages.saturating_add(1);
                 Err(SinkFault::NoMemory)
             }

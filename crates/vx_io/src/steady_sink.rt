@@ -55,7 +55,7 @@ impl Sink for SteadySink {
     {
         match self.written.extend_from_slice(bytes) {
             Ok(()) => Ok(bytes.len()),
-            Err(_) => {
+            Err(AllocError) => {
                 self.shortages = self.shortages.saturating_add(1);
                 Err(SinkFault::NoMemory)
             }

@@ -26,8 +26,14 @@ pub fn first_between<M: Member>(
 ) -> Option<u32>
     ensures { result ≡ find (has_signature (map M.signature members.now) sought.now.0 sought.now.1) (numbers_between from last) }
 {
-    match members.first(sought, from, last) {
-        Some(found) => { if found <= last { Some(found) } else { None } }
+    match members.first(sought, from as u64, last as u64) {
+        Some(found) => {
+            if found <= last as u64 {
+                Some(found as u32)
+            } else {
+                None
+            }
+        }
         None => {
             if sought.name().is_empty() && sought.descriptor().is_empty() {
                 first_past(members.len(), from, last)

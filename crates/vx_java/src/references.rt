@@ -22,6 +22,7 @@ pub struct MemberReference<'a> {
 fn member_of(pool: &Pool, class: u16, typed: u16, by_interface: bool) -> MemberReference<'_>
     ensures named { in_bytes result ≡ member_of pool.now class typed by_interface }
     ensures few { length result.class.now < 2 ^ 16 }
+    ensures short { length result.descriptor.now < 2 ^ 16 }
 {
     MemberReference {
         class: class_text(pool, class).unwrap_or(&[]),
@@ -35,6 +36,7 @@ fn member_of(pool: &Pool, class: u16, typed: u16, by_interface: bool) -> MemberR
 pub fn member_by<'a>(pool: &'a Pool, entry: Option<&Entry>) -> MemberReference<'a>
     ensures named { in_bytes result ≡ member_named pool.now (option_copied entry.entry) }
     ensures few { length result.class.now < 2 ^ 16 }
+    ensures short { length result.descriptor.now < 2 ^ 16 }
 {
     match entry {
         Some(Entry::Field(class, typed) | Entry::Method(class, typed)) => {

@@ -1,9 +1,9 @@
 -- What native methods make of numbers, classes and objects that begin, and arrays that they copy, is what the ordinary machine does.
-use Rattle.std.proofs.Common.{◌≡◌, ℕ, ℤ, Bool, true, false, List, [], ◌∷◌, refl, sym, ◌∙◌, ap, arith, pos, subst, ◌<◌, ◌≤◌}
+use Rattle.std.proofs.Common.{◌≡◌, ℕ, ℤ, Bool, true, false, List, [], ◌∷◌, refl, sym, ◌∙◌, ap, arith, pos, subst, ◌+◌, ◌<◌, ◌≤◌}
 use Rattle.std.proofs.lemmas.Bool.{eq-eqb, eqb-true, leb-true}
 use Rattle.std.proofs.lemmas.Int.{ints}
 use Rattle.std.specs.Fmt.{signed_decimal}
-use Rattle.std.specs.Prelude.{None, Option, Some, if◌then◌else◌, int_le, negsuc, not, option_map, ◌&&◌, ◌-ℤ◌, ◌==◌, ◌≤ℤ◌}
+use Rattle.std.specs.Prelude.{None, Option, Some, if◌then◌else◌, int_le, nat_le, negsuc, not, option_map, ◌&&◌, ◌-ℤ◌, ◌==◌, ◌≤ℤ◌}
 use Rattle.vx_cells.proofs.ObjectClasses.{class_there, length_there}
 use Rattle.vx_cells.specs.Classes.{has_class}
 use Rattle.vx_group_states.proofs.StateLaws.{both, both_first, both_second}
@@ -15,8 +15,8 @@ use Rattle.vx_java.specs.Texts.{answer_text, bool_text}
 use Rattle.vx_link.specs.ClassNames.{class_text}
 use Rattle.vx_link.specs.declared.program.Program.{Program}
 use Rattle.vx_list.specs.Places.{item_or}
-use Rattle.vx_natives.proofs.Rights.{held_if, says_if}
-use Rattle.vx_natives.specs.Deeds.{IsRight, copies, deed_says, gives_integer, is_deed_held, raises}
+use Rattle.vx_natives.proofs.Rights.{held_if, held_where, says_if}
+use Rattle.vx_natives.specs.Deeds.{IsRight, copies, deed_says, gives_integer, has_elements, is_deed_held, raises}
 use Rattle.vx_natives.specs.Doing.{Says, over}
 use Rattle.vx_natives.specs.Readings.{IsCallOr, said}
 use Rattle.vx_natives.specs.declared.behaviour.Behaviour.TheVariants.{CopyArray, Initialise, Make}
@@ -130,12 +130,22 @@ module _ {S I : Type 0} (p : Program) (sets : Sets I) (heap : HeapView S I) (c :
       ∙ ap (λ o. when (not like) (raise (H h) "java/lang/ArrayStoreException") o) (says_if sets heap c fits made (raises Outside) (H h) rest)
       ∙ (λ i. when (not (first i)) (raise (H h) "java/lang/ArrayStoreException") (when (within_array from count (second i) && within_array to count (third i)) (copy_within (H h) rest (name r) from (name s) to count) (raise (H h) "java/lang/ArrayIndexOutOfBoundsException")))
 
+  within_natural : (at count : ℤ) (size : ℕ) → within_array at count size ≡ true → nat_le (natural at + natural count) size ≡ true
+  within_natural (pos at) (pos count) size k = k
+  within_natural (pos at) (negsuc count) size k = cc k
+  within_natural (negsuc at) count size k = cc k
+
   copied_held : (r s : ℕ) (from to count : ℤ) → is_held sets heap c (Ref r) ≡ true → is_held sets heap c (Ref s) ≡ true → is_deed_held sets heap c (copied_between p heap r from s to count) ≡ true
   copied_held r s from to count t u =
       let fits = within_array from count (object_in heap r).length && within_array to count (object_in heap s).length in
       let made = copies r (natural from) s (natural to) (natural count) in
+      let there = both (is_held sets heap c (Ref r)) (is_held sets heap c (Ref s)) t u in
       held_if sets heap c (not (like_slots p heap (Ref r) (Ref s))) (raises Store) (if fits then made else raises Outside) refl
-      (held_if sets heap c fits made (raises Outside) (both (is_held sets heap c (Ref r)) (is_held sets heap c (Ref s)) t u) refl)
+      (held_where sets heap c fits made (raises Outside) (λ k.
+      both (is_held sets heap c (Ref r) && is_held sets heap c (Ref s)) (has_elements heap r (natural from) (natural count) && has_elements heap s (natural to) (natural count)) there
+      (both (has_elements heap r (natural from) (natural count)) (has_elements heap s (natural to) (natural count))
+      (within_natural from count (object_in heap r).length (both_first (within_array from count (object_in heap r).length) (within_array to count (object_in heap s).length) k))
+      (within_natural to count (object_in heap s).length (both_second (within_array from count (object_in heap r).length) (within_array to count (object_in heap s).length) k)))) refl)
 
   third_held : (a b d e f : Slot) → are_held sets heap c (a ∷ b ∷ d ∷ e ∷ f ∷ []) ≡ true → is_held sets heap c d ≡ true
   third_held a b d e f t = one_held d (e ∷ f ∷ []) (rest_held b (d ∷ e ∷ f ∷ []) (rest_held a (b ∷ d ∷ e ∷ f ∷ []) t))

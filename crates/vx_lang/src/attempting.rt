@@ -1,6 +1,6 @@
 //! Native methods carried out for a group that stands at a call.
 
-ghost use Rattle.std.specs.Prelude.{◌≡◌, Bool, IfOk, List, true};
+ghost use Rattle.std.specs.Prelude.{◌≡◌, ◌⊎◌, ◌<◌, ◌≤◌, ◌^◌, Bool, IfOk, List, false, true};
 ghost use Rattle.vx_cond.specs.Cond.{IsCond, IsInside};
 ghost use Rattle.vx_families.specs.Attempts.{AttemptsBy, IsGiven};
 ghost use Rattle.vx_heap.specs.Heap.{IsHeap, IsHeapFor};
@@ -20,10 +20,10 @@ use crate::doing::all_done;
 use std::alloc::Global;
 use vx_cond::Cond;
 use vx_group::Group;
-use vx_group_states::{Answer, Site, illegal};
+use vx_group_states::{Answer, Site, carry_out, illegal};
 use vx_heap::Heap;
 use vx_link::Program;
-use vx_natives::{Behaviour, Call, answer_calls, behaviour_of, native_call, read_calls};
+use vx_natives::{Behaviour, Call, behaviour_of, native_call, read_calls};
 use vx_outcome::Outcomes;
 use vx_space::{Space, SpaceFault};
 use vx_value::MethodId;
@@ -51,6 +51,20 @@ fn answered<S: Space>(
     all_done(alloc, program, space, heap, behaviour, &read)
 }
 
+/// Whether a call that takes so many operands off breaks a rule at each configuration: there are fewer, or it takes none, and they leave no
+/// room for the value that it gives then.
+fn breaks_rules(depth: usize, taken: usize, words: u16) -> bool
+    ensures broken { result ≡ true → (depth < taken) ⊎ ((taken ≡ 0) × (words < depth)) }
+    ensures enough { result ≡ false → taken ≤ depth }
+    ensures room { result ≡ false → taken ≡ 0 → depth < 2 ^ 16 }
+{
+    if taken == 0 {
+        depth > words as usize
+    } else {
+        depth < taken
+    }
+}
+
 /// Carries out a method that does this, for a group that stands at the call. The only refusal is want of memory, after which heap
 /// and group are given up.
 fn attempt<S: Space>(
@@ -68,11 +82,12 @@ fn attempt<S: Space>(
     ensures ok { IfOk result (λ r. AttemptsBy site.now (λ s. native_of site.now.program.now s method.0) (S.sets space.old) (S.sets space.new) heap.old heap.new group r.items.items) }
 {
     let native = native_call(alloc, site, space, heap, &group, method)?;
-    if group.top_frame().stack.len() < native.taken {
+    let depth = group.top_frame().stack.len();
+    if breaks_rules(depth, native.taken, site.code.max_stack) {
         return illegal(alloc, site.program, &group);
     }
     let answers = answered(alloc, site.program, space, heap, behaviour, native.calls)?;
-    answer_calls(alloc, site, space, group, native.taken, &answers)
+    carry_out(alloc, site, space, group, native.taken, &answers)
 }
 
 /// The number of a method in the table of native methods; 0 where it is none.

@@ -1,5 +1,6 @@
 -- Bytes that hold a class tell the lines of each of its methods.
 use Rattle.std.proofs.Common.{◌≡◌, ℕ, ◌+◌, ◌*◌, ◌<◌, ◌^◌, List, [], ◌∷◌, ◌++◌, length, filter, Bool, true, false, cond, Option, Some, None, Result, Ok, Err, refl, sym, ap, subst, ◌∙◌, append_assoc, length-append, arith}
+use Rattle.std.proofs.lemmas.List.{append-nil}
 use Rattle.std.proofs.lemmas.List.Concat.{flat_map-cons}
 use Rattle.std.specs.List.{flat_map, AllByRecursion}
 use Rattle.vx_cursor.specs.Place.{Place, place}
@@ -22,6 +23,7 @@ use Rattle.vx_class.specs.File.{CodeHolds, CodeIs, EachBehind, MethodHolds, File
 use Rattle.vx_class.proofs.CodeReads.{index_fits, text_usable, some_there, content_reads, at_cons, at_nil}
 use Rattle.vx_lines.specs.declared.table.LineRow.{LineRow}
 use Rattle.vx_lines.specs.declared.table.MethodLines.{MethodLines}
+use Rattle.vx_lines.specs.Sources.{file_step, source_of, sources_at, with_index}
 use Rattle.vx_lines.specs.Tables.{with_rows, attribute_at, pass_step, table_step, code_at, content_rows_at, method_step, method_at, field_at, field_step, head_at, methods_at, lines_of}
 
 -- some value is read off a text, wherever it stands
@@ -327,14 +329,18 @@ pub never_bad : (r : Result (List MethodLines) Fault) (x : List MethodLines) (f 
 never_bad (Ok y) x f e h = cc
 never_bad (Err g) x f e h = cc
 
-pub record IsThere (file : List ℕ) (c : ClassFile) : Type 0 where
+-- the lines of the methods, and the attributes of the class behind them
+pub record AreRead (file : List ℕ) (c : ClassFile) : Type 0 where
   pub lines : List MethodLines
-  pub read : lines_of file c.pool ≡ Ok lines
+  pub at : ℕ
+  pub skipped : List Attribute
+  pub are : AreAttributes c.pool skipped
+  pub read : methods_at c.pool (place 0 file) ≡ Ok (lines, place at (attributes_bytes skipped))
   pub each : length lines ≡ length c.methods
 
-pub lines_there : (file : List ℕ) (c : ClassFile) → File file c → IsThere file c
-unfolding lines_of methods_at
-lines_there file c f =
+pub methods_there : (file : List ℕ) (c : ClassFile) → File file c → AreRead file c
+unfolding methods_at
+methods_there file c f =
     let h = f.holds in
     let s = f.spelled in
     let few = h.pool.few in
@@ -359,11 +365,59 @@ lines_there file c f =
     s.parts ∙ in_order eight (pool_bytes c.pool) six (u2 (length c.interfaces)) (flat_map u2 c.interfaces) (u2 n) s.fields (u2 k) s.methods tail in
     record {
       lines = made.0;
-      read =
-          ap (λ (t : List ℕ). methods_at c.pool (place 0 t) >>= λ methods. Ok methods.0) parts
-          ∙ ap (λ (r : Read (List MethodLines)). r >>= λ methods. Ok methods.0) all;
+      at = 0 + length whole;
+      skipped = s.skipped;
+      are = s.are_skipped;
+      read = ap (λ (t : List ℕ). methods_at c.pool (place 0 t)) parts ∙ all;
       each = omega (arith, made.1);
     }
+
+pub record IsThere (file : List ℕ) (c : ClassFile) : Type 0 where
+  pub lines : List MethodLines
+  pub read : lines_of file c.pool ≡ Ok lines
+  pub each : length lines ≡ length c.methods
+
+pub lines_there : (file : List ℕ) (c : ClassFile) → File file c → IsThere file c
+unfolding lines_of
+lines_there file c f =
+    let there = methods_there file c f in
+    record {
+      lines = there.lines;
+      read = ap (λ (r : Read (List MethodLines)). r >>= λ methods. Ok methods.0) there.read;
+      each = there.each;
+    }
+
+-- ---- the source file
+
+gives_index : (pool : Pool) → length pool.entries < 256 ^ 2 → (x : Option ℕ) (a : Attribute) → IsAttribute pool a → ReadsSome (file_step pool x) (attribute_bytes a)
+gives_index pool few x a is =
+    let index = with_index pool x (a.name, a.content) in
+    (index, λ at rest. reads_last attribute_at _ (attribute_bytes a) (a.name, a.content) index at rest (attribute_reads pool a few is) refl)
+
+pub record HasSource (file : List ℕ) (c : ClassFile) : Type 0 where
+  pub index : Option ℕ
+  pub read : source_of file c.pool ≡ Ok index
+
+pub source_there : (file : List ℕ) (c : ClassFile) → File file c → HasSource file c
+unfolding source_of sources_at
+source_there file c f =
+    let few = f.holds.pool.few in
+    let there = methods_there file c f in
+    let made = attributes_read (IsAttribute c.pool) (file_step c.pool) (gives_index c.pool few) there.skipped None there.are.few there.are.each in
+    let tail = attributes_bytes there.skipped in
+    let behind : Place → Read (Option ℕ) = λ s. number 2 s >>= λ count. steps (file_step c.pool) None count.0 count.1 in
+    let last : behind (place there.at tail) ≡ Ok (made.0, place (there.at + length tail) []) =
+    subst (λ (t : List ℕ). behind (place there.at t) ≡ Ok (made.0, place (there.at + length tail) [])) (append-nil tail) (made.1 there.at []) in
+    record {
+      index = made.0;
+      read =
+          ap (λ (r : Read (List MethodLines)). (r >>= λ methods. behind methods.1) >>= λ found. Ok found.0) there.read
+          ∙ ap (λ (r : Read (Option ℕ)). r >>= λ found. Ok found.0) last;
+    }
+
+pub never_faulty : (r : Result (Option ℕ) Fault) (x : Option ℕ) (f : Fault) → r ≡ Ok x → r ≡ Err f → ⊥
+never_faulty (Ok y) x f e h = cc
+never_faulty (Err g) x f e h = cc
 
 same_lines : (r : Result (List MethodLines) Fault) (x y : List MethodLines) → r ≡ Ok x → r ≡ Ok y → x ≡ y
 same_lines (Ok z) x y e h = cc

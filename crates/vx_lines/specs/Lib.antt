@@ -1,2 +1,3 @@
 pub mod Tables
 pub mod Lines
+pub mod Sources

@@ -17,7 +17,7 @@ use vx_pool::{Pool, read_pool};
 
 /// The index of the name of an attribute, and its content.
 #[tactic(auto, unfolding(crate::specs::Tables::attribute_at, vx_class::specs::Code::content_at))]
-fn attribute<'a>(cursor: &mut Cursor<'a>) -> Result<(u16, &'a [u8]), ClassFault>
+pub(crate) fn attribute<'a>(cursor: &mut Cursor<'a>) -> Result<(u16, &'a [u8]), ClassFault>
     ensures { GivesBy (λ a. (a.0, a.1.now)) result cursor.new (attribute_at cursor.old) }
 {
     let name = cursor.u2()?;
@@ -62,7 +62,8 @@ fn pass_fields(count: u16, cursor: &mut Cursor) -> Result<(), ClassFault>
     Ok(())
 }
 
-fn is_text_of(pool: &Pool, index: u16, expected: &[u8]) -> bool
+/// Whether an index is that of a text.
+pub(crate) fn is_text_of(pool: &Pool, index: u16, expected: &[u8]) -> bool
     ensures { result ≡ is_text_of pool.now index expected.now }
 {
     match text(pool, index) {
@@ -215,8 +216,9 @@ fn pass_head(alloc: Global, cursor: &mut Cursor) -> Result<(), ClassFault>
     Ok(())
 }
 
+/// The lines of all methods, behind all that stands before them.
 #[tactic(auto, unfolding(crate::specs::Tables::methods_at))]
-fn class_methods(
+pub(crate) fn class_methods(
     alloc: Global,
     pool: &Pool,
     cursor: &mut Cursor,

@@ -7,7 +7,7 @@ use crate::table::LineRow;
 use std::alloc::AllocError;
 
 /// A number of two bytes, the high one first.
-fn number_of(high: u8, low: u8) -> u16
+pub(crate) fn number_of(high: u8, low: u8) -> u16
     ensures { result ≡ 256 * high + low }
 {
     256 * u16::from(high) + u16::from(low)

@@ -102,7 +102,7 @@ next_number keys hash from key (Some number) h is = number_there keys hash from 
 
 -- ---- one member more
 
-module _ (signatures : List (List ℕ × List ℕ)) (keys later : BTreeSet ℕ) (s : List ℕ × List ℕ) (known : AreKeys signatures keys) (few : length signatures < 4294967296)
+module _ (signatures : List (List ℕ × List ℕ)) (keys later : BTreeSet ℕ) (s : List ℕ × List ℕ) (known : AreKeys signatures keys) (few : length signatures < 18446744073709551616)
     (u : Updates nat_cmp keys later (key_of (hash_of_signature s) (length signatures)) true) where
   abbrev more : List (List ℕ × List ℕ)
   more = signatures ++ s ∷ []
@@ -145,7 +145,7 @@ module _ (signatures : List (List ℕ × List ℕ)) (keys later : BTreeSet ℕ) 
 
   pub one_more : AreKeys more later
   one_more = record {
-    few = subst (λ n. n ≤ 4294967296) (sym count) (omega arith);
+    few = subst (λ n. n ≤ 18446744073709551616) (sym count) (omega arith);
     there = λ number l.
         below_more (λ k. contains nat_cmp later (key_at more k) ≡ true) (length signatures)
         (λ k h. subst (λ x. contains nat_cmp later x ≡ true) (sym (key_before k h)) (stays (key_at signatures k) (known.there k h)))
@@ -155,14 +155,14 @@ module _ (signatures : List (List ℕ × List ℕ)) (keys later : BTreeSet ℕ) 
 
 -- the key of a member that goes in behind those before it
 pub next_of : {M : Type 0} (f : M → List ℕ × List ℕ) (members : List M) (i : ℕ) (m : M) (keys later : BTreeSet ℕ) (key number hash : ℕ) → i < length members → m ≡ get_or members i m
-    → number ≡ i → i < 4294967296 → hash ≡ hash_of_signature (f m) → key ≡ key_of hash number → AreKeys (map f (take i members)) keys → Updates nat_cmp keys later key true
+    → number ≡ i → i < 18446744073709551616 → hash ≡ hash_of_signature (f m) → key ≡ key_of hash number → AreKeys (map f (take i members)) keys → Updates nat_cmp keys later key true
     → AreKeys (map f (take (i + 1) members)) later
 next_of f members i m keys later key number hash l is n few h k known u =
     let count : length (map f (take i members)) ≡ i = length_taken f members i l in
     let key_is : key ≡ key_of (hash_of_signature (f m)) (length (map f (take i members))) =
     k ∙ ap (λ x. key_of x number) h ∙ ap (key_of (hash_of_signature (f m))) (n ∙ sym count) in
     subst (λ s. AreKeys s later) (ap (λ x. map f (take i members) ++ f x ∷ []) is ∙ sym (map_more f members i m l))
-    (one_more (map f (take i members)) keys later (f m) known (subst (λ c. c < 4294967296) (sym count) few)
+    (one_more (map f (take i members)) keys later (f m) known (subst (λ c. c < 18446744073709551616) (sym count) few)
     (subst (λ x. Updates nat_cmp keys later x true) key_is u))
 
 -- ---- the first member of a name and a descriptor
@@ -198,7 +198,7 @@ module _ (signatures : List (List ℕ × List ℕ)) (keys : BTreeSet ℕ) (known
       (subst (λ s. contains nat_cmp keys (key_of (hash_of_signature s) m) ≡ true) (same (item_or signatures m ([], [])) e) (known.there m l)) h)
 
   -- both parts of two keys are the same
-  parts : (p q m k : ℕ) → m < 4294967296 → k < 4294967296 → p * 4294967296 + m ≡ q * 4294967296 + k → m ≡ k
+  parts : (p q m k : ℕ) → m < 18446744073709551616 → k < 18446744073709551616 → p * 18446744073709551616 + m ≡ q * 18446744073709551616 + k → m ≡ k
   parts p q m k a b e = omega arith
 
   -- from a start on none is before the number from which the next key is looked for
@@ -232,7 +232,7 @@ module _ (signatures : List (List ℕ × List ℕ)) (keys : BTreeSet ℕ) (known
       pub gone_by : fits next ≡ false → NoneBetween signatures name descriptor start (next + 1)
       gone_by f k a b = below_or_from k next (others k a) (λ c. let e : next ≡ k = omega arith in subst (λ m. fits m ≡ false) e f)
 
-      pub is_last : fits next ≡ false → 4294967296 ≤ next + 1 → None ≡ first_signature signatures name descriptor start
+      pub is_last : fits next ≡ false → 18446744073709551616 ≤ next + 1 → None ≡ first_signature signatures name descriptor start
       is_last f l = none_in fits start (length signatures - start) (λ m a b. gone_by f m a (omega (arith, known.few)))
 
 signature_at : {M : Type 0} (f : M → List ℕ × List ℕ) (members : List M) (i : ℕ) (m : M) → i < length (map f members) → m ≡ get_or members i m → item_or (map f members) i ([], []) ≡ f m

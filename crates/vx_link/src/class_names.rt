@@ -1,6 +1,6 @@
 //! What a class file names: itself, its superclass, its superinterfaces, its members (JVMS 4.1, 4.4).
 
-ghost use Rattle.std.specs.Prelude.{◌≡◌};
+ghost use Rattle.std.specs.Prelude.{◌≡◌, ◌<◌, ◌^◌, length};
 ghost use Rattle.std.specs.Option.{option_copied};
 ghost use Rattle.vx_link.specs.Names.{class_name, utf8};
 ghost use Rattle.vx_link.specs.Faults.{name_of, super_name, is_interface_file};
@@ -20,7 +20,8 @@ pub fn class_name(pool: &Pool, index: u16) -> &[u8]
 
 /// The bytes of a text entry.
 pub fn utf8(pool: &Pool, index: u16) -> &[u8]
-    ensures { result.now ≡ utf8 pool.now index }
+    ensures value { result.now ≡ utf8 pool.now index }
+    ensures few { length result.now < 2 ^ 16 }
 {
     text(pool, index).unwrap_or(&[])
 }

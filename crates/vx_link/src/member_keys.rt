@@ -1,9 +1,8 @@
 //! Keys by which members are found: hashes of their names and descriptors, and their numbers.
 
-ghost use Rattle.std.specs.Prelude.{◌≡◌, ◌<◌, ◌≤◌, IfOk};
+ghost use Rattle.std.specs.Prelude.{◌≡◌, ◌≤◌};
 ghost use Rattle.vx_link.specs.MemberKeys.{IsNext, IsNextNumber, IsNumber, hash_of, hash_of_both, key_of};
 
-use std::alloc::AllocError;
 use std::collections::BTreeSet;
 use std::hash::{DefaultHasher, Hasher};
 
@@ -27,28 +26,18 @@ pub(crate) fn hash_of_both(one: u64, other: u64) -> u64
 }
 
 /// The key of a member: a hash of its name and its descriptor, and below it its number.
-pub(crate) fn key_of(hash: u64, number: u32) -> u128
+pub(crate) fn key_of(hash: u64, number: u64) -> u128
     ensures { result ≡ key_of hash number }
 {
-    hash as u128 * 4294967296 + number as u128
-}
-
-/// The number behind so many members, unless there are too many.
-pub(crate) fn number_behind(count: usize) -> Result<u32, AllocError>
-    ensures { IfOk result (λ number. (number ≡ count) × (count < 4294967296)) }
-{
-    match u32::try_from(count) {
-        Ok(number) => Ok(number),
-        Err(_) => Err(AllocError),
-    }
+    hash as u128 * 18446744073709551616 + number as u128
 }
 
 /// The number in a key, if it is one of this hash.
-fn number_in(hash: u64, key: u128) -> Option<u32>
+fn number_in(hash: u64, key: u128) -> Option<u64>
     requires { key_of hash 0 ≤ key }
     ensures { IsNumber hash key result }
 {
-    u32::try_from(key - key_of(hash, 0)).ok()
+    u64::try_from(key - key_of(hash, 0)).ok()
 }
 
 /// The least key from one on.
@@ -59,7 +48,7 @@ fn next_key(keys: &BTreeSet<u128>, from: u128) -> Option<u128>
 }
 
 /// The least number from one on that has a key of this hash.
-pub(crate) fn next_number(keys: &BTreeSet<u128>, hash: u64, from: u32) -> Option<u32>
+pub(crate) fn next_number(keys: &BTreeSet<u128>, hash: u64, from: u64) -> Option<u64>
     ensures { IsNextNumber keys.now hash from result }
 {
     let key = next_key(keys, key_of(hash, from))?;

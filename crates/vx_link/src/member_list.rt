@@ -4,7 +4,7 @@ ghost use Rattle.std.specs.Prelude.{◌≡◌, ◌&&◌, IfOk, bytes_eq, length,
 ghost use Rattle.vx_link.specs.MemberKeys.{AreKeys};
 ghost use Rattle.vx_link.specs.Members.{IsFirst};
 
-use crate::member_keys::{hash_of_both, key_of, next_number, number_behind};
+use crate::member_keys::{hash_of_both, key_of, next_number};
 use crate::program::{LinkedField, LinkedMethod};
 use crate::sought::Sought;
 use std::alloc::{AllocError, Global};
@@ -68,8 +68,7 @@ fn keys_of<M: Member>(alloc: Global, members: &[M]) -> Result<BTreeSet<u128>, Al
 {
     let mut keys = BTreeSet::new(alloc);
     for place in 0..members.len() {
-        let number = number_behind(place)?;
-        keys.insert(key_of(members[place].hash(), number))?;
+        keys.insert(key_of(members[place].hash(), place as u64))?;
     }
     Ok(keys)
 }
@@ -150,7 +149,7 @@ impl<M: Member> MemberList<M> {
 
     /// The number of the first member from a number on that is sought. It is found by its hash. Where none is up to a last number, the
     /// answer may be any number past that.
-    pub fn first(&self, sought: &Sought, mut from: u32, last: u32) -> Option<u32>
+    pub fn first(&self, sought: &Sought, mut from: u64, last: u64) -> Option<u64>
         ensures { IsFirst (map M.signature self.now) sought.now.0 sought.now.1 from last result }
     {
         loop {

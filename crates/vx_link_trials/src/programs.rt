@@ -80,7 +80,7 @@ fn a_folder_is_linked_in_its_order(rt: HostRuntime) -> Result<(), Fail> {
 }
 
 /// Whether a field of a name and a descriptor has a number among those of the folder's classes.
-fn is_field(program: &Program, name: &[u8], descriptor: &[u8], number: Option<u32>) -> bool {
+fn is_field(program: &Program, name: &[u8], descriptor: &[u8], number: Option<u64>) -> bool {
     let sought = Sought::of(name, descriptor);
     program.fields.first(&sought, 0, 4) == number
 }

@@ -8,6 +8,7 @@ pub mod Leaves
 pub mod Attempting
 pub mod Behaving
 pub mod Few
+pub mod Full
 pub mod CellLaws
 pub mod CharLaws
 pub mod PutBehind

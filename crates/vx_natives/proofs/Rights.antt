@@ -35,3 +35,8 @@ module _ {S I : Type 0} (sets : Sets I) (heap : HeapView S I) (c : List Bool) wh
   pub held_if : (b : Bool) (d e : Deed) → is_deed_held sets heap c d ≡ true → is_deed_held sets heap c e ≡ true → is_deed_held sets heap c (if b then d else e) ≡ true
   held_if true d e t u = t
   held_if false d e t u = u
+
+  -- the first where a test holds
+  pub held_where : (b : Bool) (d e : Deed) → (b ≡ true → is_deed_held sets heap c d ≡ true) → is_deed_held sets heap c e ≡ true → is_deed_held sets heap c (if b then d else e) ≡ true
+  held_where true d e t u = t refl
+  held_where false d e t u = u

@@ -1,9 +1,9 @@
 -- What native methods do at one configuration, and what the ordinary machine says of it (the class library of Java SE 7).
-use Rattle.std.specs.Prelude.{◌≡◌, ℕ, ℤ, Bool, true, List, [], pos, ◌&&◌, ◌++◌, ◌∷◌}
+use Rattle.std.specs.Prelude.{◌≡◌, ℕ, ℤ, Bool, true, List, [], nat_le, pos, ◌&&◌, ◌+◌, ◌++◌, ◌∷◌}
 use Prim.Native.String.{String}
 use Rattle.vx_group_states.specs.Answering.{answered, is_answer_held}
 use Rattle.vx_group_states.specs.declared.answer.Answer.{Answer}
-use Rattle.vx_heap.specs.Heap.{HeapView, is_held, name_at, value_of}
+use Rattle.vx_heap.specs.Heap.{HeapView, is_held, name_at, object_in, value_of}
 use Rattle.vx_java.specs.FirstObjects.{core_object, string_object}
 use Rattle.vx_java.specs.Library.{copy_within, with_message_and_cause}
 use Rattle.vx_java.specs.Machine.{Here, Value, Write, go, past, push_new, raise}
@@ -76,6 +76,10 @@ deed_says sets heap (sets_cells r a b) c h rest =
 deed_says sets heap (copies array from other to count) c h rest =
     copy_within h rest (name_at sets heap.objects c array) (pos from) (name_at sets heap.objects c other) (pos to) (pos count)
 
+-- an array has elements from a place on, and so many
+abbrev pub has_elements : {S I : Type 0} → HeapView S I → (array from count : ℕ) → Bool
+has_elements heap array from count = nat_le (from + count) (object_in heap array).length
+
 -- what it names is there
 abbrev pub is_deed_held : {S I : Type 0} → Sets I → HeapView S I → List Bool → Deed → Bool
 is_deed_held sets heap c (answers a) = is_answer_held sets heap c a
@@ -84,7 +88,8 @@ is_deed_held sets heap c (prints stream start units) = is_held sets heap c start
 is_deed_held sets heap c (sets_text r start units) = is_held sets heap c (Ref r) && is_held sets heap c start
 is_deed_held sets heap c (changes_text r start units) = is_held sets heap c (Ref r) && is_held sets heap c start
 is_deed_held sets heap c (sets_cells r a b) = is_held sets heap c (Ref r) && (is_held sets heap c a && is_held sets heap c b)
-is_deed_held sets heap c (copies array from other to count) = is_held sets heap c (Ref array) && is_held sets heap c (Ref other)
+is_deed_held sets heap c (copies array from other to count) =
+    (is_held sets heap c (Ref array) && is_held sets heap c (Ref other)) && (has_elements heap array from count && has_elements heap other to count)
 is_deed_held sets heap c _ = true
 
 -- it does what is said, where this stands at the configuration

@@ -24,9 +24,6 @@ use vx_heap::Heap;
 use vx_space::{Space, SpaceFault};
 use vx_value::Slot;
 
-/// The most cells of an array whose text is read; an array has fewer.
-const MOST_CELLS: usize = 4_294_967_295;
-
 /// The unit of an element.
 fn unit_in(element: Slot) -> u16
     ensures { result ≡ unit_in element }
@@ -110,7 +107,7 @@ fn with_element<S: Space>(
     heap: &mut Heap<S>,
     texts: &Cond<Answer, S>,
     reference: u64,
-    cell: u32,
+    cell: usize,
     condition: S::Id,
 ) -> Result<Cond<Answer, S>, SpaceFault>
     requires heap { IsHeap (S.sets space.old) heap.old }
@@ -127,7 +124,7 @@ fn with_element<S: Space>(
     ensures scope { IfOk result (λ r. r.scope ≡ condition) }
     ensures at { IfOk result (λ r. (c : List Bool) → (S.sets space.old).test condition c ≡ true → IsTextGiven heap.new.texts (chars_at (S.sets space.new) heap.new c reference (cell + 1)) (answer_at (S.sets space.new) r c)) }
 {
-    let element = heap.read_cell(space, reference, cell, condition)?;
+    let element = heap.read_place(space, reference, cell, condition)?;
     let pairs = texts.zip(space, &element, with_next)?;
     let made = all_appended(alloc, space, heap, &pairs)?;
     Ok(made)
@@ -152,12 +149,9 @@ fn chars_given<S: Space>(
     ensures at { IfOk result (λ r. (c : List Bool) → (S.sets space.old).test condition c ≡ true → IsTextGiven heap.new.texts (chars_at (S.sets space.new) heap.new c reference (length (object_in heap.old reference).cells)) (answer_at (S.sets space.new) r c)) }
 {
     let count = heap.cell_count(reference);
-    if count > MOST_CELLS {
-        return Err(SpaceFault::NoMemory);
-    }
     let empty = heap.put_text(&[])?;
     let mut texts = Cond::one(alloc, space, Answer::Give(Slot::Text(empty)), condition)?;
-    for cell in 0..count as u32 {
+    for cell in 0..count {
         texts = with_element(alloc, space, heap, &texts, reference, cell, condition)?;
     }
     Ok(texts)

@@ -2,7 +2,6 @@
 //! one configuration (the class library of Java SE 7).
 #![tactic(auto)]
 
-pub mod answering;
 mod arguments;
 pub mod behaviour;
 pub mod call;
@@ -14,7 +13,6 @@ pub mod readings;
 pub mod reads;
 pub mod texts;
 
-pub use answering::answer_calls;
 pub use behaviour::{
     Behaviour, BuilderChange, CellQuestion, Computation, Initialiser, Maker, Printing, Spelling,
     TextQuestion, behaviour_of,

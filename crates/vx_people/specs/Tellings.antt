@@ -6,6 +6,7 @@ use Rattle.vx_picture.specs.declared.shape.Drawn.{Drawn}
 use Rattle.vx_picture.specs.declared.shape.Drawn.TheVariants.{All, Ends, Piece}
 use Rattle.vx_picture.specs.Pictures.{picture_of}
 use Rattle.vx_picture.specs.Text.{picture_text}
+use Rattle.vx_picture.specs.Walks.{Walks}
 use Rattle.vx_count.specs.Text.{count_text, list_text}
 use Rattle.vx_cover.specs.Covers.{IsCover}
 use Rattle.vx_cover.specs.Text.{cover_text}
@@ -20,6 +21,11 @@ use Rattle.vx_people.specs.declared.telling.Telling.TheVariants.{Interactions, P
 -- the text of a report's picture, or of a part of it
 abbrev pub report_picture : Drawn → Report → List ℕ
 report_picture drawn report = picture_text report.options (picture_of drawn report)
+
+-- the text is that of a picture of a report, or of a part of it, along whose edges come to always just the configurations that the nodes hold
+pub record IsPictureText (drawn : Drawn) (report : Report) (text : List ℕ) : Type 0 where
+  pub walks : Walks report (picture_of drawn report)
+  pub spelled : text ≡ report_picture drawn report
 
 -- the text is that of a cover of a report
 pub record IsCoverText (report : Report) (text : List ℕ) : Type 0 where
@@ -39,7 +45,7 @@ list_length n = unwrap_or n 1000
 
 abbrev pub IsToldText : Telling → Report → List ℕ → Type 0
 IsToldText Interactions report text = IsInteractionsText report text
-IsToldText (Picture drawn) report text = text ≡ report_picture drawn report
+IsToldText (Picture drawn) report text = IsPictureText drawn report text
 IsToldText Cover report text = IsCoverText report text
 IsToldText Explanations report text = IsExplanationText report text
 IsToldText Counts report text = text ≡ count_text report

@@ -4,7 +4,7 @@ ghost use Rattle.std.specs.Prelude.{◌≡◌, ◌↔◌, false, IfOk, IfSome, I
 ghost use Rattle.vx_interact.specs.Text.{IsInteractionsText};
 ghost use Rattle.vx_count.specs.Text.{count_text, list_text};
 ghost use Rattle.vx_report_reader.specs.Lawful.{IsLawful};
-ghost use Rattle.vx_people.specs.Tellings.{IsCoverText, IsExplanationText, IsToldText, is_told, report_picture};
+ghost use Rattle.vx_people.specs.Tellings.{IsCoverText, IsExplanationText, IsPictureText, IsToldText, is_told};
 
 use std::alloc::{AllocError, Global};
 use vx_bdd::BddSpace;
@@ -44,10 +44,10 @@ fn interacting(alloc: Global, report: &Report) -> Result<Vec<u8>, AllocError>
 /// The text of the picture of a report, or of a part of it.
 fn picturing(alloc: Global, report: &Report, drawn: Drawn) -> Result<Vec<u8>, AllocError>
     requires { IsLawful report.now }
-    ensures { IfOk result (λ text. text.items ≡ report_picture drawn report.now) }
+    ensures { IfOk result (λ text. IsPictureText drawn report.now text.items) }
 {
     let picture = picture(alloc, report, drawn)?;
-    picture_text(alloc, report, &picture)
+    Ok(picture_text(alloc, report, &picture)?)
 }
 
 /// The text of a cover of a report.

@@ -1,12 +1,13 @@
 //! Objects (JVMS 2.7).
 
-ghost use Rattle.std.specs.Prelude.{◌≡◌, ◌∷◌, [], IfOk, OnOk, length, slice_set};
+ghost use Rattle.std.specs.Prelude.{◌≡◌, ◌∷◌, [], IfOk, IfSome, OnOk, length, slice_set};
 ghost use Rattle.vx_java.specs.Library.{number_in};
 ghost use Rattle.vx_java.specs.Machine.{Text as TextValue, Top};
 ghost use Rattle.vx_java.specs.Texts.{units_in};
 ghost use Rattle.vx_list.specs.Places.{item_or};
 ghost use Rattle.vx_plain.specs.Views.{cells_of, object_of, units_of, value_of, values_of};
 
+use crate::limits::held;
 use crate::value::Value;
 use std::alloc::{AllocError, Global};
 use vx_value::ClassId;
@@ -75,13 +76,13 @@ impl Body {
         Ok(Body { text, values })
     }
 
-    /// The cells, if all of them hold values. A text is no cell that an instruction reads: it is refused as want of memory.
-    fn cells(&self) -> Result<&[Value], AllocError>
-        ensures { IfOk result (λ cells. values_of cells.now ≡ cells_of self.now) }
+    /// The cells, if all of them hold values: a text is no cell that an instruction reads.
+    fn cells(&self) -> Option<&[Value]>
+        ensures { IfSome result (λ cells. values_of cells.now ≡ cells_of self.now) }
     {
         match self.text {
-            Some(_) => Err(AllocError),
-            None => Ok(self.values.as_slice()),
+            Some(_) => None,
+            None => Some(self.values.as_slice()),
         }
     }
 
@@ -205,7 +206,7 @@ impl Object {
     pub fn cells(&self) -> Result<&[Value], AllocError>
         ensures { IfOk result (λ cells. values_of cells.now ≡ (object_of self.now).cells) }
     {
-        self.body.cells()
+        held(self.body.cells())
     }
 
     /// The text of a String or StringBuilder; of any other object the empty one.

@@ -10,3 +10,4 @@ mod unwinding;
 pub use making::exception;
 pub use next::Next;
 pub use throwing::{raise, throw};
+pub use unwinding::{handler_on_top, pass};

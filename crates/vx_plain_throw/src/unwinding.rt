@@ -16,9 +16,9 @@ use vx_plain::{State, Value};
 use vx_plain_ready::core_class;
 use vx_value::{InitState, Kind};
 
-/// The handler of the frame on top for an object.
+/// The handler of the frame on top for an object: where it goes on, or `None` where it doesn't handle the object (JVMS 2.10).
 #[tactic(auto, unfolding(vx_plain::specs::Views::state_of))]
-fn handler_on_top(program: &Program, state: &State, object: u64) -> Option<u32>
+pub fn handler_on_top(program: &Program, state: &State, object: u64) -> Option<u32>
     requires { HasClassNumbers program.now }
     ensures { result ≡ handler_of program.now (state_of state.now) (state_of state.now).top.kind object }
 {
@@ -67,8 +67,14 @@ fn pass_initialisation(
     Ok(thrown)
 }
 
-/// An object passes the frame on top, which stays there.
-fn pass(alloc: Global, program: &Program, state: &mut State, object: u64) -> Result<u64, AllocError>
+/// An object passes the frame on top, which stays there: what leaves an initialisation marks its class and is wrapped, unless it is an
+/// error (JVMS 5.5). The only refusal is want of memory, after which nothing is said of the state.
+pub fn pass(
+    alloc: Global,
+    program: &Program,
+    state: &mut State,
+    object: u64,
+) -> Result<u64, AllocError>
     requires { HasClassNumbers program.now }
     ensures object { IfOk result (λ r. r ≡ passed_object program.now (state_of state.old) (state_of state.old).top.kind object) }
     ensures state { OnOk result (state_of state.new ≡ passed_state program.now (state_of state.old) (state_of state.old).top.kind object) }

@@ -4,7 +4,7 @@ use Rattle.vx_io.specs.Call.{Call, Listing, Reading}
 use Rattle.vx_io.specs.Held.{Held, FilesState, contents}
 use Rattle.vx_plans.specs.declared.status.Status.{Status}
 use Rattle.vx_plans.specs.declared.status.Status.TheVariants.{ReadFault, TooLarge, NoMemory}
-use Rattle.vx_plans.specs.Plan.{Plan, Refuse, Say, Write, Read, List_below, If_allowed, As_report, Leads, MayGive, MayStop, unless, attempt, Outcome, done_with}
+use Rattle.vx_plans.specs.Plan.{Plan, Refuse, Say, Write, Read, List_below, If_allowed, As_report, Choose, Leads, MayGive, MayStop, unless, attempt, Outcome, done_with}
 use Rattle.vx_cursor.specs.Place.{IsBytes}
 use Rattle.vx_plans.specs.Job.{Exactly, IsTextOf, Product}
 use Rattle.vx_plans.specs.KeepsFiles.{KeepsFiles}
@@ -59,6 +59,7 @@ from_before held before later after h (If_allowed model next) outcome (inl g) = 
 from_before held before later after h (If_allowed model next) outcome (inr g) = inr (g.0, from_before held before later after h next outcome g.1)
 from_before held before later after h (As_report bytes next) outcome (inl g) = inl g
 from_before held before later after h (As_report bytes next) outcome (inr g) = inr (g.0, g.1, from_before held before later after h (next g.0) outcome g.2)
+from_before held before later after h (Choose passes next) outcome g = (g.0, g.1, from_before held before later after h (next g.0) outcome g.2)
 
 -- a plan is left as the rest is that its answers led to
 pub stops_behind : (old mid new : FilesState) (plan rest : Plan) (status : Status) → KeepsFiles old mid → Leads old.held plan rest → MayStop mid new rest status → MayStop old new plan status

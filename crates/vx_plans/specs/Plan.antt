@@ -16,7 +16,7 @@ use Rattle.std.proofs.Common.{◌⊎◌}
 
 -- A plan: it refuses, or says a text of a product and ends with a status, or asks for the first bytes of a file or for the paths below a folder and goes on
 -- with what is given. Beside each question stands the status where the call fails. Or it goes on where a model allows a
--- configuration, and refuses where it allows none; or it goes on with the report that bytes spell, and refuses where they spell none.
+-- configuration, and refuses where it allows none; or it goes on with the report that bytes spell, and refuses where they spell none; or it goes on with any values that pass a test.
 pub data Plan : Type 0 where
   Refuse : Status → Plan
   Say : (product : Product) (last : Status) → Plan
@@ -24,6 +24,7 @@ pub data Plan : Type 0 where
   List_below : List ℕ → Status → (List (List ℕ) → Plan) → Plan
   If_allowed : Model → Plan → Plan
   As_report : List ℕ → (Report → Plan) → Plan
+  Choose : (List Bool → Bool) → (List Bool → Plan) → Plan
 
 -- writes a text of a product, and is done
 abbrev pub Write : Product → Plan
@@ -83,6 +84,7 @@ MayGive held before after (If_allowed model next) outcome =
 MayGive held before after (As_report bytes next) outcome =
     ((line : ℕ) × IsBadReport bytes line × (outcome ≡ Err (BadReport line)))
     ⊎ ((report : Report) × ReportText bytes report × MayGive held before after (next report) outcome)
+MayGive held before after (Choose passes next) outcome = (values : List Bool) × (passes values ≡ true) × MayGive held before after (next values) outcome
 
 -- What the second plan may give, the first one may: its answers so far lead there.
 pub record Leads (held : Option Held) (plan rest : Plan) : Type 0 where

@@ -148,5 +148,6 @@ pub fn put_line<E: Sink>(sink: &mut E, status: &Status) -> Result<(), SinkFault>
             ],
         ),
         Status::Unlike => put_all(sink, b"unlike\n"),
+        Status::NotJoinable => put_all(sink, b"not joinable\n"),
     }
 }

@@ -37,8 +37,10 @@ pub enum Status {
     BadSource { line: u64, reason: u8 },
     /// A file has more than `room` bytes, or a folder more than `room` class files.
     TooLarge { path: Name, room: u64 },
-    /// Two reports have different options.
+    /// Two reports have different options, or, where they are joined, different limits or versions.
     Unlike,
+    /// No report says what several reports say: their rounds pass 128 bits, or there would be no number of attempts.
+    NotJoinable,
 }
 
 impl From<AllocError> for Status {
@@ -94,6 +96,7 @@ impl Status {
             Status::BadSource { .. } => 12,
             Status::TooLarge { .. } => 13,
             Status::Unlike => 14,
+            Status::NotJoinable => 18,
         }
     }
 }

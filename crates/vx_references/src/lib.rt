@@ -13,4 +13,4 @@ pub use calls::{MethodReference, is_static, member_text, method_name, method_ref
 pub use fields::{FieldReference, field_reference, sort_of};
 pub use members::named_member;
 pub use named::{class_table, owner_entry};
-pub use signatures::signature;
+pub use signatures::{signature, signature_of_method};

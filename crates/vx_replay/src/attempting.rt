@@ -34,8 +34,9 @@ pub struct Attempted {
     pub written: Option<Written>,
 }
 
-/// Carries out a beginning or a native method; another outcome stays.
-fn carried_out(
+/// Carries out a beginning or a native method; another outcome stays. The only refusal is want of memory, after which nothing is said
+/// of the state.
+pub fn carried_out(
     alloc: Global,
     program: &Program,
     tables: &Tables,
@@ -63,8 +64,9 @@ fn silent(next: Next) -> Attempted
     }
 }
 
-/// Where an outcome leads, and what it writes.
-fn led(
+/// Where an outcome leads that has been carried out, and what it writes. Where it ends the run, the frames stand as before it. The only
+/// refusal is want of memory, after which nothing is said of the state.
+pub fn led(
     alloc: Global,
     program: &Program,
     state: &mut State,

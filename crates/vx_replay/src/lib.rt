@@ -9,8 +9,8 @@ mod replaying;
 mod running;
 mod text;
 
-pub use attempting::{Attempted, Written, attempt};
+pub use attempting::{Attempted, Written, attempt, carried_out, led};
 pub use pieces::PlainPiece;
 pub use replaying::run_text;
 pub use running::{Place, Replay, run_alone};
-pub use text::replay_text;
+pub use text::{line_of, replay_text};

@@ -96,8 +96,9 @@ fn line_within(program: &Program, table: &LineTable, at: Place) -> Option<u16>
     }
 }
 
-/// The line of a position of a method, by the line tables of the first classes of the program.
-fn line_of(program: &Program, tables: &[LineTable], at: Place) -> Option<u16>
+/// The line of a position of a method, by the line tables of the first classes of the program, which are those of the folder; `None`
+/// where they have no line of it.
+pub fn line_of(program: &Program, tables: &[LineTable], at: Place) -> Option<u16>
     ensures { result ≡ line_of program.now tables.now at.method.0 at.position }
 {
     let class = class_of_method(program, at.method);

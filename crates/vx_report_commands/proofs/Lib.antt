@@ -1,3 +1,4 @@
 pub mod Agreements
 pub mod Alike
+pub mod Joins
 pub mod Tellings

@@ -31,3 +31,9 @@ pub struct AgreeWords<'a> {
     pub report: &'a str,
     pub other: &'a str,
 }
+
+/// The words of `join`: some reports.
+#[derive(Clone, Copy)]
+pub struct JoinWords<'a> {
+    pub reports: &'a [String],
+}

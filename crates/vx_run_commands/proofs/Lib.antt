@@ -1,5 +1,5 @@
 pub mod Running
-pub mod Replays
+pub mod RetoldRuns
 pub mod Ran
 pub mod Loaded
 pub mod Judging

@@ -1,3 +1,3 @@
 pub mod Run
 pub mod Verify
-pub mod Replay
+pub mod Retell

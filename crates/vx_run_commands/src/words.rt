@@ -25,9 +25,20 @@ pub struct VerifyWords<'a> {
     pub main: &'a str,
 }
 
-/// The words of `replay`: a folder, a model, a main class, the greatest number of attempts, and the names of the options that are on.
+/// What is told of the run of one configuration.
 #[derive(Clone, Copy)]
-pub struct ReplayWords<'a> {
+pub enum Retelling {
+    /// What it writes, how it ends, and where it stands at the end.
+    Replay,
+    /// The stack trace of its end.
+    Trace,
+}
+
+/// The words of `replay` or `trace`: a folder, a model, a main class, the greatest number of attempts, and the names of the options that
+/// are on.
+#[derive(Clone, Copy)]
+pub struct RetellWords<'a> {
+    pub retelling: Retelling,
     pub folder: &'a str,
     pub model: &'a str,
     pub main: &'a str,

@@ -274,6 +274,29 @@ pub const REPORT_CASES: [(&str, u8, &str, &str); 45] = [
     ("agree report", 2, "", "usage\n"),
 ];
 
+/// The same of several reports that are joined.
+pub const JOIN_CASES: [(&str, u8, &str, &str); 9] = [
+    (
+        "join part report",
+        0,
+        "varexj report 1\noptions 1\noption A\nlimit 100\nrounds 8\nnode 2 0 0 1\nnode 3 0 1 0\nout 2 1\\0a\nout 3 0\\0a\nend 1 return\ndone\n",
+        "",
+    ),
+    (
+        "join report part report",
+        0,
+        "varexj report 1\noptions 1\noption A\nlimit 100\nrounds 12\nnode 2 0 1 0\nnode 3 0 0 1\nout 2 0\\0a\nout 3 1\\0a\nend 1 return\ndone\n",
+        "",
+    ),
+    ("join report plain", 14, "", "unlike\n"),
+    ("join many report", 18, "", "not joinable\n"),
+    ("join many plain", 14, "", "unlike\n"),
+    ("join report cut", 10, "", "bad report line 6\n"),
+    ("join cut absent", 10, "", "bad report line 6\n"),
+    ("join report", 2, "", "usage\n"),
+    ("join", 2, "", "usage\n"),
+];
+
 /// The same of commands that read classes or a source, and run nothing or one configuration.
 pub const CLASS_CASES: [(&str, u8, &str, &str); 18] = [
     ("verify a m Main", 0, "verified\n", ""),
@@ -316,8 +339,90 @@ pub const CLASS_CASES: [(&str, u8, &str, &str); 18] = [
     ("asm", 2, "", "usage\n"),
 ];
 
+/// The same of traces.
+pub const TRACE_CASES: [(&str, u8, &str, &str); 8] = [
+    (
+        "trace t m Main 100 -",
+        0,
+        "Exception in thread \"main\" java.lang.ArithmeticException: / by zero\n\tat Main.part(Unknown Source)\n\tat Main.main(Unknown Source)\n",
+        "",
+    ),
+    (
+        "trace t m Main 100 A",
+        0,
+        "return\n\tat Main.main(Unknown Source)\n",
+        "",
+    ),
+    (
+        "trace t m Main 3 -",
+        0,
+        "unfinished\n\tat Main.part(Unknown Source)\n\tat Main.main(Unknown Source)\n",
+        "",
+    ),
+    ("trace absent m Main 100 A,A", 11, "", "not allowed\n"),
+    (
+        "trace b e Main 100 -",
+        7,
+        "",
+        "bad class 1\\201.class at 3 reason 3\n",
+    ),
+    ("trace n m Main 100 A", 8, "", "no option A\n"),
+    ("trace t m Main 0 A", 2, "", "usage\n"),
+    ("trace t m Main 100", 2, "", "usage\n"),
+];
+
+/// The same of cuts of models.
+pub const CUT_CASES: [(&str, u8, &str, &str); 20] = [
+    (
+        "cut two B,A",
+        0,
+        "# part 1 !A & !B\noption A\noption B\nrule !A & !B\n# part 2 !A & B\noption A\noption B\nrule !A & B\n# part 3 A & !B\noption A\noption B\nrule A & !B\n# part 4 A & B\noption A\noption B\nrule A & B\n",
+        "",
+    ),
+    (
+        "cut two 1",
+        0,
+        "# part 1 !A\noption A\noption B\nrule !A\n# part 2 A\noption A\noption B\nrule A\n",
+        "",
+    ),
+    // What no configuration has is left out.
+    (
+        "cut on A report",
+        0,
+        "# part 1 A\noption A Main A\nrule A\nrule A\n",
+        "",
+    ),
+    (
+        "cut m -",
+        0,
+        "# part 1 true\noption A Main A\nrule true\n",
+        "",
+    ),
+    (
+        "cut b.cnf A",
+        0,
+        "c part 1 !A\nc 1 A Main A\nc 2 B\np cnf 2 2\n-1 2 0\n-1 0\nc part 2 A\nc 1 A Main A\nc 2 B\np cnf 2 2\n-1 2 0\n1 0\n",
+        "",
+    ),
+    ("cut two 0", 2, "", "usage\n"),
+    ("cut two 17", 2, "", "usage\n"),
+    ("cut two 01", 2, "", "usage\n"),
+    ("cut two", 2, "", "usage\n"),
+    ("cut two A report report", 2, "", "usage\n"),
+    ("cut absent A", 3, "", "read fault absent\n"),
+    ("cut bad A", 5, "", "bad model line 2 reason 4\n"),
+    ("cut none A absent", 6, "", "no configuration\n"),
+    ("cut two C absent", 3, "", "read fault absent\n"),
+    ("cut two C cut", 10, "", "bad report line 6\n"),
+    ("cut two C report", 14, "", "unlike\n"),
+    ("cut two C", 11, "", "not allowed\n"),
+    ("cut two A,A", 11, "", "not allowed\n"),
+    ("cut two 3", 11, "", "not allowed\n"),
+    ("cut e 1", 11, "", "not allowed\n"),
+];
+
 /// Words, the calls of the files, of `out` and of `err` that fail, and what has to come.
-pub const FAULTS: [(&str, u64, u64, u64, u8, &str, &str); 14] = [
+pub const FAULTS: [(&str, u64, u64, u64, u8, &str, &str); 15] = [
     (
         "run n e Main 100 1",
         0,
@@ -345,6 +450,7 @@ pub const FAULTS: [(&str, u64, u64, u64, u8, &str, &str); 14] = [
     ("page report", 0, 2, 0, 4, "<!doctype ", "write fault\n"),
     ("output report A", 1, 0, 0, 3, "", "read fault report\n"),
     ("agree absent cut", 0, 0, 0, 3, "", "read fault absent\n"),
+    ("join report part", 2, 0, 0, 3, "", "read fault part\n"),
     ("agree report absent", 0, 0, 0, 3, "", "read fault absent\n"),
     (
         "agree report part",
@@ -367,11 +473,12 @@ pub const FAULTS: [(&str, u64, u64, u64, u8, &str, &str); 14] = [
 ];
 
 /// Words of each command, and how many calls of the files they make.
-pub const READS: [(&str, u64); 17] = [
+pub const READS: [(&str, u64); 19] = [
     ("run a m Main 100 1", 3),
     ("run f e Main 100 1", 7),
     ("verify a m Main", 3),
     ("replay a m Main 100 A", 3),
+    ("trace t m Main 100 -", 3),
     ("asm source", 1),
     ("project report A", 1),
     ("interact report", 1),
@@ -383,15 +490,17 @@ pub const READS: [(&str, u64); 17] = [
     ("page report", 1),
     ("list report 1", 1),
     ("agree report part", 2),
+    ("join report part report", 3),
     ("load 1 2", 0),
     ("--version", 0),
 ];
 
 /// Words of each command.
-pub const WRITES: [&str; 15] = [
+pub const WRITES: [&str; 16] = [
     "run n e Main 100 1",
     "verify a m Main",
     "replay a m Main 3 -",
+    "trace t m Main 100 A",
     "asm source",
     "project report A",
     "interact report",

@@ -50,7 +50,7 @@ const BELOW_STRING: &[u8] =
     b"\xca\xfe\xba\xbe\x00\x00\x003\x00\x05\x07\x00\x02\x01\x00\x04Main\x07\x00\x04\x01\x00\x10java/lang/String\x00!\x00\x01\x00\x03\x00\x00\x00\x00\x00\x00\x00\x00";
 
 /// Classes as assembler sources. The first two join their branches again, with unlike and with equal values.
-const SOURCES: [(&str, &str); 7] = [
+const SOURCES: [(&str, &str); 8] = [
     (
         "j/Main.class",
         "class 0021 Main java/lang/Object\nfield 0009 A Z\nmethod 0009 main ([Ljava/lang/String;)V 2 2\ngetstatic Main A Z\nifeq Off\niconst_1\nistore_1\ngoto Print\nOff:\niconst_2\nistore_1\nnop\nnop\nPrint:\ngetstatic java/lang/System out Ljava/io/PrintStream;\niload_1\ninvokevirtual java/io/PrintStream println (I)V\nreturn\nend\n",
@@ -84,9 +84,14 @@ const SOURCES: [(&str, &str); 7] = [
         "z/2.class",
         "class 0021 Main java/lang/Object\nfield 0009 A Z\nmethod 0009 main ([Ljava/lang/String;)V 1 1\ngetstatic Main A Z\nifeq Off\nnew P\npop\niconst_3\ninvokestatic java/lang/System exit (I)V\nOff:\nreturn\nend\n",
     ),
+    // With the option off it divides by zero, in a method that `main` calls.
+    (
+        "t/Main.class",
+        "class 0021 Main java/lang/Object\nfield 0009 A Z\nmethod 0009 main ([Ljava/lang/String;)V 2 1\niconst_1\ngetstatic Main A Z\ninvokestatic Main part (II)I\npop\nreturn\nend\nmethod 0009 part (II)I 2 2\niload_0\niload_1\nidiv\nireturn\nend\n",
+    ),
 ];
 
-const FILES: [(&str, &[u8]); 42] = [
+const FILES: [(&str, &[u8]); 43] = [
     ("m", b"option A Main A\n"),
     ("e", b""),
     ("r", b"option A Main A\nrule true\n"),
@@ -112,6 +117,10 @@ const FILES: [(&str, &[u8]); 42] = [
     (
         "plain",
         b"varexj report 1\noptions 0\nlimit 100\nrounds 4\nout 1 2\\0a\nend 1 return\ndone\n",
+    ),
+    (
+        "many",
+        b"varexj report 1\noptions 1\noption A\nlimit 100\nrounds 340282366920938463463374607431768211455\nend 1 return\ndone\n",
     ),
     ("word", b"klass 0021 Main java/lang/Object\n"),
     ("source", b"class 0021 Main java/lang/Object\n"),

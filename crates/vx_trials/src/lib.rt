@@ -9,7 +9,8 @@ mod files;
 #[cfg(test)]
 mod tests {
     use crate::cases::{
-        CLASS_CASES, FAULTS, READS, REFUSAL_CASES, REFUSED, REPORT_CASES, RUN_CASES, WRITES,
+        CLASS_CASES, CUT_CASES, FAULTS, JOIN_CASES, READS, REFUSAL_CASES, REFUSED, REPORT_CASES,
+        RUN_CASES, TRACE_CASES, WRITES,
     };
     use crate::files::{PRINTS_NUMBER, SMALLEST_CLASS, kept, one_file, put_file, steady_files};
     use std::alloc::{AllocError, Global};
@@ -91,12 +92,30 @@ mod tests {
     }
 
     #[test]
+    fn joins_of_reports(rt: HostRuntime) {
+        let mut files = steady_files(&rt, rt.alloc());
+        all_come(&rt, rt.alloc(), &mut files, &JOIN_CASES);
+    }
+
+    #[test]
     fn commands_on_classes(rt: HostRuntime) {
         let mut files = steady_files(&rt, rt.alloc());
         all_come(&rt, rt.alloc(), &mut files, &CLASS_CASES);
     }
 
+    #[test]
+    fn traces(rt: HostRuntime) {
+        let mut files = steady_files(&rt, rt.alloc());
+        all_come(&rt, rt.alloc(), &mut files, &TRACE_CASES);
+    }
+
     /// The files of which the call of this number fails.
+    #[test]
+    fn cuts_of_models(rt: HostRuntime) {
+        let mut files = steady_files(&rt, rt.alloc());
+        all_come(&rt, rt.alloc(), &mut files, &CUT_CASES);
+    }
+
     fn failing_files(rt: &impl Abort, alloc: Global, call: u64) -> MemoryFiles {
         let held = kept(alloc).expect(rt, "memory");
         assert!(rt; are_distinct(held.as_slice()));
@@ -225,6 +244,17 @@ mod tests {
         let large = vec![in rt.alloc(); b'#'; 1_048_577]?;
         let mut files = one_file(&rt, rt.alloc(), "m", &large);
         let case = ("run f m Main 100 1", 13, "", "too large m 1048576\n");
+        assert!(rt; comes(&rt, rt.alloc(), &mut files, case));
+        Ok(())
+    }
+
+    /// A part that would have more bytes than a model may have.
+    #[test]
+    fn a_part_too_large(rt: HostRuntime) -> Result<(), Fail> {
+        let mut large = vec![in rt.alloc(); b'#'; 1_048_560]?;
+        large.extend_from_slice(b"\noption A\n")?;
+        let mut files = one_file(&rt, rt.alloc(), "m", &large);
+        let case = ("cut m A", 13, "", "too large m 1048576\n");
         assert!(rt; comes(&rt, rt.alloc(), &mut files, case));
         Ok(())
     }

@@ -1,3 +1,2 @@
-mod SignatureLaws
 mod FieldRows
 mod CallRows

@@ -12,7 +12,7 @@ ghost use Rattle.vx_link.specs.Signature.{signature};
 ghost use Rattle.vx_types.specs.Rows.{arguments, call_instance, call_resolved, call_with, clone_array, invoke, on_class, pool_of, receiver, wanted_of, with_result};
 
 use crate::fields::holder;
-use crate::pool::{current_class, member_at, signature};
+use crate::pool::{current_class, member_at};
 use crate::wants::{computes_of, wanted_type};
 use bitflags::Flags;
 use std::alloc::{AllocError, Global};
@@ -21,7 +21,7 @@ use vx_java::parts::{flags_of_method, is_array, is_interface};
 use vx_java::{MemberReference, Mode, class_named, resolve_method};
 use vx_link::{AccessFlags, Program};
 use vx_list::Items;
-use vx_references::calls::is_static;
+use vx_references::{is_static, signature};
 use vx_types::{Row, Want, class_type, object_type, ref_of, type_of};
 use vx_value::{ClassId, MethodId};
 
@@ -99,7 +99,8 @@ fn arguments(
     program: &Program,
     descriptor: &[u8],
 ) -> Result<(Vec<Want>, Option<JavaType>), AllocError>
-    requires { HasClassNumbers program.now }
+    requires classes { HasClassNumbers program.now }
+    requires few { length descriptor.now < 2 ^ 16 }
     ensures arguments { IfOk result (λ parts. parts.0.items ≡ reverse (map (wanted_of program.now descriptor.now) (signature descriptor.now).arguments)) }
     ensures given { IfOk result (λ parts. parts.1 ≡ (signature descriptor.now).result) }
 {
@@ -133,7 +134,8 @@ fn call_static(
     program: &Program,
     member: &MemberReference,
 ) -> Result<Row, AllocError>
-    requires { HasClassNumbers program.now }
+    requires classes { HasClassNumbers program.now }
+    requires typed { length member.now.descriptor.now < 2 ^ 16 }
     ensures { IfOk result (λ row. row ≡ call_with program.now (in_bytes member.now) []) }
 {
     let (wants, given) = arguments(alloc, program, member.descriptor)?;
@@ -149,6 +151,7 @@ fn call_instance(
 ) -> Result<Row, AllocError>
     requires classes { HasClassNumbers program.now }
     requires class { length member.now.class.now < 2 ^ 16 }
+    requires typed { length member.now.descriptor.now < 2 ^ 16 }
     ensures { IfOk result (λ row. row ≡ call_instance program.now method.0 mode (in_bytes member.now)) }
 {
     let (mut wants, given) = arguments(alloc, program, member.descriptor)?;
@@ -180,6 +183,7 @@ fn call_unless(
 ) -> Result<Row, AllocError>
     requires classes { HasClassNumbers program.now }
     requires class { length member.now.class.now < 2 ^ 16 }
+    requires typed { length member.now.descriptor.now < 2 ^ 16 }
     ensures { IfOk result (λ row. row ≡ (if ends then Row.Ends else call_instance program.now method.0 mode (in_bytes member.now))) }
 {
     if ends {
@@ -199,6 +203,7 @@ fn call_resolved(
 ) -> Result<Row, AllocError>
     requires classes { HasClassNumbers program.now }
     requires class { length member.now.class.now < 2 ^ 16 }
+    requires typed { length member.now.descriptor.now < 2 ^ 16 }
     ensures { IfOk result (λ row. row ≡ call_resolved program.now method.0 mode (in_bytes member.now) resolved.0) }
 {
     match mode {
@@ -268,6 +273,7 @@ fn on_class(
 ) -> Result<Row, AllocError>
     requires classes { HasClassNumbers program.now }
     requires class { length member.now.class.now < 2 ^ 16 }
+    requires typed { length member.now.descriptor.now < 2 ^ 16 }
     ensures { IfOk result (λ row. row ≡ on_class program.now method.0 mode (in_bytes member.now) named.0) }
 {
     if is_array_clone(program, named, member) {

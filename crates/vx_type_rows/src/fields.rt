@@ -6,10 +6,10 @@ ghost use Rattle.vx_java.specs.Named.{in_bytes};
 ghost use Rattle.vx_type_rows.specs.Members.{accepted_row, access_row, class_has_field, field_row, is_accessed, is_static, typed_row};
 ghost use Rattle.vx_types.specs.Rows.{holder};
 
-use crate::pool::{member_at, type_of_field};
+use crate::pool::member_at;
 use crate::wants::computes_of;
 use std::alloc::{AllocError, Global};
-use vx_desc::JavaType;
+use vx_desc::{JavaType, field_type};
 use vx_java::{MemberReference, class_named, resolve_field};
 use vx_link::Program;
 use vx_list::Items;
@@ -152,8 +152,7 @@ pub fn field_row(
     ensures { IfOk result (λ row. row ≡ field_row program.now method.0 access index) }
 {
     let member = member_at(program, method, index);
-    let found = type_of_field(member.descriptor)?;
-    match found {
+    match field_type(member.descriptor) {
         Some(item) => typed_row(alloc, program, access, &member, &item),
         None => Ok(Row::Refused),
     }

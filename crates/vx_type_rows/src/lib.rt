@@ -11,7 +11,7 @@ mod rows;
 mod targets;
 mod wants;
 
-pub use pool::{class_name_at, current_class, signature};
+pub use pool::{class_name_at, current_class};
 pub use rows::row_of;
 pub use targets::targets_of;
 pub use wants::{is_of, meets};

@@ -7,14 +7,13 @@ ghost use Rattle.vx_link.specs.Parts.{method_at};
 ghost use Rattle.vx_types.specs.Rows.{return_from, return_wants};
 
 use crate::calls::wanted_of;
-use crate::pool::signature;
 use std::alloc::{AllocError, Global};
 use vx_desc::JavaType;
 use vx_java::Sort;
 use vx_java::parts::descriptor_of_method;
 use vx_link::Program;
 use vx_list::Items;
-use vx_references::sort_of;
+use vx_references::{signature_of_method, sort_of};
 use vx_types::{Row, Want};
 use vx_value::MethodId;
 
@@ -72,7 +71,7 @@ pub fn return_from(
     ensures { IfOk result (λ row. row ≡ return_from program.now (method_at program.now method.0).descriptor sort) }
 {
     let descriptor = descriptor_of_method(program, method);
-    let given = signature(alloc, descriptor)?.result;
+    let given = signature_of_method(alloc, program, method)?.result;
     if !agrees(sort, given) {
         return Ok(Row::Refused);
     }

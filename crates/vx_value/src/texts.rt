@@ -1,6 +1,6 @@
 //! The texts of strings, each under one number.
 
-ghost use Rattle.std.specs.Prelude.{◌≡◌, ◌<◌, ◌^◌, [], ◌∷◌, ◌++◌, None, Some, length, slice_get, IfOk, OnOk, OnErr, nat_eq};
+ghost use Rattle.std.specs.Prelude.{◌≡◌, ◌<◌, ◌≤◌, ◌^◌, [], ◌∷◌, ◌++◌, None, Some, length, slice_get, IfOk, OnOk, OnErr, nat_eq};
 ghost use Rattle.std.proofs.Props.{props};
 ghost use Rattle.indexmap.specs.IndexMap.{get};
 ghost use Rattle.vx_value.specs.Texts.{AreDistinct, AreShort, Extends, IsNumber, number_of, text_at, with_text};
@@ -113,6 +113,16 @@ impl Texts {
 /// The most UTF-16 units of a text: so an int counts them.
 const MOST_UNITS: usize = 2_147_483_647;
 
+/// Refuses more units than there is room for.
+fn within(count: usize, most: usize) -> Result<(), AllocError>
+    ensures { OnOk result (count ≤ most) }
+{
+    if count > most {
+        return Err(AllocError);
+    }
+    Ok(())
+}
+
 /// A table of texts, each there once: the number of a text is its place. So numbers are equal exactly where their texts are. No text has
 /// more units than an int can count.
 #[derive(Drop)]
@@ -149,9 +159,7 @@ impl TextTable {
         ensures extends { Extends self.old.texts self.new.texts }
         ensures err { OnErr result (self.new.texts ≡ self.old.texts) }
     {
-        if units.len() > MOST_UNITS {
-            return Err(AllocError);
-        }
+        within(units.len(), MOST_UNITS)?;
         self.texts.put(units)
     }
 
@@ -164,9 +172,7 @@ impl TextTable {
         ensures extends { Extends self.old.texts self.new.texts }
         ensures err { OnErr result (self.new.texts ≡ self.old.texts) }
     {
-        if units.len() > MOST_UNITS - self.text(number).len() {
-            return Err(AllocError);
-        }
+        within(units.len(), MOST_UNITS - self.text(number).len())?;
         self.texts.append(number as usize, units)
     }
 

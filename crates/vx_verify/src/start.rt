@@ -21,7 +21,8 @@ use vx_java::Sort;
 use vx_java::parts::{descriptor_of_method, flags_of_method};
 use vx_link::{AccessFlags, Program};
 use vx_numbered::EMPTY;
-use vx_type_rows::{class_name_at, current_class, is_of, signature};
+use vx_references::signature_of_method;
+use vx_type_rows::{class_name_at, current_class, is_of};
 use vx_types::{VerType, class_type, ref_of, type_of};
 use vx_value::MethodId;
 
@@ -155,7 +156,7 @@ fn given(
 {
     let mut numbers = receiver(alloc, store, program, method)?;
     let descriptor = descriptor_of_method(program, method);
-    let signature = signature(alloc, descriptor)?;
+    let signature = signature_of_method(alloc, program, method)?;
     let items = signature.arguments.as_slice();
     put_arguments(alloc, store, program, descriptor, items, &mut numbers)?;
     Ok(numbers)

@@ -18,7 +18,7 @@ fn hash_of(name: &Name) -> u64 {
 }
 
 /// The key of an array of so many dimensions over an element, or of the element itself.
-pub fn key_of(dimensions: u32, element: &ElementType) -> TypeKey {
+pub(crate) fn key_of(dimensions: u32, element: &ElementType) -> TypeKey {
     match element {
         ElementType::Class(class) => (dimensions, 0, u64::from(class.0)),
         ElementType::Missing(name) => (dimensions, 1, hash_of(name)),

@@ -43,13 +43,31 @@ pub returns-then-eq-7 : goal.returns-then-eq-7
 returns-then-eq-7 c =
     let name = sym c.as_str-else-eq-6.ensures.value ∙ (bytes_eq-Decides c.as_str-else-eq-6.result.now (codes "replay")).0 (sym c.if-eq-7.ensures) in
     let words = first_word c.args.words.now c.name-item.result c.in-len1-up.len_at_least c.name-item.is in
-    rw (words, name) c.read_replay.ensures
+    rw (words, name) c.read_retell.ensures
 
 pub returns-then-eq-8 : goal.returns-then-eq-8
 returns-then-eq-8 c =
     let name = sym c.as_str-else-eq-7.ensures.value ∙ (bytes_eq-Decides c.as_str-else-eq-7.result.now (codes "output")).0 (sym c.if-eq-8.ensures) in
     let words = first_word c.args.words.now c.name-item.result c.in-len1-up.len_at_least c.name-item.is in
     rw (words, name) c.read_output.ensures
+
+pub returns-then-eq-9 : goal.returns-then-eq-9
+returns-then-eq-9 c =
+    let name = sym c.as_str-else-eq-8.ensures.value ∙ (bytes_eq-Decides c.as_str-else-eq-8.result.now (codes "trace")).0 (sym c.if-eq-9.ensures) in
+    let words = first_word c.args.words.now c.name-item.result c.in-len1-up.len_at_least c.name-item.is in
+    rw (words, name) c.read_retell-then-eq-9.ensures
+
+pub returns-then-eq-10 : goal.returns-then-eq-10
+returns-then-eq-10 c =
+    let name = sym c.as_str-else-eq-9.ensures.value ∙ (bytes_eq-Decides c.as_str-else-eq-9.result.now (codes "join")).0 (sym c.if-eq-10.ensures) in
+    let words = first_word c.args.words.now c.name-item.result c.in-len1-up.len_at_least c.name-item.is in
+    rw (words, name) c.read_join.ensures
+
+pub returns-then-eq-11 : goal.returns-then-eq-11
+returns-then-eq-11 c =
+    let name = sym c.as_str-else-eq-10.ensures.value ∙ (bytes_eq-Decides c.as_str-else-eq-10.result.now (codes "cut")).0 (sym c.if-eq-11.ensures) in
+    let words = first_word c.args.words.now c.name-item.result c.in-len1-up.len_at_least c.name-item.is in
+    rw (words, name) c.read_cut.ensures
 
 pub returns-in_err-read_telling-in-None : goal.returns-in_err-read_telling-in-None
 returns-in_err-read_telling-in-None c =
@@ -63,5 +81,8 @@ returns-in_err-read_telling-in-None c =
     (not_word c.as_str-else-eq-5.result.now _ (codes "verify") c.as_str-else-eq-5.ensures.value c.if-eq-6.ensures)
     (not_word c.as_str-else-eq-6.result.now _ (codes "replay") c.as_str-else-eq-6.ensures.value c.if-eq-7.ensures)
     (not_word c.as_str-else-eq-7.result.now _ (codes "output") c.as_str-else-eq-7.ensures.value c.if-eq-8.ensures)
-    (λ page e. c.in-None.ensures page (c.as_str-else-eq-8.ensures.value ∙ e))
+    (not_word c.as_str-else-eq-8.result.now _ (codes "trace") c.as_str-else-eq-8.ensures.value c.if-eq-9.ensures)
+    (not_word c.as_str-else-eq-9.result.now _ (codes "join") c.as_str-else-eq-9.ensures.value c.if-eq-10.ensures)
+    (not_word c.as_str-else-eq-10.result.now _ (codes "cut") c.as_str-else-eq-10.ensures.value c.if-eq-11.ensures)
+    (λ page e. c.in-None.ensures page (c.as_str-else-eq-11.ensures.value ∙ e))
     (λ telling e. c.in_err-read_telling-in-None.ensures telling (c.as_str-in-None.ensures.value ∙ e)))

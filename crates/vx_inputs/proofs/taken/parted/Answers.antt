@@ -21,6 +21,7 @@ loop-traced-preserved c =
       whole = omega arith;
       classes = c.in_ok-push.ensures.items ∙ rw at.invariant.classes (sym (map-append (λ (t : Traced). t.class) at.yielded (x ∷ [])));
       tables = c.in_ok-push-2.ensures.items ∙ rw at.invariant.tables (sym (map-append (λ (t : Traced). t.lines) at.yielded (x ∷ [])));
+      files = c.in_ok-push-3.ensures.items ∙ rw at.invariant.files (sym (map-append (λ (t : Traced). t.file) at.yielded (x ∷ [])));
     }
 
 pub returns : goal.returns
@@ -29,4 +30,8 @@ returns c =
     let none = c.in-None.ensures.steps in
     let empty : into_iter_items at.traced-iterator ≡ [] = nothing_left _ (sym at.invariant.whole ∙ none.0) in
     let all = sym (append-nil at.yielded) ∙ rw empty at at.invariant.left ∙ c.into_iter-traced-iterator.ensures.into_iter_gives.0 in
-    (at.invariant.classes ∙ ap (map (λ (t : Traced). t.class)) all, at.invariant.tables ∙ ap (map (λ (t : Traced). t.lines)) all)
+    record {
+      classes = at.invariant.classes ∙ ap (map (λ (t : Traced). t.class)) all;
+      tables = at.invariant.tables ∙ ap (map (λ (t : Traced). t.lines)) all;
+      files = at.invariant.files ∙ ap (map (λ (t : Traced). t.file)) all;
+    }

@@ -47,4 +47,4 @@ pub returns-clause-scope : goal.returns-clause-scope
 returns-clause-scope g c = c.loop-cell.invariant.scope
 
 pub returns-clause-at : goal.returns-clause-at
-returns-clause-at g c = reading_done _ _ c.args.heap.now c.loop-cell.heap c.args.reference c.args.condition c.loop-cell.cell c.loop-cell.texts c.requires.heap c.requires.reference c.requires.known c.requires.inside (rw (← c.cell_count-count.ensures) (omega (arith, c.loop-cell-test.false, c.if-count-gt-MOST_CELLS.false))) c.loop-cell.invariant
+returns-clause-at g c = reading_done _ _ c.args.heap.now c.loop-cell.heap c.args.reference c.args.condition c.loop-cell.cell c.loop-cell.texts c.requires.heap c.requires.reference c.requires.known c.requires.inside (rw (← c.cell_count-count.ensures) (omega (arith, c.loop-cell-test.false))) c.loop-cell.invariant

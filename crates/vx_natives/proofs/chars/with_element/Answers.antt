@@ -34,7 +34,7 @@ all_appended-requires-clause-pairs g c = lifting2_cond call_cmp _ _ _ _ c.in_ok-
 pub all_appended-requires-clause-known : goal.all_appended-requires-clause-known
 all_appended-requires-clause-known g c = λ d t.
     let s0 = g.S.Space.sets c.args.space.now in
-    let s1 = g.S.Space.sets c.read_cell.new.space in
+    let s1 = g.S.Space.sets c.read_place.new.space in
     let s2 = g.S.Space.sets c.zip.new.space in
     let e = c.in_ok-element.ensures.extends in
     let f = c.in_ok-pairs.ensures.extends in
@@ -58,7 +58,7 @@ returns-clause-scope g c = c.in_ok-made.ensures.ok.scope ∙ c.in_ok-pairs.ensur
 pub returns-clause-at : goal.returns-clause-at
 returns-clause-at g c = λ d t.
     let s0 = g.S.Space.sets c.args.space.now in
-    let s1 = g.S.Space.sets c.read_cell.new.space in
+    let s1 = g.S.Space.sets c.read_place.new.space in
     let s2 = g.S.Space.sets c.zip.new.space in
     let s3 = g.S.Space.sets c.all_appended.new.space in
     let heap = c.args.heap.now in

@@ -1,22 +1,24 @@
-use Rattle.std.proofs.Common.{◌≡◌, sym, ◌∙◌, ap}
-use Rattle.vx_bdd.proofs.TableLaws.{IsAddedNode, IsReduced-added, IsIndex-added}
+use Rattle.std.proofs.Common.{◌≡◌, sym, ◌∙◌, ap, rules}
+use Rattle.std.specs.HashMap.Entry.{map_with_value}
+use Rattle.vx_bdd.proofs.TableLaws.{IsAddedNode, IsReduced-added, IsIndex-added, IsIndex-same}
 use Rattle.vx_bdd.proofs.table.Table.find_or_add.Goals as goal
 
-pub invariant_of-self-in-None : goal.invariant_of-self-in-None
-invariant_of-self-in-None c =
+pub invariant_of-self-in-Vacant : goal.invariant_of-self-in-Vacant
+invariant_of-self-in-Vacant c =
     let old = c.args.self.now in
-    let slots : c.reserve.new.self.slots ≡ old.nodes.slots = ap (λ s. s.slots) c.in_ok-reserve-in-None.ensures.rest_kept in
-    let same : c.insert_reserved.result ≡ c.vacant_key-id.result = c.insert_reserved.ensures.key ∙ sym c.vacant_key-id.ensures.value in
-    let added : IsAddedNode old.nodes.slots c.insert_reserved.new.self.slots old.ids c.insert.new.self c.insert_reserved.result c.args.node = record {
-      vacant = rw slots at c.insert_reserved.ensures.was_vacant;
-      changed = c.insert_reserved.ensures.updates.changed;
-      others = λ x n. rw slots at (c.insert_reserved.ensures.updates.others x n);
-      absent = sym c.in-None.ensures.value;
-      updates = λ q. rw (← same) at (c.in_ok-insert-in-None.ensures.updates.0 q);
+    let id = c.insert_reserved-id.result in
+    let slots : c.reserve.new.self.slots ≡ old.nodes.slots = ap (λ s. s.slots) c.in_ok-reserve-in-Vacant.ensures.rest_kept in
+    let lent = rw c.in-Vacant.is at c.in_ok-entry.ensures.same_map in
+    let added : IsAddedNode old.nodes.slots c.insert_reserved-id.new.self.slots old.ids (map_with_value c.in_ok-entry.field-0 id) id c.args.node = record {
+      vacant = rw slots at c.insert_reserved-id.ensures.was_vacant;
+      changed = c.insert_reserved-id.ensures.updates.changed;
+      others = λ x n. rw slots at (c.insert_reserved-id.ensures.updates.others x n);
+      absent = rw c.in-Vacant.is at c.in_ok-entry.ensures.found;
+      updates = λ q. (c.in_ok-entry.ensures.update.0 id).0 q;
     } in
     record {
       few = old.few;
       reduced = IsReduced-added old.options old.nodes.slots _ old.ids _ _ _ old.reduced old.index c.requires added;
-      index = IsIndex-added old.nodes.slots _ old.ids _ _ _ old.reduced.never old.reduced.always old.index added;
+      index = IsIndex-same _ (search (rules, lent) ∙ (λ i. map_with_value (sym c.in-Vacant.is i) (c.insert.ensures.value i))) (IsIndex-added old.nodes.slots _ old.ids _ _ _ old.reduced.never old.reduced.always old.index added);
       swept = λ e. cc e;
     }

@@ -35,7 +35,7 @@ returns-in_err-from g c =
     (is_last (map g.M.Member.signature c.self.inside.members) c.self.inside.keys c.self.invariant c.args.sought.now.0 c.args.sought.now.1 c.args.from c.loop-number.from c.loop-number.invariant.1 c.in_ok-number.number next
     (tested g.M.Member.signature c.self.inside.members c.as_slice.result.now c.args.sought.now.0 c.args.sought.now.1 c.in_ok-number.number c.index-as_slice-number.result false
     (is_member (map g.M.Member.signature c.self.inside.members) c.self.inside.keys c.self.invariant c.args.sought.now.0 c.args.sought.now.1 c.args.from c.loop-number.from c.loop-number.invariant.1 c.in_ok-number.number next) c.as_slice.ensures c.index-as_slice-number.is (sym c.is_sought.ensures ∙ c.if-is_sought.false))
-    (not_below (c.in_ok-number.number + 1) (2 ^ 32) c.in_err-from.ensures)))
+    (not_below (c.in_ok-number.number + 1) (2 ^ 64) c.in_err-from.ensures)))
 
 pub loop-number-preserved : goal.loop-number-preserved
 loop-number-preserved g c =

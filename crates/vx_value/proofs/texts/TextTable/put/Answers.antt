@@ -6,7 +6,7 @@ pub invariant_of-self : goal.invariant_of-self
 invariant_of-self c =
     record {
       distinct = put-distinct c.args.self.now.texts c.args.units.now c.put.result c.put.new.self c.put.ensures.texts c.put.ensures.err c.args.self.now.distinct;
-      short = put-short c.args.self.now.texts c.args.units.now c.put.result c.put.new.self c.put.ensures.texts c.put.ensures.err (omega arith) c.args.self.now.short;
+      short = put-short c.args.self.now.texts c.args.units.now c.put.result c.put.new.self c.put.ensures.texts c.put.ensures.err (omega (arith, c.in_ok-within.ensures)) c.args.self.now.short;
     }
 
 pub returns-clause-text : goal.returns-clause-text

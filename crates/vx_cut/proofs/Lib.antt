@@ -1,0 +1,13 @@
+pub mod Chosen
+pub mod CnfLines
+pub mod CnfParts
+pub mod CnfReach
+pub mod Divided
+pub mod Few
+pub mod LineTexts
+pub mod Numbers
+pub mod Plainly
+pub mod Putting
+pub mod Sets
+pub mod TextParts
+pub mod Whole

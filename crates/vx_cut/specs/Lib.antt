@@ -1,0 +1,4 @@
+pub mod Choices
+pub mod Cuts
+pub mod Parts
+pub mod Texts

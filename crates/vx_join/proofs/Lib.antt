@@ -1,0 +1,11 @@
+pub mod Firsts
+pub mod Texts
+pub mod Reports
+pub mod Settings
+pub mod Numbered
+pub mod Said
+pub mod Lawful
+pub mod Whole
+pub mod Ascending
+pub mod OneText
+pub mod Rounds

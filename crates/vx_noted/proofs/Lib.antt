@@ -1,0 +1,5 @@
+mod Attempted
+mod Passed
+mod Raised
+mod Turned
+mod Underway

@@ -1,0 +1,4 @@
+/** The option, on which nothing depends. */
+class Options {
+    static boolean A;
+}
