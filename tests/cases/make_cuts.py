@@ -29,6 +29,9 @@ CLAUSES = 'c  1 A\r\nc a comment\r\np  cnf   3  2\r\n1 2 0\r\n-1 -3\r\n0'
 
 CLAUSE_NAMES = ['A', 'v2', 'v3']
 
+# the most bytes of a model, and of a part
+ROOM = 1048576
+
 
 def clauses_allow(c):
     return (c['A'] or c['v2']) and not (c['A'] and c['v3'])
@@ -122,6 +125,10 @@ def main():
     write('cut-digit-and-letter', ['cut', 'model', '2A'], shop, status=2, stderr='usage\n')
     write('cut-absent-model', ['cut', 'gone', '2'], {}, status=3, stderr='read fault gone\n')
     write('cut-bad-model', ['cut', 'model', '1', 'gone'], {'model': 'option A\nrule A B\n'}, status=5, stderr='bad model line 2 reason 4\n')
+    write('cut-model-too-large', ['cut', 'model', '1'], {'model': '#' * (ROOM + 1)}, status=13, stderr='too large model %d\n' % ROOM)
+    # Its first part, with 12 bytes before it and 8 behind, has one byte too many.
+    write('cut-part-too-large', ['cut', 'model', 'A'], {'model': 'option A\n' + '#' * (ROOM - 29) + '\n'}, status=13, stderr='too large model %d\n' % ROOM)
+    write('cut-no-number', ['cut', 'model', '0'], shop, status=2, stderr='usage\n')
     write('cut-model-that-allows-nothing', ['cut', 'model', '1', 'gone'], {'model': 'option A\nrule A & !A\n'}, status=6, stderr='no configuration\n')
     write('cut-absent-report', ['cut', 'model', 'NONE', 'gone'], shop, status=3, stderr='read fault gone\n')
     write('cut-bad-report', ['cut', 'model', 'NONE', 'model'], shop, status=10, stderr='bad report line 1\n')

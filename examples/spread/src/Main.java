@@ -2,7 +2,7 @@
  * A program whose runs share little: its numbers come from a seed that differs in each configuration, and which way it goes from the
  * numbers.
  */
-class Main {
+public class Main {
     static final int COUNT = 6;
 
     static int seed;
