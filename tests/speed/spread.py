@@ -1,14 +1,13 @@
 """Measures a run that is spread over processors, of a varexj that was built; the gate doesn't run this.
 
-    python3 spread.py VAREXJ [K]
+    python3 spread.py VAREXJ
 
-The program and the model of ../../examples/spread: a sum over twelve options is printed, and numbers from a seed that is another one in each of the 1,024 configurations
-are sorted, so that the runs share little. The single run; then the model cut by K options, or 3, and the runs of the parts by GNU parallel, one, two and four
-at a time; then the join. Clock is what passed, on a machine that may have other work; processors is the processor seconds of all that was called. Before the last line the joined report is
-compared with the single run's: at each configuration both projections are the same bytes.
+The program of ../../examples/spread: a sum over twelve options is printed, and numbers from a seed that is another one in each configuration are sorted, so that
+no two configurations have one value. Under the example's model, which allows 1,024 configurations, and under its options without its rules, 4,096: the single run; then the model cut by 3 and by 6
+options, and the runs of the parts by GNU parallel, one, two and four at a time; then the join. Clock is what passed, on a machine that may have other work; processors is the processor
+seconds of all that was called. Each join is compared with the single run: at each configuration both projections are the same bytes.
 """
 
-import glob
 import os
 import resource
 import shutil
@@ -19,6 +18,7 @@ import time
 
 EXAMPLE = os.path.join(os.path.dirname(os.path.abspath(__file__)), '..', '..', 'examples', 'spread')
 LIMIT = '100000'
+CHOSEN = ('3', '6')
 AT_A_TIME = (1, 2, 4)
 
 
@@ -27,74 +27,80 @@ def processor_seconds():
     return used.ru_utime + used.ru_stime
 
 
-def called(title, words, place=None):
-    """Calls a command, tells its times, and gives what it wrote, which is also put into a file where one is named."""
-    clock, spent = time.time(), processor_seconds()
-    done = subprocess.run(words, capture_output=True)
-    clock, spent = time.time() - clock, processor_seconds() - spent
+def called(*words):
+    done = subprocess.run(words, stdin=subprocess.DEVNULL, capture_output=True)
     if done.returncode:
         sys.exit(f'{" ".join(words)}: status {done.returncode} {done.stderr.decode().strip()}')
-    print(f'{title:28} clock {clock:8.2f} s, processors {spent:8.2f} s', flush=True)
-    if place:
-        write(place, done.stdout)
     return done.stdout
+
+
+def timed(title, *words):
+    """What a command wrote, once its times are told."""
+    clock, spent = time.time(), processor_seconds()
+    text = called(*words)
+    print(f'{title:30} clock {time.time() - clock:8.2f} s, processors {processor_seconds() - spent:8.2f} s', flush=True)
+    return text
 
 
 def write(place, text):
     with open(place, 'wb') as file:
         file.write(text)
+    return place
 
 
 def rounds_of(report):
-    return int(next(line for line in report.split(b'\n') if line.startswith(b'rounds ')).split()[1])
+    return next(line for line in report.split(b'\n') if line.startswith(b'rounds ')).decode()
 
 
-def parts_of(text):
-    """The models of the parts, each what stands behind its line of comment."""
-    return [part.split(b'\n', 1)[1] for part in text.split(b'# part ')[1:]]
+def part_places(text):
+    """Files of the parts, each what stands behind its line of comment."""
+    return [write(f'{number:05d}.model', part.split(b'\n', 1)[1]) for number, part in enumerate(text.split(b'# part ')[1:], 1)]
 
 
-def run_parts(varexj, parts, at_a_time):
-    """Runs the parts, so many at a time; gives the places of their reports."""
-    words = f'{varexj} run classes {{}} Main {LIMIT} 2 > {{.}}.report'
-    called(f'{len(parts)} parts, {at_a_time} at a time', ['parallel', '-j', str(at_a_time), '--halt', 'now,fail=1', words, ':::', *parts])
-    return sorted(glob.glob('*.report'))
-
-
-def configurations(varexj):
+def configurations(varexj, report):
     """All that have an end, in the words that project takes."""
-    lines = subprocess.run([varexj, 'list', 'single', '1000000'], capture_output=True, check=True).stdout.decode().split('\n')
+    lines = called(varexj, 'list', report, '1000000').decode().split('\n')
     return [line.split(' ')[0] for line in lines[2:lines.index('done')]]
 
 
-def projection(varexj, report, configuration):
-    return subprocess.run([varexj, 'project', report, configuration], capture_output=True, check=True).stdout
-
-
-def main(varexj, options):
-    single = called('one run', [varexj, 'run', 'classes', 'model', 'Main', LIMIT, '2'], 'single')
-    cut = called(f'cut by {options}', [varexj, 'cut', 'model', options])
-    places = []
-    for number, part in enumerate(parts_of(cut), 1):
-        places.append(f'{number:05d}.model')
-        write(places[-1], part)
+def spread(varexj, model, chosen):
+    """The place of the joined report of a model that is cut by so many options."""
+    parts = part_places(timed(f'cut by {chosen}', varexj, 'cut', model, chosen))
     for at_a_time in AT_A_TIME:
-        reports = run_parts(varexj, places, at_a_time)
-    joined = called('join', [varexj, 'join', *reports], 'joined')
-    print(f'rounds {rounds_of(single)} of one run, {rounds_of(joined)} of the parts; bytes {len(single)} and {len(joined)}')
-    asked = configurations(varexj)
-    faults = sum(projection(varexj, 'single', name) != projection(varexj, 'joined', name) for name in asked)
-    print(f'{len(asked)} configurations, {faults} faults')
-    return 1 if faults or not asked else 0
+        command = f'{varexj} run classes {{}} Main {LIMIT} 2 > {{.}}.report'
+        timed(f'{len(parts)} parts, {at_a_time} at a time', 'parallel', '-j', str(at_a_time), '--halt', 'now,fail=1', command, ':::', *parts)
+    joined = timed('join', varexj, 'join', *(part.replace('.model', '.report') for part in parts))
+    print(rounds_of(joined))
+    return write('joined', joined)
+
+
+def measured(varexj, model):
+    """How many configurations differ between the single run and the joined ones."""
+    report = timed('one run', varexj, 'run', 'classes', model, 'Main', LIMIT, '2')
+    single = write('single', report)
+    print(rounds_of(report))
+    told = {name: called(varexj, 'project', single, name) for name in configurations(varexj, single)}
+    faults = 0
+    for chosen in CHOSEN:
+        joined = spread(varexj, model, chosen)
+        differ = sum(called(varexj, 'project', joined, name) != text for name, text in told.items())
+        print(f'{len(told)} configurations, {differ} of them differ')
+        faults += differ + (configurations(varexj, joined) != list(told))
+    return faults
+
+
+def main(varexj):
+    shutil.copytree(os.path.join(EXAMPLE, 'classes'), 'classes')
+    with open(os.path.join(EXAMPLE, 'model'), 'rb') as file:
+        lines = file.read().splitlines(keepends=True)
+    models = write('model', b''.join(lines)), write('free', b''.join(line for line in lines if line.startswith(b'option ')))
+    return 1 if sum(measured(varexj, model) for model in models) else 0
 
 
 if __name__ == '__main__':
+    place = os.path.abspath(sys.argv[1])
     with tempfile.TemporaryDirectory() as folder:
-        program = os.path.abspath(sys.argv[1])
-        for name in ('classes', 'model'):
-            source = os.path.join(EXAMPLE, name)
-            (shutil.copytree if os.path.isdir(source) else shutil.copy)(source, os.path.join(folder, name))
         os.chdir(folder)
-        status = main(program, sys.argv[2] if len(sys.argv) > 2 else '3')
+        status = main(place)
         os.chdir('/')
     sys.exit(status)
