@@ -31,35 +31,37 @@ def written(path, text):
 
 
 def compiled(folder, name, seed):
-    """The folder of the classes of the program that is drawn by a seed."""
+    """The folder of the classes of the program that is drawn by a seed, and whether it may exit."""
     classes = os.path.join(folder, 'classes')
-    source = written(os.path.join(folder, name + '.java'), drawing.drawn(seed, name))
+    text = drawing.drawn(seed, name)
+    source = written(os.path.join(folder, name + '.java'), text)
     subprocess.run(['javac', '--release', '8', '-g:source,lines', '-nowarn', '-Xlint:-options', '-d', classes, source], check=True, stderr=subprocess.DEVNULL)
-    return classes
+    return classes, 'System.exit' in text
 
 
-def stacks(folder, name, classes):
-    """Each configuration that ends by an exception with its stack trace."""
+def stacks(folder, name, classes, exits):
+    """Each configuration that ends by an exception with its stack trace. A Java machine that exits is asked for one configuration at a time."""
     options = [line.split()[1:] for line in drawing.model(name).splitlines() if line.startswith('option')]
     settings = itertools.product([False, True], repeat=len(options))
     names = [','.join(option[0] for option, on in zip(options, setting) if on) or '-' for setting in settings]
-    places = [written(os.path.join(folder, 'options'), ''.join(' '.join(option) + '\n' for option in options)),
-              written(os.path.join(folder, 'configurations'), ''.join(name + '\n' for name in names))]
-    words = ['java', *FLAGS, os.path.join(check_traces.HERE, 'Stacks.java'), classes, name, *places]
-    said = subprocess.run(words, check=True, capture_output=True).stdout
-    for part in re.split(rb'^config ', said, flags=re.M)[1:]:
-        configuration, text = part.split(b'\n', 1)
-        if b'java.lang.OutOfMemoryError' not in text:
-            yield configuration.decode('ascii'), check_traces.plain(text)
+    for asked in [[one] for one in names] if exits else [names]:
+        places = [written(os.path.join(folder, 'options'), ''.join(' '.join(option) + '\n' for option in options)),
+                  written(os.path.join(folder, 'configurations'), ''.join(one + '\n' for one in asked))]
+        words = ['java', *FLAGS, os.path.join(check_traces.HERE, 'Stacks.java'), classes, name, *places]
+        said = subprocess.run(words, check=not exits, capture_output=True).stdout
+        for part in re.split(rb'^config ', said, flags=re.M)[1:]:
+            configuration, text = part.split(b'\n', 1)
+            if b'java.lang.OutOfMemoryError' not in text:
+                yield configuration.decode('ascii'), check_traces.plain(text)
 
 
 def compared(varexj, folder, seed):
     """How many traces of the program of a seed were compared, and how many differ."""
     name = f'P{seed}'
-    classes = compiled(folder, name, seed)
+    classes, exits = compiled(folder, name, seed)
     model = written(os.path.join(folder, 'model'), drawing.model(name))
     count, different = 0, 0
-    for configuration, expected in stacks(folder, name, classes):
+    for configuration, expected in stacks(folder, name, classes, exits):
         count += 1
         _, trace = check_traces.called(varexj, folder, 'trace', classes, model, name, check_traces.LIMIT, configuration)
         if check_traces.plain(trace) != expected:
