@@ -130,7 +130,7 @@ def main(varexj, seconds):
     tally = trying.Tally()
     with tempfile.TemporaryDirectory() as place, ThreadPoolExecutor(os.cpu_count()) as pool:
         preloaded = trying.library(LIBRARY, place, 'allocations')
-        for run in runs.runs(varexj):
+        for run in runs.runs():
             try_run(Call(varexj, run, place, preloaded), run.name(), seconds, tally, pool)
     return tally.status()
 

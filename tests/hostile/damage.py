@@ -8,6 +8,7 @@ command may have, with the line of that status, and with an output only where it
 
 import os
 import re
+import shutil
 import sys
 import tempfile
 from concurrent.futures import ThreadPoolExecutor
@@ -19,14 +20,17 @@ SECONDS = 30
 LINES = {
     0: rb'', 5: rb'bad model line \d+ reason [1-9]\n', 6: rb'no configuration\n', 7: rb'bad class [^ \n]+ at \d+ reason \d+\n',
     8: rb'(twice|no super|final super|cycle|no option) [^ \n]+\n|no main\n', 10: rb'bad report line \d+\n', 11: rb'not allowed\n',
-    12: rb'bad source line \d+ reason [1-8]\n', 14: rb'unlike\n'}
-STATUSES = {'run': (0, 5, 6, 7, 8), 'verify': (0, 5, 7, 8), 'replay': (0, 5, 7, 8, 11), 'project': (0, 10, 11), 'asm': (0, 12), 'agree': (0, 10, 14),
-            **dict.fromkeys(('interact', 'picture', 'cover', 'explain'), (0, 10))}
+    12: rb'bad source line \d+ reason [1-8]\n', 14: rb'unlike\n', 18: rb'not joinable\n'}
+STATUSES = {'run': (0, 5, 6, 7, 8), 'verify': (0, 5, 7, 8), 'asm': (0, 12), 'agree': (0, 10, 14), 'join': (0, 10, 14, 18), 'cut': (0, 5, 6, 10, 11, 14),
+            **dict.fromkeys(('replay', 'trace'), (0, 5, 7, 8, 11)), **dict.fromkeys(('project', 'output'), (0, 10, 11)),
+            **dict.fromkeys(('interact', 'picture', 'cover', 'explain', 'count', 'list', 'page'), (0, 10))}
 # A case, and the file that is damaged.
 FILES = [('print-an-option', 'f/Main.class'), ('branches-join-with-different-values', 'f/Main.class'), ('dimacs-model', 'm.cnf'),
          ('model-with-true-rule', 'model'), ('project-option-on', 'report'), ('interact-two-options', 'report'),
          ('agree-in-one-branch', 'other'), ('assemble-class-with-option', 'source.jasm'), ('verify-branches', 'f/Main.class'),
-         ('replay-with-lines', 'f/Main.class'), ('replay-uncaught', 'model'), ('picture-one-option', 'report'), ('cover-one-option', 'report'), ('explain-one-option', 'report')]
+         ('replay-with-lines', 'f/Main.class'), ('replay-uncaught', 'model'), ('picture-one-option', 'report'), ('cover-one-option', 'report'), ('explain-one-option', 'report'),
+         ('trace-cause', 'f/Ticket.class'), ('join-two-parts', 'on'), ('join-three-with-attempts', 'b'), ('cut-by-names', 'model'), ('cut-clauses', 'model.cnf'),
+         ('cut-by-number-with-a-report', 'report'), ('count-two-options', 'report'), ('list-two-options', 'report'), ('output-named', 'report')]
 
 
 def damaged(data):
@@ -44,7 +48,8 @@ def problem(varexj, words, place, file, data, number):
     """What is wrong with how a command ends over one damaged file, or None."""
     path = os.path.join(place, f'damaged-{number}')
     if file.startswith('f/'):
-        trying.write(os.path.join(path, 'Main.class'), data)
+        shutil.copytree(os.path.join(place, 'f'), path)
+        trying.write(os.path.join(place, path, os.path.basename(file)), data)
         words = [words[0], path, *words[2:]]
     else:
         path += os.path.splitext(file)[1]
@@ -59,11 +64,8 @@ def problem(varexj, words, place, file, data, number):
 
 def main(varexj):
     tally = trying.Tally()
-    commands = trying.built_commands(varexj)
     for name, file in FILES:
         words = trying.case_words(name)
-        if words[0] not in commands:
-            continue
         with tempfile.TemporaryDirectory() as top, ThreadPoolExecutor(os.cpu_count()) as pool:
             place = trying.case_folder(name, top)
             with open(os.path.join(place, file), 'rb') as whole:

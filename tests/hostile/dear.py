@@ -47,7 +47,11 @@ BOUNDS = {
     'agree: one long text': 15, 'agree: pieces of both streams': 6.5, 'picture: one long text': 7.5, 'picture: pieces of both streams': 7,
     'picture: pieces under options': 1, 'cover: one long text': 8, 'cover: pieces of both streams': 4.5, 'cover: nodes': 1.5,
     'cover: pieces under options': 9, 'explain: one long text': 8.5, 'explain: pieces of both streams': 10, 'explain: nodes': 1,
-    'explain: pieces under options': 2, 'explain: 400 pieces of one long rule': 3.5
+    'explain: pieces under options': 2, 'explain: 400 pieces of one long rule': 3.5,
+    'join: one long text': 23.5, 'join: pieces of both streams': 7.5, 'join: pieces under options': 3, 'join: 8,192 ends': 2, 'join: 8,192 numbers of attempts': 1, 'cut: 65,536 parts': 2,
+    'count: one long text': 8, 'count: pieces of both streams': 4.5, 'count: pieces under options': 1, 'list: one long text': 8, 'list: pieces of both streams': 4.5, 'list: pieces under options': 1,
+    'page: one long text': 17.5, 'page: pieces of both streams': 4.5, 'page: pieces under options': 1, 'trace: a text looked for in one of 32,768 units': 4,
+    'trace: an exception through 4,000,000 catch rows': 13.5, 'trace: the same among 901 classes': 13.5
 }
 
 # Those that are known to be too dear, and why.
@@ -209,6 +213,7 @@ def programs(varexj):
         words = ['f', 'model', 'Main', str(program.limit)]
         yield Dear(f'program: {name}', files, ['run', *words, '1'], is_report)
         yield Dear(f'replay: {name}', files, ['replay', *words, '-'], is_replay)
+        yield Dear(f'trace: {name}', files, ['trace', *words, '-'], lambda ended: ended.status == 0 and ended.out and not ended.err)
 
 
 def told(command, front):
@@ -231,6 +236,42 @@ def covers():
 
 def explanations():
     return told('explain', b'varexj explain 1\n')
+
+
+def counts():
+    return told('count', b'varexj count 1\n')
+
+
+def lists():
+    return told('list', b'varexj list 1\n')
+
+
+def pages():
+    return told('page', b'<!doctype html>\n')
+
+
+def joins():
+    """Reports joined with themselves, which gives them again with twice as many rounds."""
+    makers = {'one long text': lambda: dear_texts.one_long_text()[0], 'pieces of both streams': lambda: dear_texts.many_pieces(1 << 24)[0], 'nodes': lambda: dear_texts.many_nodes(14)[0],
+              'pieces under options': lambda: dear_texts.many_cubes(1 << 22)[0], '8,192 ends': dear_texts.many_ends, '8,192 numbers of attempts': dear_texts.many_attempts}
+    for name, make in makers.items():
+        wanted = []
+
+        def files(make=make, wanted=wanted):
+            text = make()
+            put_text('report', text)
+            wanted.append(text.replace(b'\nrounds 1\n', b'\nrounds 2\n', 1))
+        yield Dear(f'join: {name}', files, ['join', 'report', 'report'], lambda ended, wanted=wanted: ends_as(0, wanted[0])(ended))
+
+
+def cuts():
+    """Models of the greatest size, of which a part may be too large, and one with 65,536 parts."""
+    for path, made in (('model', dear_texts.MODELS), ('model.cnf', dear_texts.CNF_MODELS)):
+        for name, make in made.items():
+            yield Dear(f'cut: {name}', lambda path=path, make=make: put_text(path, make()[0]), ['cut', path, '1'],
+                       lambda ended: (ended.status == 0 and ended.out and not ended.err) or (ended.status in (6, 11, 13) and ended.err and not ended.out))
+    yield Dear('cut: 65,536 parts', lambda: put_text('model', ''.join(f'option o{number}\n' for number in range(16))), ['cut', 'model', '16'],
+               lambda ended: ended.status == 0 and ended.out.count(b'# part ') == 1 << 16 and not ended.err)
 
 
 def workloads():
@@ -269,14 +310,10 @@ def sources():
         yield Dear(f'source: {name}', lambda make=make: put_text('s', make()), ['asm', 's'], ends_as(12, err=line.encode() + b'\n'))
 
 
-def all_inputs(varexj, commands):
-    kinds = {'run': [class_files, class_folders, large_folders, models, lambda: programs(varexj)], 'verify': [verdicts], 'replay': [replays], 'asm': [sources], 'project': [reports],
-             'interact': [interactions], 'agree': [agreements], 'picture': [pictures], 'cover': [covers], 'explain': [explanations],
-             'load': [workloads]}
-    for command, makers in kinds.items():
-        if command in commands:
-            for maker in makers:
-                yield from maker()
+def all_inputs(varexj):
+    yield from programs(varexj)
+    for make in (class_files, class_folders, large_folders, models, verdicts, replays, sources, reports, interactions, agreements, joins, cuts, pictures, covers, explanations, counts, lists, pages, workloads):
+        yield from make()
 
 
 def problem(varexj, dear):
@@ -297,7 +334,7 @@ def problem(varexj, dear):
 def main(varexj, word):
     known = {name: reason for name, reason in KNOWN.items() if word in name}
     tally = trying.Tally(known)
-    for dear in all_inputs(varexj, trying.built_commands(varexj)):
+    for dear in all_inputs(varexj):
         if word in dear.name:
             tally.judge(dear.name, problem(varexj, dear))
     return tally.status()

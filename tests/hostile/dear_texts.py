@@ -165,6 +165,20 @@ def many_nodes(bits=20):
     return text, b'out a\nend return\n'
 
 
+def many_ends(bits=13):
+    """A report in which each setting has an end of its own."""
+    lines, roots = nodes_of_cubes(bits)
+    ends = [f'end {root} exit {number}' for number, root in enumerate(roots)]
+    return report_front(bits) + '\n'.join([*lines, *ends, 'done', '']).encode()
+
+
+def many_attempts(bits=13):
+    """A report of version 2 in which each setting has a number of attempts of its own."""
+    lines, roots = nodes_of_cubes(bits)
+    numbers = [f'attempts {root} {number}' for number, root in enumerate(roots, 1)]
+    return report_front(bits).replace(b'report 1', b'report 2').replace(b'limit 100', b'limit 1000000') + '\n'.join([*lines, 'end 1 return', *numbers, 'done', '']).encode()
+
+
 def many_cubes(most, seed=1):
     """A report of about so many bytes: each piece comes where 12 options out of 64 have values that a generator gives."""
     generator, numbers, lines, pieces, size = random.Random(seed), {}, [], [], 0

@@ -30,11 +30,10 @@ def limited(what, most):
     return lambda: resource.setrlimit(what, (most, most))
 
 
-def try_cases(varexj, tally, commands):
-    """The worked cases of the commands that are built."""
+def try_cases(varexj, tally):
+    """The worked cases."""
     script = os.path.join(trying.CASES, 'run_cases.py')
-    words = [sys.executable, script, varexj, '--commands', ','.join(commands)]
-    done = subprocess.run(words, capture_output=True, preexec_fn=limited(resource.RLIMIT_STACK, STACK))
+    done = subprocess.run([sys.executable, script, varexj], capture_output=True, preexec_fn=limited(resource.RLIMIT_STACK, STACK))
     print('cases with a stack of 512 KiB: ' + done.stdout.decode().strip().split('\n')[-1])
     tally.judge('cases with a stack of 512 KiB', None if done.returncode == 0 else done.stdout.decode())
 
@@ -58,10 +57,8 @@ def deep_inputs():
     yield f'folders {DEEPEST} deep, replayed', deep, replay, (0, replayed, b'')
 
 
-def try_deep_inputs(varexj, tally, commands):
+def try_deep_inputs(varexj, tally):
     for name, files, words, wanted in deep_inputs():
-        if words[0] not in commands:
-            continue
         with tempfile.TemporaryDirectory() as folder:
             for path, data in files.items():
                 trying.write(os.path.join(folder, path), data)
@@ -143,13 +140,12 @@ def try_in_memories(varexj, words, name, tally, folder):
         tally.judge(f'{name} in {most >> 20} MiB', None if ended[:3] == NO_MEMORY else ended.told())
 
 
-def try_exploding_reports(varexj, tally, commands):
+def try_exploding_reports(varexj, tally):
     for words, files in EXPLODING_REPORTS:
-        if words[0] in commands:
-            with tempfile.TemporaryDirectory() as folder:
-                for path, make in files.items():
-                    trying.write(os.path.join(folder, path), make())
-                try_in_memories(varexj, words, f'{words[0]} of sets that explode', tally, folder)
+        with tempfile.TemporaryDirectory() as folder:
+            for path, make in files.items():
+                trying.write(os.path.join(folder, path), make())
+            try_in_memories(varexj, words, f'{words[0]} of sets that explode', tally, folder)
 
 
 def try_exploding(varexj, tally):
@@ -166,11 +162,10 @@ def try_exploding(varexj, tally):
 
 def main(varexj):
     tally = trying.Tally()
-    commands = trying.built_commands(varexj)
-    try_cases(varexj, tally, commands)
-    try_deep_inputs(varexj, tally, commands)
+    try_cases(varexj, tally)
+    try_deep_inputs(varexj, tally)
     try_exploding(varexj, tally)
-    try_exploding_reports(varexj, tally, commands)
+    try_exploding_reports(varexj, tally)
     return tally.status()
 
 

@@ -43,7 +43,12 @@ OWN = {
     'cover': ['cover-one-option', 'cover-mail'],
     'explain': ['explain-one-option', 'explain-mail'],
     'replay': ['replay-exit', 'replay-uncaught', 'replay-with-lines'],
+    'trace': ['trace-cause', 'trace-initialiser', 'trace-without-source', 'trace-refused'],
+    'join': ['join-two-parts', 'join-three-with-attempts', 'join-outside-of-ends', 'join-unlike-limit', 'join-bad-second', 'join-rounds-too-many'],
     'cut': ['cut-by-names', 'cut-by-number-with-a-report', 'cut-clauses', 'cut-unlike'],
+    'count': ['count-two-options', 'count-where-ends-overlap'],
+    'list': ['list-two-options', 'list-where-ends-overlap'],
+    'output': ['output-named', 'output-of-err', 'output-unknown-option'],
     'load': ['workload-summary-3-options']}
 
 # Seeds and numbers of options of `load`; the last two are refused.
@@ -63,21 +68,24 @@ def own_runs():
 
 
 def report_runs():
-    """Each report told of, compared with itself, and projected at the configuration of no option."""
-    for command in ('interact', 'picture', 'cover', 'explain'):
+    """Each report told of, compared and joined with itself, and projected and put out at the configuration of no option."""
+    for command in ('interact', 'picture', 'cover', 'explain', 'count', 'list', 'page'):
         yield Run('report-cut-at-40', [command, 'report'])
         for case in REPORTED:
             yield Run(case, [command, REPORT])
     for case in REPORTED[:8]:
         yield Run(case, ['agree', REPORT, REPORT])
+        yield Run(case, ['join', REPORT, REPORT])
     for case in REPORTED[:5]:
         yield Run(case, ['project', REPORT, '-'])
+        yield Run(case, ['output', REPORT, '-'])
 
 
 def other_runs():
-    """Classes verified, configurations replayed, workloads, and the pages."""
+    """Classes verified, configurations replayed and traced, workloads, and the pages."""
     for case in REPLAYED:
-        yield Run(case, ['replay', *trying.case_words(case)[1:5], '-'])
+        for command in ('replay', 'trace'):
+            yield Run(case, [command, *trying.case_words(case)[1:5], '-'])
     for case in VERIFIED:
         yield Run(case, ['verify', *trying.case_words(case)[1:4]])
     for words in LOADS:
@@ -86,7 +94,6 @@ def other_runs():
         yield Run('source-empty', [page])
 
 
-def runs(varexj):
-    """The runs of the commands that the program has; each has a name and a folder of its own."""
-    commands = trying.built_commands(varexj)
-    return [run for run in [*own_runs(), *report_runs(), *other_runs()] if run.words[0] in commands]
+def runs():
+    """The runs; each has a name and a folder of its own."""
+    return [*own_runs(), *report_runs(), *other_runs()]

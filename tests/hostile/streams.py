@@ -23,7 +23,7 @@ LINE = b'write fault\n'
 # Small outputs of each command, a large one of run, and a refusal.
 SMALL = ['print-a-number', 'print-an-option', 'project-option-on', 'assemble-class-with-option', 'verify-branches', 'interact-one-option',
          'agree-with-itself', 'picture-one-option', 'cover-one-option', 'explain-one-option', 'replay-with-lines',
-         'cut-clauses', 'workload-summary-3-options']
+         'cut-clauses', 'join-two-parts', 'trace-cause', 'count-two-options', 'list-two-options', 'output-named', 'workload-summary-3-options']
 LARGE = 'equal-pairs-24-options'
 REFUSED = 'no-configuration'
 
@@ -200,10 +200,9 @@ def try_lost_line(command):
 def main(varexj):
     trying.needs('gcc', 'gcc')
     tally = trying.Tally()
-    commands = trying.built_commands(varexj)
     with tempfile.TemporaryDirectory() as place:
         preloaded = trying.library(LIBRARY, place, 'few_bytes')
-        for name in [name for name in [*SMALL, LARGE] if trying.case_words(name)[0] in commands]:
+        for name in [*SMALL, LARGE]:
             command = Command(varexj, name, place, tally)
             try_few_bytes(command, preloaded)
             for tried in (try_full_disk, try_full_device, try_slow_reader, try_lost_reader, try_full_pipe, try_lost_line):

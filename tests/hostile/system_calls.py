@@ -85,7 +85,7 @@ def own_calls(calls, words):
 
 def shown_path(call, words):
     """What a read fault names: the folder, a path below it, or a word of the command."""
-    if words[0] not in ('run', 'verify', 'replay') or call.path == words[2]:
+    if words[0] not in ('run', 'verify', 'replay', 'trace') or call.path == words[2]:
         return call.path
     folder = words[1]
     is_listing = call.name in LISTS or 'O_DIRECTORY' in call.line
@@ -170,7 +170,7 @@ def main(varexj):
     with tempfile.TemporaryDirectory() as place, ThreadPoolExecutor(os.cpu_count()) as pool:
         parts = folder_with_parts(os.path.join(place, 'parts'))
         tries = [('a folder in the folder', parts, trying.case_words('print-an-option'))]
-        tries += [(run.name(), run.folder(place), run.words) for run in runs.runs(varexj)]
+        tries += [(run.name(), run.folder(place), run.words) for run in runs.runs()]
         for name, folder, words in tries:
             try_failures(varexj, words, folder, name, tally, pool)
             try_each_interrupted(varexj, words, folder, name, tally)

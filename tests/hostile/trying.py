@@ -6,7 +6,6 @@ import resource
 import shutil
 import subprocess
 import sys
-import tempfile
 import time
 from typing import NamedTuple, Optional
 
@@ -17,12 +16,6 @@ SECONDS = 60
 BUSY = 30
 # What a script ends with where something that it needs can't be had.
 LACKING = 3
-
-# The words of each command that may be built, over files that aren't there.
-COMMANDS = {'run': ['f', 'm', 'Main', '1'], 'project': ['r', '-'], 'asm': ['s'], 'verify': ['f', 'm', 'Main'], 'interact': ['r'],
-            'agree': ['r', 'o'], 'picture': ['r'], 'cover': ['r'], 'explain': ['r'], 'load': ['1', '1'],
-            'replay': ['f', 'm', 'Main', '1', '-'], 'cut': ['m', '1'], '--help': [], '--version': []}
-USAGE = 2
 
 
 class Ended(NamedTuple):
@@ -76,16 +69,6 @@ def measured(words, folder, seconds, memory=resource.RLIM_INFINITY):
     before = processor_seconds()
     ended = called(words, folder, BUSY * most, preexec_fn=limit)
     return ended._replace(seconds=processor_seconds() - before)
-
-
-def is_built(varexj, command):
-    """Whether the program has a command: its words are then no wrong use."""
-    with tempfile.TemporaryDirectory() as folder:
-        return called([varexj, command, *COMMANDS[command]], folder).status != USAGE
-
-
-def built_commands(varexj):
-    return [command for command in COMMANDS if is_built(varexj, command)]
 
 
 def case_words(name):

@@ -102,7 +102,7 @@ def main(seconds):
         program = os.path.join(place, 'varexj')
         subprocess.run([sys.executable, BUILDER, program, '--fail-alloc', str(BUILT_IN)], check=True)
         copies, end = Copies(program, place), time.monotonic() + seconds
-        tried = list(runs.runs(program))
+        tried = list(runs.runs())
         for number, run in enumerate(tried):
             try_run(copies, run, place, (end - time.monotonic()) / (len(tried) - number), tally, pool)
     return tally.status()
