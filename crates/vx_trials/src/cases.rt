@@ -372,7 +372,7 @@ pub const TRACE_CASES: [(&str, u8, &str, &str); 8] = [
 ];
 
 /// The same of cuts of models.
-pub const CUT_CASES: [(&str, u8, &str, &str); 20] = [
+pub const CUT_CASES: [(&str, u8, &str, &str); 18] = [
     (
         "cut two B,A",
         0,
@@ -409,10 +409,8 @@ pub const CUT_CASES: [(&str, u8, &str, &str); 20] = [
     ("cut two 01", 2, "", "usage\n"),
     ("cut two", 2, "", "usage\n"),
     ("cut two A report report", 2, "", "usage\n"),
-    ("cut absent A", 3, "", "read fault absent\n"),
     ("cut bad A", 5, "", "bad model line 2 reason 4\n"),
     ("cut none A absent", 6, "", "no configuration\n"),
-    ("cut two C absent", 3, "", "read fault absent\n"),
     ("cut two C cut", 10, "", "bad report line 6\n"),
     ("cut two C report", 14, "", "unlike\n"),
     ("cut two C", 11, "", "not allowed\n"),
@@ -422,7 +420,7 @@ pub const CUT_CASES: [(&str, u8, &str, &str); 20] = [
 ];
 
 /// Words, the calls of the files, of `out` and of `err` that fail, and what has to come.
-pub const FAULTS: [(&str, u64, u64, u64, u8, &str, &str); 15] = [
+pub const FAULTS: [(&str, u64, u64, u64, u8, &str, &str); 17] = [
     (
         "run n e Main 100 1",
         0,
@@ -450,6 +448,8 @@ pub const FAULTS: [(&str, u64, u64, u64, u8, &str, &str); 15] = [
     ("page report", 0, 2, 0, 4, "<!doctype ", "write fault\n"),
     ("output report A", 1, 0, 0, 3, "", "read fault report\n"),
     ("agree absent cut", 0, 0, 0, 3, "", "read fault absent\n"),
+    ("cut absent A", 0, 0, 0, 3, "", "read fault absent\n"),
+    ("cut two C absent", 0, 0, 0, 3, "", "read fault absent\n"),
     ("join report part", 2, 0, 0, 3, "", "read fault part\n"),
     ("agree report absent", 0, 0, 0, 3, "", "read fault absent\n"),
     (

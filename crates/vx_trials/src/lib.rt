@@ -109,13 +109,13 @@ mod tests {
         all_come(&rt, rt.alloc(), &mut files, &TRACE_CASES);
     }
 
-    /// The files of which the call of this number fails.
     #[test]
     fn cuts_of_models(rt: HostRuntime) {
         let mut files = steady_files(&rt, rt.alloc());
         all_come(&rt, rt.alloc(), &mut files, &CUT_CASES);
     }
 
+    /// The files of which the call of this number fails.
     fn failing_files(rt: &impl Abort, alloc: Global, call: u64) -> MemoryFiles {
         let held = kept(alloc).expect(rt, "memory");
         assert!(rt; are_distinct(held.as_slice()));
