@@ -57,7 +57,7 @@ join_from old new all before [] front outcome split told g = by_reason (unless_c
 
     by_reason : ((status : Status) × (unjoined front ≡ Some status) × (outcome ≡ Err status)) ⊎ ((unjoined front ≡ None) × MayGive old.held old.faults new.faults (Write (product.Join front)) outcome) → Shows old new (Join all) outcome
     by_reason (inl bad) = by_status bad.0 bad.1 bad.2 (unjoined_cases front bad.0 bad.1)
-    by_reason (inr good) = rw good.1.2 (refl, told_map old.held _ _ (λ held h. record { reports = front; are = there held h; joinable = good.0; is_text = good.1.1 }) told)
+    by_reason (inr good) = rw good.1.2 (inl (refl, told_map old.held _ _ (λ held h. record { reports = front; are = there held h; joinable = good.0; is_text = good.1.1 }) told))
 join_from old new all before (path ∷ paths) front outcome split told g =
     by_file (report_shows old new path (λ report. read_reports join_reports (front ++ report ∷ []) paths) outcome g)
     (λ report read more. join_from old new all (before ++ path ∷ []) paths (front ++ report ∷ []) outcome (split ∙ sym (append_assoc before (path ∷ []) paths)) read more)

@@ -15,7 +15,7 @@ always (Some held) x = x
 
 -- whatever the plan gave is the summary
 pub load_shows : (old new : FilesState) (seed options : ℕ) (outcome : Outcome) → MayGive old.held old.faults new.faults (plan_of (Load seed options)) outcome → Shows old new (Load seed options) outcome
-load_shows old new seed options outcome g = rw g.2 (refl, always old.held g.1)
+load_shows old new seed options outcome g = rw g.2 (inl (refl, always old.held g.1))
 
 -- where nothing fails, it is done
 pub load_completes : (old new : FilesState) (out out' : SinkState) (seed options : ℕ) (held : Held) (status : Status) → NothingFails held old new out out' (Load seed options)

@@ -16,7 +16,7 @@ always (Some held) x = x
 
 -- whatever the plan gave is the page
 pub page_shows : (old new : FilesState) (page : Page) (outcome : Outcome) → MayGive old.held old.faults new.faults (plan_of (Show page)) outcome → Shows old new (Show page) outcome
-page_shows old new page outcome g = rw g.2 (refl, always old.held g.1)
+page_shows old new page outcome g = rw g.2 (inl (refl, always old.held g.1))
 
 -- a page, where nothing fails, is done
 pub page_completes : (old new : FilesState) (out out' : SinkState) (page : Page) (held : Held) (status : Status) → NothingFails held old new out out' (Show page)

@@ -89,7 +89,7 @@ retell_shows old new retelling folder path main limit word outcome g =
     by_program model c paths traced modeled allowed all (inl bad) = by_refusal model paths traced modeled all bad.0 bad.2 (refused_program main model (map (λ (t : Traced). t.class) traced) bad.0 bad.1)
     by_program model c paths traced modeled allowed all (inr good) =
         let written = good.2 in
-        rw written.2 (
+        rw written.2 (inl (
           refl,
           told_both old.held _ _ _ (λ held m h. record {
             model = model;
@@ -101,7 +101,7 @@ retell_shows old new retelling folder path main limit word outcome g =
             all = h;
             retold = record { program = good.0; is_program = good.1; is_text = written.1 };
           }) modeled all,
-        )
+        ))
 
     by_folder : (model : Model) (c : List Bool) → IfSome old.held (λ held. IsModelOf held path model) → allowed_at model word ≡ Ok c → FolderShows traced_of (λ t. t.class) old new folder path (retell_classes retelling main limit model c) outcome → Shows old new (Retell retelling folder path main limit word) outcome
     by_folder model c modeled allowed (inl stop) = refused stop.0 stop.1 (retell_cause old new folder path main word stop.0 (input_cause old new folder path main stop.0 stop.2))

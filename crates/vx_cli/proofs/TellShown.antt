@@ -31,7 +31,7 @@ tell_shows old new telling path outcome g = by_file (report_shows old new path (
         refused NotAllowed (bad.2 ∙ ap Err is) (told_map old.held _ _ (λ held h. (report, h, bad.1 ∙ ap Some is)) told)
     by_text report told (inr good) =
         let made = good.1 in
-        rw made.2 (refl, told_map old.held _ _ (λ held h. record { report = report; is_report = h; is_there = good.0; is_text = made.1 }) told)
+        rw made.2 (inl (refl, told_map old.held _ _ (λ held h. record { report = report; is_report = h; is_there = good.0; is_text = made.1 }) told))
 
     by_file : ReportShows old new path (tell_report telling) outcome → Shows old new (Tell telling path) outcome
     by_file (inl fault) = refused (ReadFault path) fault.1 (refl, fault.0)

@@ -118,7 +118,7 @@ pub verify_shows : (old new : FilesState) (folder path main : List ℕ) (outcome
 verify_shows old new folder path main (Ok said) g =
     let all = verify_gave old new folder path main (Ok said) g in
     let gave : IsJudged old folder path main said.0 = all.1 in
-    (all.0, told_both old.held _ _ _ (λ held m h. record { model = gave.model; modeled = m; paths = gave.paths; classes = gave.classes; all = h; judged = gave.judged }) gave.modeled gave.all)
+    inl (all.0, told_both old.held _ _ _ (λ held m h. record { model = gave.model; modeled = m; paths = gave.paths; classes = gave.classes; all = h; judged = gave.judged }) gave.modeled gave.all)
 verify_shows old new folder path main (Err status) g = verify_gave old new folder path main (Err status) g
 
 -- nothing refuses good files, where nothing fails

@@ -17,7 +17,7 @@ use Rattle.vx_commands.specs.Asked.{IsFromOne, asked_words, telling_name}
 use Rattle.vx_words.specs.Names.{begins_with_digit}
 use Rattle.std.specs.Char.{is_ascii_digit}
 use Rattle.std.proofs.lemmas.Bool.Decides.{nat_tests}
-use Rattle.vx_commands.specs.Command.{Command, Run, Project, Output, Tell, Agree, Join, Asm, Load, Verify, Retell, Cut, Show, AreWordsOf, IsChoiceInRange, IsLimit, IsSpelled, HasNoReading, IsStream, IsVersion, choice_word, page_word, report_words, retelling_word}
+use Rattle.vx_commands.specs.Command.{Command, Run, Project, Output, Tell, Agree, Join, Asm, Load, Verify, Retell, Cut, Check, Compare, Show, AreWordsOf, IsChoiceInRange, IsLimit, IsSpelled, HasNoReading, IsStream, IsVersion, choice_word, page_word, file_words, retelling_word}
 use Rattle.vx_cut_command.specs.Cut.{Choice, Many, Named}
 use Rattle.vx_commands.specs.declared.page.Page.{Page}
 use Rattle.vx_commands.specs.declared.page.Page.TheVariants.{Help, Version}
@@ -63,6 +63,8 @@ code_of (Show page) = page_code page
 code_of (Output report configuration stream) = 7304564
 code_of (Join reports) = 6975337
 code_of (Cut model choice report) = 6518132
+code_of (Check report expected) = 6514789
+code_of (Compare report other) = 6516589
 
 -- the name of a telling
 pub telling_is : (telling : Telling) (rest : List (List ℕ)) → first_code (telling_name telling ∷ rest) ≡ telling_code telling
@@ -202,6 +204,8 @@ code_is words (Show p) h = ap first_code h ∙ page_is p []
 code_is words (Output r c s) h = ap first_code h.1
 code_is words (Join rs) h = ap first_code h
 code_is words (Cut m c r) h = ap first_code h
+code_is words (Check r x) h = ap first_code h
+code_is words (Compare r o) h = ap first_code h
 
 -- the number of a command
 abbrev pub kind_of : Command → ℕ
@@ -217,11 +221,13 @@ kind_of (Show p) = 8
 kind_of (Output r c s) = 9
 kind_of (Join rs) = 10
 kind_of (Cut m c r) = 11
+kind_of (Check r x) = 12
+kind_of (Compare r o) = 13
 
 -- of that whose name begins so
 pub kind_at : ℕ → ℕ
 kind_at n =
-    if n == 7501166 then 0 else (if n == 7369327 then 1 else (if n == 6383474 then 3 else (if n == 6386541 then 4 else (if n == 7106401 then 5 else (if n == 7759218 then 6 else (if n == 7497072 then 7 else (if n == 7631457 then 7 else (if n == 2960758 then 8 else (if n == 2960744 then 8 else (if n == 7304564 then 9 else (if n == 6975337 then 10 else (if n == 6518132 then 11 else 2))))))))))))
+    if n == 7501166 then 0 else (if n == 7369327 then 1 else (if n == 6383474 then 3 else (if n == 6386541 then 4 else (if n == 7106401 then 5 else (if n == 7759218 then 6 else (if n == 7497072 then 7 else (if n == 7631457 then 7 else (if n == 2960758 then 8 else (if n == 2960744 then 8 else (if n == 7304564 then 9 else (if n == 6975337 then 10 else (if n == 6518132 then 11 else (if n == 6514789 then 12 else (if n == 6516589 then 13 else 2))))))))))))))
 
 kind_back : (command : Command) → kind_at (code_of command) ≡ kind_of command
 unfolding kind_at code_of telling_code page_code retelling_code
@@ -245,6 +251,8 @@ kind_back (Show Version) = refl
 kind_back (Output r c s) = refl
 kind_back (Join rs) = refl
 kind_back (Cut m c r) = refl
+kind_back (Check r x) = refl
+kind_back (Compare r o) = refl
 
 -- the kind of a command is seen at its words
 pub kind_is : (words : List (List ℕ)) (command : Command) → AreWordsOf words command → kind_at (first_code words) ≡ kind_of command
@@ -294,8 +302,8 @@ no_cut rest h command s = let e : 11 ≡ kind_of command = kind_is (codes "cut" 
 pub few_cut : (rest : List (List ℕ)) → length rest < 2 → HasNoReading (codes "cut" ∷ rest)
 few_cut rest few = no_cut rest (λ m c r s.
     let e = s.spelled in
-    let is : rest ≡ m ∷ choice_word c ∷ report_words r = cc in
-    let size : length rest ≡ 2 + length (report_words r) = ap length is ∙ omega arith in
+    let is : rest ≡ m ∷ choice_word c ∷ file_words r = cc in
+    let size : length rest ≡ 2 + length (file_words r) = ap length is ∙ omega arith in
     omega (arith, size, few))
 
 -- the word behind the model chooses nothing
@@ -303,11 +311,32 @@ pub no_chosen : (model word : List ℕ) (last : List (List ℕ)) → ((choice : 
 no_chosen model word last h = no_cut (model ∷ word ∷ last) (λ m c r s. let e = s.spelled in let is : word ≡ choice_word c = cc in h c s.in_range is)
 
 -- the words behind it are more than a report
-pub no_model_report : (model word : List ℕ) (last : List (List ℕ)) → ((report : Option (List ℕ)) → last ≢ report_words report) → HasNoReading (codes "cut" ∷ model ∷ word ∷ last)
-no_model_report model word last h = no_cut (model ∷ word ∷ last) (λ m c r s. let e = s.spelled in let is : last ≡ report_words r = cc in h r is)
+pub no_model_report : (model word : List ℕ) (last : List (List ℕ)) → ((report : Option (List ℕ)) → last ≢ file_words report) → HasNoReading (codes "cut" ∷ model ∷ word ∷ last)
+no_model_report model word last h = no_cut (model ∷ word ∷ last) (λ m c r s. let e = s.spelled in let is : last ≡ file_words r = cc in h r is)
 
-pub cuts : (model word : List ℕ) (last : List (List ℕ)) (choice : Choice) (report : Option (List ℕ)) → IsChoiceInRange choice → word ≡ choice_word choice → last ≡ report_words report → IsSpelled (codes "cut" ∷ model ∷ word ∷ last) (Cut model choice report)
+pub cuts : (model word : List ℕ) (last : List (List ℕ)) (choice : Choice) (report : Option (List ℕ)) → IsChoiceInRange choice → word ≡ choice_word choice → last ≡ file_words report → IsSpelled (codes "cut" ∷ model ∷ word ∷ last) (Cut model choice report)
 cuts model word last choice report range is also = record { spelled = λ i. codes "cut" ∷ model ∷ is i ∷ also i; in_range = range }
+
+-- words behind `check`
+no_check : (rest : List (List ℕ)) → ((r : List ℕ) (x : Option (List ℕ)) → IsSpelled (codes "check" ∷ rest) (Check r x) → ⊥) → HasNoReading (codes "check" ∷ rest)
+unfolding first_code kind_at
+no_check rest h (Check r x) s = h r x s
+no_check rest h command s = let e : 12 ≡ kind_of command = kind_is (codes "check" ∷ rest) command s.spelled in omega (arith, e)
+
+-- too few words
+pub few_check : (rest : List (List ℕ)) → length rest < 1 → HasNoReading (codes "check" ∷ rest)
+few_check rest few = no_check rest (λ r x s.
+    let e = s.spelled in
+    let is : rest ≡ r ∷ file_words x = cc in
+    let size : length rest ≡ 1 + length (file_words x) = ap length is ∙ omega arith in
+    omega (arith, size, few))
+
+-- the words behind the report are more than a file
+pub no_expected : (report : List ℕ) (last : List (List ℕ)) → ((expected : Option (List ℕ)) → last ≢ file_words expected) → HasNoReading (codes "check" ∷ report ∷ last)
+no_expected report last h = no_check (report ∷ last) (λ r x s. let e = s.spelled in let is : last ≡ file_words x = cc in h x is)
+
+pub checks : (report : List ℕ) (last : List (List ℕ)) (expected : Option (List ℕ)) → last ≡ file_words expected → IsSpelled (codes "check" ∷ report ∷ last) (Check report expected)
+checks report last expected is = record { spelled = λ i. codes "check" ∷ report ∷ is i; in_range = tt }
 
 -- a number begins with a digit
 digit_first : (ds : List ℕ) → IsNumeral 10 ds → begins_with_digit ds ≡ true
@@ -324,11 +353,11 @@ one_choice (Named w) (Many n) h k e = let wrong : false ≡ true = sym h ∙ ap 
 one_choice (Many m) (Named v) h k e = let wrong : false ≡ true = sym k ∙ ap begins_with_digit (sym e) ∙ number_first m (omega (arith, h.1)) in cc (wrong)
 one_choice (Many m) (Many n) h k e = ap Many (decimal_injective m n (omega (arith, h.1)) (omega (arith, k.1)) e)
 
-pub one_model_report : (a b : Option (List ℕ)) → report_words a ≡ report_words b → a ≡ b
-one_model_report None None e = refl
-one_model_report None (Some r) e = cc
-one_model_report (Some r) None e = cc
-one_model_report (Some r) (Some s) e = let same : r ≡ s = cc in ap Some same
+pub one_last_file : (a b : Option (List ℕ)) → file_words a ≡ file_words b → a ≡ b
+one_last_file None None e = refl
+one_last_file None (Some r) e = cc
+one_last_file (Some r) None e = cc
+one_last_file (Some r) (Some s) e = let same : r ≡ s = cc in ap Some same
 
 -- a word that begins with a digit, and spells no number of options
 pub no_choice : (word : List ℕ) → begins_with_digit word ≡ true → ((n : ℕ) → IsFromOne 16 n → word ≢ decimal n) → (choice : Choice) → IsChoiceInRange choice → word ≢ choice_word choice
@@ -336,9 +365,9 @@ no_choice word digit none (Named w) h e = let wrong : true ≡ false = sym digit
 no_choice word digit none (Many n) h e = none n h e
 
 -- more words than a report
-pub no_report_words : (rest : List (List ℕ)) → 2 ≤ length rest → (report : Option (List ℕ)) → rest ≢ report_words report
-no_report_words rest many None e = omega (arith, many, ap length e)
-no_report_words rest many (Some r) e = omega (arith, many, ap length e)
+pub no_file_words : (rest : List (List ℕ)) → 2 ≤ length rest → (report : Option (List ℕ)) → rest ≢ file_words report
+no_file_words rest many None e = omega (arith, many, ap length e)
+no_file_words rest many (Some r) e = omega (arith, many, ap length e)
 
 -- words behind the name of a telling
 pub no_tell : (telling : Telling) (rest : List (List ℕ)) → ((u : Telling) (r : List ℕ) → IsSpelled (telling_name telling ∷ rest) (Tell u r) → ⊥) → HasNoReading (telling_name telling ∷ rest)
@@ -388,6 +417,12 @@ pub no_agree : (rest : List (List ℕ)) → (length rest ≡ 2 → ⊥) → HasN
 unfolding first_code kind_at
 no_agree rest h (Agree r o) s = let e = s.spelled in let is : rest ≡ r ∷ o ∷ [] = cc in h (ap length is)
 no_agree rest h command s = let e : 3 ≡ kind_of command = kind_is (codes "agree" ∷ rest) command s.spelled in omega (arith, e)
+
+-- words behind `compare` that spell no comparison
+pub no_compare : (rest : List (List ℕ)) → (length rest ≡ 2 → ⊥) → HasNoReading (codes "compare" ∷ rest)
+unfolding first_code kind_at
+no_compare rest h (Compare r o) s = let e = s.spelled in let is : rest ≡ r ∷ o ∷ [] = cc in h (ap length is)
+no_compare rest h command s = let e : 13 ≡ kind_of command = kind_is (codes "compare" ∷ rest) command s.spelled in omega (arith, e)
 
 -- words behind `join` that spell no join
 pub no_join : (rest : List (List ℕ)) → length rest < 2 → HasNoReading (codes "join" ∷ rest)
@@ -450,20 +485,22 @@ no_retell_limit t folder model main limit configuration h = no_retell t (folder 
     h l spelled.in_range is)
 
 -- a first word that names no command
-pub no_command : (name : List ℕ) (rest : List (List ℕ)) → (name ≡ codes "run" → ⊥) → (name ≡ codes "project" → ⊥) → (name ≡ codes "agree" → ⊥) → (name ≡ codes "asm" → ⊥) → (name ≡ codes "load" → ⊥) → (name ≡ codes "verify" → ⊥) → (name ≡ codes "replay" → ⊥) → (name ≡ codes "output" → ⊥) → (name ≡ codes "trace" → ⊥) → (name ≡ codes "join" → ⊥) → (name ≡ codes "cut" → ⊥) → ((page : Page) → name ≢ page_word page) → ((telling : Telling) → name ≢ telling_name telling) → HasNoReading (name ∷ rest)
-no_command name rest run project agree asm load verify replay output trace join cut show tell (Run f m a l v) s = let e = s.spelled.1 in run cc
-no_command name rest run project agree asm load verify replay output trace join cut show tell (Project r c) s = let e = s.spelled in project cc
-no_command name rest run project agree asm load verify replay output trace join cut show tell (Tell t r) s = let e = s.spelled ∙ telling_parts t r in tell t cc
-no_command name rest run project agree asm load verify replay output trace join cut show tell (Agree r o) s = let e = s.spelled in agree cc
-no_command name rest run project agree asm load verify replay output trace join cut show tell (Asm t) s = let e = s.spelled in asm cc
-no_command name rest run project agree asm load verify replay output trace join cut show tell (Load x o) s = let e = s.spelled in load cc
-no_command name rest run project agree asm load verify replay output trace join cut show tell (Verify f m a) s = let e = s.spelled in verify cc
-no_command name rest run project agree asm load verify replay output trace join cut show tell (Retell Replay f m a l c) s = let e = s.spelled in replay cc
-no_command name rest run project agree asm load verify replay output trace join cut show tell (Retell Trace f m a l c) s = let e = s.spelled in trace cc
-no_command name rest run project agree asm load verify replay output trace join cut show tell (Output r c t) s = let e = s.spelled.1 in output cc
-no_command name rest run project agree asm load verify replay output trace join cut show tell (Join rs) s = let e = s.spelled in join cc
-no_command name rest run project agree asm load verify replay output trace join cut show tell (Cut m c r) s = let e = s.spelled in cut cc
-no_command name rest run project agree asm load verify replay output trace join cut show tell (Show p) s = let e = s.spelled in show p cc
+pub no_command : (name : List ℕ) (rest : List (List ℕ)) → (name ≡ codes "run" → ⊥) → (name ≡ codes "project" → ⊥) → (name ≡ codes "agree" → ⊥) → (name ≡ codes "asm" → ⊥) → (name ≡ codes "load" → ⊥) → (name ≡ codes "verify" → ⊥) → (name ≡ codes "replay" → ⊥) → (name ≡ codes "output" → ⊥) → (name ≡ codes "trace" → ⊥) → (name ≡ codes "join" → ⊥) → (name ≡ codes "cut" → ⊥) → (name ≡ codes "check" → ⊥) → (name ≡ codes "compare" → ⊥) → ((page : Page) → name ≢ page_word page) → ((telling : Telling) → name ≢ telling_name telling) → HasNoReading (name ∷ rest)
+no_command name rest run project agree asm load verify replay output trace join cut check compare show tell (Run f m a l v) s = let e = s.spelled.1 in run cc
+no_command name rest run project agree asm load verify replay output trace join cut check compare show tell (Project r c) s = let e = s.spelled in project cc
+no_command name rest run project agree asm load verify replay output trace join cut check compare show tell (Tell t r) s = let e = s.spelled ∙ telling_parts t r in tell t cc
+no_command name rest run project agree asm load verify replay output trace join cut check compare show tell (Agree r o) s = let e = s.spelled in agree cc
+no_command name rest run project agree asm load verify replay output trace join cut check compare show tell (Asm t) s = let e = s.spelled in asm cc
+no_command name rest run project agree asm load verify replay output trace join cut check compare show tell (Load x o) s = let e = s.spelled in load cc
+no_command name rest run project agree asm load verify replay output trace join cut check compare show tell (Verify f m a) s = let e = s.spelled in verify cc
+no_command name rest run project agree asm load verify replay output trace join cut check compare show tell (Retell Replay f m a l c) s = let e = s.spelled in replay cc
+no_command name rest run project agree asm load verify replay output trace join cut check compare show tell (Retell Trace f m a l c) s = let e = s.spelled in trace cc
+no_command name rest run project agree asm load verify replay output trace join cut check compare show tell (Output r c t) s = let e = s.spelled.1 in output cc
+no_command name rest run project agree asm load verify replay output trace join cut check compare show tell (Join rs) s = let e = s.spelled in join cc
+no_command name rest run project agree asm load verify replay output trace join cut check compare show tell (Cut m c r) s = let e = s.spelled in cut cc
+no_command name rest run project agree asm load verify replay output trace join cut check compare show tell (Check r x) s = let e = s.spelled in check cc
+no_command name rest run project agree asm load verify replay output trace join cut check compare show tell (Compare r o) s = let e = s.spelled in compare cc
+no_command name rest run project agree asm load verify replay output trace join cut check compare show tell (Show p) s = let e = s.spelled in show p cc
 
 -- a word that another one isn't
 pub not_word : (shown name word : List ℕ) → shown ≡ name → false ≡ bytes_eq shown word → name ≡ word → ⊥
@@ -482,6 +519,8 @@ no_words (Retell r f m a l c) s = let e = s.spelled in cc
 no_words (Output r c t) s = let e = s.spelled.1 in cc
 no_words (Join rs) s = let e = s.spelled in cc
 no_words (Cut m c r) s = let e = s.spelled in cc
+no_words (Check r x) s = let e = s.spelled in cc
+no_words (Compare r o) s = let e = s.spelled in cc
 no_words (Show p) s = let e = s.spelled in cc
 
 -- too few words behind `run`

@@ -15,7 +15,7 @@ use Rattle.vx_run_commands.specs.declared.words.Retelling.TheVariants.{Replay, T
 use Rattle.vx_commands.specs.declared.words.Request.{Request}
 use Rattle.vx_commands.specs.declared.words.Request.TheVariants as request
 
--- what the program is asked to do: to run a folder's classes under a model, from a main class on, within a limit of attempts, and to write a report of a version; or to write what a report says of one configuration, or what that prints on a stream, or what is told of the report, or where it agrees with another report, or the join of several reports; or to write the class file that a source names; or to run the workload of a seed and a number of options, and to write the summary of its report; or to tell of a folder's classes whether each method has a typing; or to tell of the run of one configuration, or of its end alone; or to write the parts of a model by options that are chosen, with a report of it or without; or to write a page of its own
+-- what the program is asked to do: to run a folder's classes under a model, from a main class on, within a limit of attempts, and to write a report of a version; or to write what a report says of one configuration, or what that prints on a stream, or what is told of the report, or where it agrees with another report, or the join of several reports; or to write the class file that a source names; or to run the workload of a seed and a number of options, and to write the summary of its report; or to tell of a folder's classes whether each method has a typing; or to tell of the run of one configuration, or of its end alone; or to write the parts of a model by options that are chosen, with a report of it or without; or to tell which configurations of a report end otherwise than they should, or than a file expects; or to tell where two reports differ; or to write a page of its own
 pub data Command : Type 0 where
   Run : (folder model main : List ℕ) (limit version : ℕ) → Command
   Project : (report configuration : List ℕ) → Command
@@ -28,6 +28,8 @@ pub data Command : Type 0 where
   Verify : (folder model main : List ℕ) → Command
   Retell : (retelling : Retelling) (folder model main : List ℕ) (limit : ℕ) (configuration : List ℕ) → Command
   Cut : (model : List ℕ) (choice : Choice) (report : Option (List ℕ)) → Command
+  Check : (report : List ℕ) (expected : Option (List ℕ)) → Command
+  Compare : (report other : List ℕ) → Command
   Show : Page → Command
 
 -- the last words name a version of the report; version 2 where there are none
@@ -53,10 +55,10 @@ abbrev pub choice_word : Choice → List ℕ
 choice_word (Named word) = word
 choice_word (Many count) = decimal count
 
--- a report behind it, if there is one
-abbrev pub report_words : Option (List ℕ) → List (List ℕ)
-report_words None = []
-report_words (Some report) = report ∷ []
+-- a file behind other words, if there is one
+abbrev pub file_words : Option (List ℕ) → List (List ℕ)
+file_words None = []
+file_words (Some path) = path ∷ []
 
 abbrev pub AreWordsOf : List (List ℕ) → Command → Type 0
 AreWordsOf words (Run folder model main limit version) =
@@ -72,7 +74,9 @@ AreWordsOf words (Load seed options) = words ≡ codes "load" ∷ decimal seed �
 AreWordsOf words (Verify folder model main) = words ≡ codes "verify" ∷ folder ∷ model ∷ main ∷ []
 AreWordsOf words (Retell retelling folder model main limit configuration) =
     words ≡ retelling_word retelling ∷ folder ∷ model ∷ main ∷ decimal limit ∷ configuration ∷ []
-AreWordsOf words (Cut model choice report) = words ≡ codes "cut" ∷ model ∷ choice_word choice ∷ report_words report
+AreWordsOf words (Cut model choice report) = words ≡ codes "cut" ∷ model ∷ choice_word choice ∷ file_words report
+AreWordsOf words (Check report expected) = words ≡ codes "check" ∷ report ∷ file_words expected
+AreWordsOf words (Compare report other) = words ≡ codes "compare" ∷ report ∷ other ∷ []
 AreWordsOf words (Show page) = words ≡ page_word page ∷ []
 
 -- a number is one of attempts
@@ -97,6 +101,8 @@ IsInRange (Load seed options) = (seed < 2 ^ 64) × (1 ≤ options) × (options �
 IsInRange (Verify folder model main) = Unit {0}
 IsInRange (Retell retelling folder model main limit configuration) = IsLimit limit
 IsInRange (Cut model choice report) = IsChoiceInRange choice
+IsInRange (Check report expected) = Unit {0}
+IsInRange (Compare report other) = Unit {0}
 IsInRange (Show page) = Unit {0}
 
 -- the words after the program's name spell the command
@@ -121,4 +127,6 @@ command_of (request.Load words) = Load words.seed words.options
 command_of (request.Verify words) = Verify words.folder.now words.model.now words.main.now
 command_of (request.Retell words) = Retell words.retelling words.folder.now words.model.now words.main.now words.limit words.configuration.now
 command_of (request.Cut words) = Cut words.model.now (choice_of words.chosen) (option_map (λ r. r.now) words.report)
+command_of (request.Compare words) = Compare words.report.now words.other.now
+command_of (request.Check words) = Check words.report.now (option_map (λ r. r.now) words.expected)
 command_of (request.Show page) = Show page

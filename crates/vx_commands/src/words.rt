@@ -2,7 +2,7 @@
 
 ghost use Rattle.std.specs.Prelude.{◌≡◌, ◌≢◌, ◌<◌, ◌^◌, ℕ, List, Option, [], map, option_map, string_bytes, MatchOption, decimal, codes, ◌∷◌, Some};
 ghost use Rattle.vx_commands.specs.Asked.{IsFromOne, asked_words, telling_name};
-ghost use Rattle.vx_commands.specs.Command.{HasNoReading, IsChoiceInRange, IsLimit, IsSpelled, IsStream, IsVersion, choice_word, command_of, page_word, report_words, retelling_word};
+ghost use Rattle.vx_commands.specs.Command.{HasNoReading, IsChoiceInRange, IsLimit, IsSpelled, IsStream, IsVersion, choice_word, command_of, page_word, file_words, retelling_word};
 ghost use Rattle.vx_commands.specs.declared.page.Page as shown;
 ghost use Rattle.vx_cut_command.specs.Cut as cut;
 ghost use Rattle.vx_cut_command.specs.Words.{choice_of};
@@ -14,6 +14,7 @@ ghost use Rattle.vx_value.specs.declared.end.Stream as printed;
 ghost use Rattle.vx_words.specs.Names.{begins_with_digit};
 
 use crate::page::Page;
+use vx_check_commands::{CheckWords, CompareWords};
 use vx_cut_command::{Chosen, CutWords};
 use vx_people::Telling;
 use vx_picture::Drawn;
@@ -37,6 +38,8 @@ pub enum Request<'a> {
     Verify(VerifyWords<'a>),
     Retell(RetellWords<'a>),
     Cut(CutWords<'a>),
+    Check(CheckWords<'a>),
+    Compare(CompareWords<'a>),
     Show(Page),
 }
 
@@ -354,10 +357,10 @@ fn read_chosen(word: &str) -> Option<Chosen<'_>>
     Some(Chosen::Many(count as u32))
 }
 
-/// Reads the report behind the other words of `cut`, where there is one.
-fn read_model_report(words: &[String]) -> Option<Option<&str>>
-    ensures { MatchOption result ((report : Option (List ℕ)) → map string_bytes words.now ≢ report_words report)
-        (λ report. map string_bytes words.now ≡ report_words (option_map (λ r. r.now) report)) }
+/// Reads the file behind the other words of `cut` and `check`, where there is one.
+fn read_last_file(words: &[String]) -> Option<Option<&str>>
+    ensures { MatchOption result ((report : Option (List ℕ)) → map string_bytes words.now ≢ file_words report)
+        (λ report. map string_bytes words.now ≡ file_words (option_map (λ r. r.now) report)) }
 {
     match words {
         [] => Some(None),
@@ -375,11 +378,40 @@ fn read_cut(words: &[String]) -> Option<Request<'_>>
         return None;
     };
     let chosen = read_chosen(chosen.as_str())?;
-    let report = read_model_report(last)?;
+    let report = read_last_file(last)?;
     Some(Request::Cut(CutWords {
         model: model.as_str(),
         chosen,
         report,
+    }))
+}
+
+/// Reads the words of `check` behind its name.
+fn read_check(words: &[String]) -> Option<Request<'_>>
+    ensures { let spelled = codes "check" ∷ map string_bytes words.now in
+        MatchOption result (HasNoReading spelled) (λ request. IsSpelled spelled (command_of request)) }
+{
+    let [report, last @ ..] = words else {
+        return None;
+    };
+    let expected = read_last_file(last)?;
+    Some(Request::Check(CheckWords {
+        report: report.as_str(),
+        expected,
+    }))
+}
+
+/// Reads the words of `compare` behind its name.
+fn read_compare(words: &[String]) -> Option<Request<'_>>
+    ensures { let spelled = codes "compare" ∷ map string_bytes words.now in
+        MatchOption result (HasNoReading spelled) (λ request. IsSpelled spelled (command_of request)) }
+{
+    let [report, other] = words else {
+        return None;
+    };
+    Some(Request::Compare(CompareWords {
+        report: report.as_str(),
+        other: other.as_str(),
     }))
 }
 
@@ -438,6 +470,10 @@ pub fn read_words(words: &[String]) -> Option<Request<'_>>
         read_join(others)
     } else if name.as_str() == "cut" {
         read_cut(others)
+    } else if name.as_str() == "check" {
+        read_check(others)
+    } else if name.as_str() == "compare" {
+        read_compare(others)
     } else {
         match read_page(name.as_str()) {
             Some(page) => read_show(page, others),

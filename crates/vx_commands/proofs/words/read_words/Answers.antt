@@ -69,6 +69,18 @@ returns-then-eq-11 c =
     let words = first_word c.args.words.now c.name-item.result c.in-len1-up.len_at_least c.name-item.is in
     rw (words, name) c.read_cut.ensures
 
+pub returns-then-eq-12 : goal.returns-then-eq-12
+returns-then-eq-12 c =
+    let name = sym c.as_str-else-eq-11.ensures.value ∙ (bytes_eq-Decides c.as_str-else-eq-11.result.now (codes "check")).0 (sym c.if-eq-12.ensures) in
+    let words = first_word c.args.words.now c.name-item.result c.in-len1-up.len_at_least c.name-item.is in
+    rw (words, name) c.read_check.ensures
+
+pub returns-then-eq-13 : goal.returns-then-eq-13
+returns-then-eq-13 c =
+    let name = sym c.as_str-else-eq-12.ensures.value ∙ (bytes_eq-Decides c.as_str-else-eq-12.result.now (codes "compare")).0 (sym c.if-eq-13.ensures) in
+    let words = first_word c.args.words.now c.name-item.result c.in-len1-up.len_at_least c.name-item.is in
+    rw (words, name) c.read_compare.ensures
+
 pub returns-in_err-read_telling-in-None : goal.returns-in_err-read_telling-in-None
 returns-in_err-read_telling-in-None c =
     let words = first_word c.args.words.now c.name-item.result c.in-len1-up.len_at_least c.name-item.is in
@@ -84,5 +96,7 @@ returns-in_err-read_telling-in-None c =
     (not_word c.as_str-else-eq-8.result.now _ (codes "trace") c.as_str-else-eq-8.ensures.value c.if-eq-9.ensures)
     (not_word c.as_str-else-eq-9.result.now _ (codes "join") c.as_str-else-eq-9.ensures.value c.if-eq-10.ensures)
     (not_word c.as_str-else-eq-10.result.now _ (codes "cut") c.as_str-else-eq-10.ensures.value c.if-eq-11.ensures)
-    (λ page e. c.in-None.ensures page (c.as_str-else-eq-11.ensures.value ∙ e))
+    (not_word c.as_str-else-eq-11.result.now _ (codes "check") c.as_str-else-eq-11.ensures.value c.if-eq-12.ensures)
+    (not_word c.as_str-else-eq-12.result.now _ (codes "compare") c.as_str-else-eq-12.ensures.value c.if-eq-13.ensures)
+    (λ page e. c.in-None.ensures page (c.as_str-else-eq-13.ensures.value ∙ e))
     (λ telling e. c.in_err-read_telling-in-None.ensures telling (c.as_str-in-None.ensures.value ∙ e)))
