@@ -6,7 +6,7 @@ use Rattle.vx_plans.specs.declared.status.Status.{Status}
 use Rattle.vx_plans.specs.declared.status.Status.TheVariants.{Differing, Done, Failing, NoMemory, WriteFault}
 use Rattle.vx_report_commands.specs.Agree.{agree_plan, unlike}
 use Rattle.vx_cli.specs.Causes.{IsGood, IsShown, NothingFails, Shows}
-use Rattle.vx_commands.specs.Command.{Agree}
+use Rattle.vx_cli.specs.Command.{Agree}
 use Rattle.vx_plans.specs.Job.{Agreement}
 use Rattle.vx_plans.specs.Plan.{MayGive, Outcome, Write}
 use Rattle.vx_report_commands.proofs.Alike.{unlike_alone}

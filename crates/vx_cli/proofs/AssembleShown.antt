@@ -8,7 +8,7 @@ use Rattle.vx_plans.specs.declared.status.Status.{Status}
 use Rattle.vx_plans.specs.declared.status.Status.TheVariants.{Done, NoMemory, ReadFault, WriteFault, BadSource, TooLarge}
 use Rattle.vx_report_commands.specs.Assemble.{or_bad_source, assembled, asm_plan}
 use Rattle.vx_cli.specs.Causes.{AsmCause, Shows, IsShown, IsGood, NothingFails}
-use Rattle.vx_commands.specs.Command.{Asm}
+use Rattle.vx_cli.specs.Command.{Asm}
 use Rattle.vx_plans.specs.Job.{Exactly}
 use Rattle.vx_plans.specs.Plan.{MayGive, Write, attempt, Outcome}
 use Rattle.vx_plans.specs.Sized.{most_bytes}

@@ -14,7 +14,7 @@ use Rattle.vx_report.specs.declared.report.Report.{Report}
 use Rattle.vx_plans.specs.declared.status.Status.{Status}
 use Rattle.vx_plans.specs.declared.status.Status.TheVariants.{BadExpected, BadReport, Differing, Done, Failing, NoMemory, ReadFault, TooLarge, WriteFault}
 use Rattle.vx_cli.specs.Causes.{CheckCause, HasReport, IsBadAt, IsBadExpected, IsChecking, IsExpectedIn, IsFailed, IsFailing, IsGood, IsReportIn, IsShown, NoFileRose, NothingFails, Shows}
-use Rattle.vx_commands.specs.Command.{Check}
+use Rattle.vx_cli.specs.Command.{Check}
 use Rattle.vx_inputs.specs.Reports.{most_report_bytes}
 use Rattle.vx_plans.specs.Job as product
 use Rattle.vx_plans.specs.Job.{IsTextOf}

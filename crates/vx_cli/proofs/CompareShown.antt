@@ -11,7 +11,7 @@ use Rattle.vx_report.specs.declared.report.Report.{Report}
 use Rattle.vx_plans.specs.declared.status.Status.{Status}
 use Rattle.vx_plans.specs.declared.status.Status.TheVariants.{Differing, Done, Failing, NoMemory, Unlike, WriteFault}
 use Rattle.vx_cli.specs.Causes.{IsComparing, IsDiffering, IsGood, IsReportIn, IsShown, NothingFails, Shows}
-use Rattle.vx_commands.specs.Command.{Compare}
+use Rattle.vx_cli.specs.Command.{Compare}
 use Rattle.vx_plans.specs.Job.{Comparison}
 use Rattle.vx_plans.specs.Plan.{MayGive, Outcome, Plan, Say}
 use Rattle.vx_cli.proofs.PairShown.{IsPair, SaidShows, no_pair_cause, pair_shows}

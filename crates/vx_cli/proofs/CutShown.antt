@@ -21,7 +21,7 @@ use Rattle.vx_plans.specs.Sized.{most_bytes}
 use Rattle.vx_plans.proofs.Told.{IsText, SizedShows, attempt_cases, ok_and_err, same_value, sized_shows, told_both, told_map, unless_cases}
 use Rattle.vx_inputs.specs.Reports.{most_report_bytes, read_report}
 use Rattle.vx_cut_command.specs.Cut.{Choice, GivesParts, IsChosen, IsOversized, IsUnchosen, Many, Named, choose, cut_by, cut_plan, cut_source, if_few, most_chosen, named_options, oversized, read_like, too_few, unlike_model}
-use Rattle.vx_commands.specs.Command.{Cut}
+use Rattle.vx_cli.specs.Command.{Cut}
 use Rattle.vx_cli.specs.Causes.{CutCause, HasGoodModel, HasLargePart, HasNoChoice, IsBadAt, IsGood, IsGoodModel, IsLikeIn, IsModelOf, IsParted, IsReportIn, IsShown, IsNamed, IsUnlikeModel, NoFileRose, NothingFails, Shows}
 use Rattle.vx_cli.proofs.ReportTold.{ReportShows, not_bad, report_shows}
 use Rattle.vx_cli.proofs.RunShown.{model_refused}

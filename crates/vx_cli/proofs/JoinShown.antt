@@ -12,7 +12,7 @@ use Rattle.vx_plans.specs.declared.status.Status.{Status}
 use Rattle.vx_plans.specs.declared.status.Status.TheVariants.{Done, NoMemory, ReadFault, WriteFault, BadReport, TooLarge, Unlike, NotJoinable}
 use Rattle.vx_report_commands.specs.Join.{are_like, join_plan, join_reports, unjoined}
 use Rattle.vx_cli.specs.Causes.{AreReportsIn, AreUnjoined, HasReport, IsBadAt, IsReachedAmong, IsReportIn, Shows, IsShown, IsGood, NothingFails}
-use Rattle.vx_commands.specs.Command.{Join}
+use Rattle.vx_cli.specs.Command.{Join}
 use Rattle.vx_plans.specs.Job as product
 use Rattle.vx_plans.specs.Plan.{MayGive, Write, Outcome}
 use Rattle.vx_inputs.specs.Reports.{most_report_bytes, read_reports}

@@ -5,7 +5,7 @@ use Rattle.vx_io.specs.Sink.{SinkState}
 use Rattle.vx_plans.specs.declared.status.Status.{Status}
 use Rattle.vx_plans.specs.declared.status.Status.TheVariants.{Done, NoMemory, WriteFault}
 use Rattle.vx_cli.specs.Causes.{Shows, IsShown, NothingFails}
-use Rattle.vx_commands.specs.Command.{Load}
+use Rattle.vx_cli.specs.Command.{Load}
 use Rattle.vx_plans.specs.Plan.{MayGive, Outcome}
 use Rattle.vx_cli.specs.PlanOf.{plan_of}
 

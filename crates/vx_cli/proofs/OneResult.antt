@@ -16,7 +16,7 @@ use Rattle.vx_reporting.proofs.OneText.{one_text}
 use Rattle.vx_reporting.specs.Reported.{IsReported}
 use Rattle.vx_summary.specs.Summary.{summary_text}
 use Rattle.vx_cli.specs.Causes.{AreClasses, AreGiven, HasOneResult, IsAgreeing, IsJoining, IsReport, IsResult, IsRetelling, IsSaidOf, IsShown, IsTold, IsVerification}
-use Rattle.vx_commands.specs.Command.{Agree, Asm, Check, Command, Compare, Cut, Join, Load, Output, Project, Retell, Run, Show, Tell, Verify}
+use Rattle.vx_cli.specs.Command.{Agree, Asm, Check, Command, Compare, Cut, Join, Load, Output, Project, Retell, Run, Show, Tell, Verify}
 use Rattle.vx_cli.specs.Ends.{Ends}
 use Rattle.vx_plans.specs.Job.{names_of, program_in}
 use Rattle.vx_plans.specs.Load.{IsSummary, load_limit, load_model, load_program}

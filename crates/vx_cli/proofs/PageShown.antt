@@ -2,11 +2,11 @@
 use Rattle.std.proofs.Common.{◌≡◌, IfSome, Option, None, Some, inl, inr, ◌⊎◌, refl}
 use Rattle.vx_io.specs.Held.{Held, FilesState}
 use Rattle.vx_io.specs.Sink.{SinkState}
-use Rattle.vx_commands.specs.declared.page.Page.{Page}
+use Rattle.vx_cli.specs.declared.page.Page.{Page}
 use Rattle.vx_plans.specs.declared.status.Status.{Status}
 use Rattle.vx_plans.specs.declared.status.Status.TheVariants.{Done, NoMemory, WriteFault}
 use Rattle.vx_cli.specs.Causes.{Shows, IsShown, NothingFails}
-use Rattle.vx_commands.specs.Command.{Show}
+use Rattle.vx_cli.specs.Command.{Show}
 use Rattle.vx_plans.specs.Plan.{MayGive, Outcome}
 use Rattle.vx_cli.specs.PlanOf.{plan_of}
 

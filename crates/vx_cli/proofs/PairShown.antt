@@ -6,7 +6,7 @@ use Rattle.vx_report.specs.declared.report.Report.{Report}
 use Rattle.vx_plans.specs.declared.status.Status.{Status}
 use Rattle.vx_plans.specs.declared.status.Status.TheVariants.{ReadFault, BadReport, TooLarge, Unlike}
 use Rattle.vx_cli.specs.Causes.{AreUnlike, HasCause, HasReport, IsBadAt, IsReportIn, PairCause, Shows}
-use Rattle.vx_commands.specs.Command.{Command}
+use Rattle.vx_cli.specs.Command.{Command}
 use Rattle.vx_plans.specs.Plan.{MayGive, Outcome, Plan, unless}
 use Rattle.vx_inputs.specs.Reports.{most_report_bytes, read_report}
 use Rattle.vx_cli.proofs.ReportTold.{ReportShows, not_bad, report_shows}

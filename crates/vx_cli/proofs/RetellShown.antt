@@ -4,7 +4,7 @@ use Rattle.std.specs.Prelude.{if◌then◌else◌}
 use Rattle.vx_class.specs.declared.class_file.ClassFile.{ClassFile}
 use Rattle.vx_class.specs.Class.{class_of}
 use Rattle.vx_configuration.specs.Configuration.{configuration_of}
-use Rattle.vx_cursor.specs.Reading.{Fault, ◌>>=◌}
+use Rattle.vx_pool.specs.Reading.{Fault, ◌>>=◌}
 use Rattle.vx_io.specs.Held.{Held, FilesState}
 use Rattle.vx_io.specs.Sink.{SinkState}
 use Rattle.vx_link.specs.Linked.{linked_program}
@@ -16,7 +16,7 @@ use Rattle.vx_plans.specs.declared.status.Status.{Status}
 use Rattle.vx_plans.specs.declared.status.Status.TheVariants.{Done, NoMemory, WriteFault, BadLink, NotAllowed}
 use Rattle.vx_inputs.specs.declared.taken.Traced.{Traced}
 use Rattle.vx_cli.specs.Causes.{AreAll, AreAllGiven, IsModelOf, Shows, IsShown, IsGood, NothingFails, RetellCause, VerifyCause}
-use Rattle.vx_commands.specs.Command.{Retell}
+use Rattle.vx_cli.specs.Command.{Retell}
 use Rattle.vx_plans.specs.Job.{Exactly, names_of, slashed}
 use Rattle.vx_plans.specs.Plan.{MayGive, Write, attempt, Outcome}
 use Rattle.vx_run_commands.specs.Retell.{allowed_at, if_allowed, retell_classes, retell_plan, retold_text, traced_program}

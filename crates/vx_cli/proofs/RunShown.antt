@@ -14,7 +14,7 @@ use Rattle.vx_link.specs.declared.program.Program.{Program}
 use Rattle.vx_plans.specs.declared.status.Status.{Status}
 use Rattle.vx_plans.specs.declared.status.Status.TheVariants.{Done, NoMemory, ReadFault, WriteFault, BadModel, NoConfiguration, BadClass, BadLink, TooLarge}
 use Rattle.vx_cli.specs.Causes.{HasClasses, IsReached, IsModelOf, IsGoodModel, IsNotLinked, AreAll, class_bytes, InputCause, RunCause, Shows, IsShown, IsGood, NothingFails}
-use Rattle.vx_commands.specs.Command.{Run}
+use Rattle.vx_cli.specs.Command.{Run}
 use Rattle.vx_plans.specs.Job.{model_of, or_bad_link, or_bad_model, program_in, slashed, spelled_model, Report}
 use Rattle.vx_plans.specs.Plan.{Plan, MayGive, Write, If_allowed, AllowsSome, AllowsNone, attempt, Outcome}
 use Rattle.vx_inputs.specs.ModelFile.{read_model}

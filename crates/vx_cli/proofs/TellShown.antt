@@ -6,7 +6,7 @@ use Rattle.vx_report.specs.declared.report.Report.{Report}
 use Rattle.vx_plans.specs.declared.status.Status.{Status}
 use Rattle.vx_plans.specs.declared.status.Status.TheVariants.{Done, NoMemory, ReadFault, WriteFault, BadReport, NotAllowed, TooLarge}
 use Rattle.vx_cli.specs.Causes.{TellCause, IsBadAt, IsReportIn, Shows, IsShown, IsGood, NothingFails}
-use Rattle.vx_commands.specs.Command.{Tell}
+use Rattle.vx_cli.specs.Command.{Tell}
 use Rattle.vx_plans.specs.Job.{Told}
 use Rattle.vx_plans.specs.Plan.{MayGive, Write, Outcome}
 use Rattle.vx_inputs.specs.Reports.{most_report_bytes}

@@ -14,7 +14,7 @@ use Rattle.vx_link.specs.declared.program.Program.{Program}
 use Rattle.vx_plans.specs.declared.status.Status.{Status}
 use Rattle.vx_plans.specs.declared.status.Status.TheVariants.{Done, NoMemory, ReadFault, WriteFault, BadModel, BadClass, BadLink, TooLarge}
 use Rattle.vx_cli.specs.Causes.{HasClasses, InputCause, IsReached, IsModelOf, IsUnlinked, AreAll, class_bytes, Shows, IsShown, IsGood, NothingFails, VerifyCause}
-use Rattle.vx_commands.specs.Command.{Verify}
+use Rattle.vx_cli.specs.Command.{Verify}
 use Rattle.vx_plans.specs.Job.{Judged, model_of, program_in, slashed}
 use Rattle.vx_plans.specs.Plan.{Plan, MayGive, Write, attempt, Outcome}
 use Rattle.vx_inputs.specs.Folder.{most_classes, read_folder}

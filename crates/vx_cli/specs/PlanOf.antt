@@ -1,5 +1,5 @@
 -- The plan of each command.
-use Rattle.vx_commands.specs.Command.{Command, Run, Project, Output, Tell, Agree, Join, Asm, Load, Verify, Retell, Cut, Check, Compare, Show}
+use Rattle.vx_cli.specs.Command.{Command, Run, Project, Output, Tell, Agree, Join, Asm, Load, Verify, Retell, Cut, Check, Compare, Show}
 use Rattle.vx_check_commands.specs.Check.{check_plan}
 use Rattle.vx_check_commands.specs.Compare.{compare_plan}
 use Rattle.vx_cut_command.specs.Cut.{cut_plan}
@@ -7,7 +7,7 @@ use Rattle.vx_report_commands.specs.Agree.{agree_plan}
 use Rattle.vx_report_commands.specs.Assemble.{asm_plan}
 use Rattle.vx_report_commands.specs.Join.{join_plan}
 use Rattle.vx_plans.specs.Job.{Exactly, Summary}
-use Rattle.vx_commands.specs.Pages.{page_text}
+use Rattle.vx_cli.specs.Pages.{page_text}
 use Rattle.vx_plans.specs.Plan.{Plan, Write}
 use Rattle.vx_report_commands.specs.Output.{output_plan}
 use Rattle.vx_report_commands.specs.Project.{project_plan}

@@ -6,7 +6,7 @@ use Rattle.std.proofs.lemmas.List.Folds.{list_any-append}
 use Rattle.std.specs.List.{list_any, range_with_len}
 use Rattle.std.specs.Prelude.{None, Option, Some, nat_eq, nat_lt, not, ◌==◌, ◌||◌}
 use Rattle.vx_class.specs.declared.class_file.Code.{Code}
-use Rattle.vx_code.specs.Holding.{and_true}
+use Rattle.vx_pool.specs.Holding.{and_true}
 use Rattle.vx_java.specs.Calls.{is_receiver}
 use Rattle.vx_java.specs.Machine.{Here, Ref, object_at}
 use Rattle.vx_java.specs.Selection.{class_of_receiver, select, select_from, selected_if_concrete}

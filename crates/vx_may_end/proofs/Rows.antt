@@ -4,7 +4,7 @@ use Rattle.std.specs.Int.{w32, w64}
 use Rattle.std.specs.Prelude.{is_some, nat_lt, not, ◌==◌, ◌||◌}
 use Rattle.vx_class.specs.Members.{ABSTRACT, STATIC}
 use Rattle.vx_class.specs.declared.class_file.Code.{Code}
-use Rattle.vx_code.specs.Lookups.{entry_of}
+use Rattle.vx_pool.specs.Lookups.{entry_of}
 use Rattle.vx_desc.specs.Descriptors.{field_type}
 use Rattle.vx_desc.specs.declared.java_type.JavaType.{JavaType}
 use Rattle.vx_java.specs.Arrays.{elements_of_numbers, lengths_off, new_array, new_grid_of, new_primitives}

@@ -11,8 +11,8 @@ use Rattle.std.specs.Prelude.{All, nat_lt, take_while, unwrap_or, ◌-◌, ◌==
 use Rattle.vx_class.specs.File.{Holds}
 use Rattle.vx_class.specs.declared.class_file.ClassFile.{ClassFile}
 use Rattle.vx_class.specs.declared.class_file.Code.{Code}
-use Rattle.vx_code.specs.Holding.{and_true}
-use Rattle.vx_code.specs.Instructions.{is_start}
+use Rattle.vx_pool.specs.Holding.{and_true}
+use Rattle.vx_pool.specs.Instructions.{is_start}
 use Rattle.vx_java.specs.Initialisation.{begin, begin_chain, begin_free, blocked, chain_blocked, init_chain, is_below_failed, is_not, pushed_chain, quiet_chain}
 use Rattle.vx_java.specs.Machine.{Begin, Ended, Ends, Frame, Go, Goes, Native, Next, Outcome, Raise, State, Throw, Write, current_class, depth, frame_bound, init_at, next_object, place, place_at, when, with_inits, with_objects}
 use Rattle.vx_java.specs.Natives.{native, no_code}

@@ -4,7 +4,7 @@ use Rattle.std.proofs.lemmas.List.Folds.{list_any-append}
 use Rattle.std.specs.Cmp.Derive.{both_true}
 use Rattle.std.specs.List.{filter_map, list_all, list_any}
 use Rattle.std.specs.Prelude.{◌==◌, ◌||◌}
-use Rattle.vx_code.specs.Holding.{and_true}
+use Rattle.vx_pool.specs.Holding.{and_true}
 use Rattle.vx_java.specs.Calls.{if_arguments}
 use Rattle.vx_java.specs.Checks.{if_there, with_class}
 use Rattle.vx_java.specs.Initialisation.{blocked, by_state, init_chain, quiet_chain, when_initialised, when_not}

@@ -3,7 +3,7 @@ use Rattle.std.specs.List.{filter_map, range_with_len}
 use Rattle.std.specs.Prelude.{Bool, List, None, Option, Some, [], codes, false, filter, flat_map, if◌then◌else◌, map, not, true, unwrap_or, ℕ, ◌&&◌, ◌++◌, ◌-◌, ◌==◌, ◌||◌, ◌∷◌}
 use Rattle.vx_class.specs.Members.{ABSTRACT, STATIC}
 use Rattle.vx_class.specs.declared.class_file.Code.{Code}
-use Rattle.vx_code.specs.Lookups.{entry_of}
+use Rattle.vx_pool.specs.Lookups.{entry_of}
 use Rattle.vx_desc.specs.Descriptors.{field_type}
 use Rattle.vx_desc.specs.Names.{is_init}
 use Rattle.vx_desc.specs.declared.java_type.JavaType.{JavaType}

@@ -11,7 +11,7 @@ ghost use Rattle.vx_fields.specs.Statics.{top_of};
 ghost use Rattle.vx_group_states.specs.Answering.{operands_at};
 ghost use Rattle.vx_group_states.specs.Sites.{here};
 ghost use Rattle.vx_group_states.specs.Stands.{StandsIn};
-ghost use Rattle.vx_growth.specs.Changing.{IsChangedIn};
+ghost use Rattle.vx_families.specs.Changing.{IsChangedIn};
 ghost use Rattle.vx_heap.specs.Heap.{HeapView, IsHeap, IsHeapFor};
 ghost use Rattle.vx_java.specs.Returns.{return_value, values_returned};
 ghost use Rattle.vx_space.specs.Sets.{Extends, IsKnown, IsSet};

@@ -1,5 +1,5 @@
 use Rattle.std.proofs.Common.{arith}
-use Rattle.vx_commands.specs.Pages.{page_text}
+use Rattle.vx_cli.specs.Pages.{page_text}
 use Rattle.vx_plans.specs.Job.{Exactly, Summary}
 use Rattle.vx_cli.proofs.Shown.{answer_given, given_of, product_given}
 use Rattle.vx_cli.proofs.top.outcome_of.Goals as goal
