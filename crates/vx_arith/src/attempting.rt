@@ -61,7 +61,8 @@ fn goto<S: Space>(
     let (below, mut frame) = group.take_top();
     let spot = spot_at(site, frame.position);
     frame.position = goto_target(&spot, operation);
-    Outcomes::go(alloc, below.put_top(frame))
+    let outcomes = Outcomes::go(alloc, below.put_top(frame))?;
+    Ok(outcomes)
 }
 
 /// An instruction that takes no operand.
@@ -84,7 +85,8 @@ fn with_none<S: Space>(
         }
         Operation::Refuse(word) => {
             let what = Name::of(alloc, NOTHING)?;
-            unsupported(alloc, site.program, &group, word, what)
+            let ended = unsupported(alloc, site.program, &group, word, what)?;
+            Ok(ended)
         }
         _ => unreachable!(),
     }
@@ -106,9 +108,11 @@ fn with_two<S: Space>(
 {
     if divides(operation) {
         let by_zero = division_by_zero(site.program, heap)?;
-        return on_top_two(alloc, site, space, by_zero, operation, group);
+        let divided = on_top_two(alloc, site, space, by_zero, operation, group)?;
+        return Ok(divided);
     }
-    on_top_two(alloc, site, space, Answer::Illegal, operation, group)
+    let outcomes = on_top_two(alloc, site, space, Answer::Illegal, operation, group)?;
+    Ok(outcomes)
 }
 
 /// One attempt of a group by an instruction of numbers, a jump or an instruction that is left out (JVMS 6.5). The only
@@ -127,10 +131,13 @@ pub fn attempt<S: Space>(
     ensures ok { IfOk result (λ r. IsAttemptBy site.now operation (S.sets space.old) (S.sets space.new) heap.old heap.new group r.items.items) }
 {
     if takes_two(operation) {
-        return with_two(alloc, site, space, heap, operation, group);
+        let made = with_two(alloc, site, space, heap, operation, group)?;
+        return Ok(made);
     }
     if takes_one(operation) {
-        return on_top(alloc, site, space, operation, group);
+        let answered = on_top(alloc, site, space, operation, group)?;
+        return Ok(answered);
     }
-    with_none(alloc, site, space, operation, group)
+    let outcomes = with_none(alloc, site, space, operation, group)?;
+    Ok(outcomes)
 }

@@ -90,11 +90,13 @@ pub fn on_top<S: Space>(
 {
     let top = group.top_frame();
     if top.stack.len() < 1 {
-        return illegal(alloc, site.program, &group);
+        let ended = illegal(alloc, site.program, &group)?;
+        return Ok(ended);
     }
     let spot = spot_at(site, top.position);
     let answers = answers_of_top(space, &top.stack, &spot, operation)?;
-    carry_out(alloc, site, space, group, 1, &answers)
+    let outcomes = carry_out(alloc, site, space, group, 1, &answers)?;
+    Ok(outcomes)
 }
 
 /// Does at each configuration of a group what the instruction makes of the two operands on top, with this answer for a zero
@@ -115,9 +117,11 @@ pub fn on_top_two<S: Space>(
 {
     let top = group.top_frame();
     if top.stack.len() < 2 {
-        return illegal(alloc, site.program, &group);
+        let ended = illegal(alloc, site.program, &group)?;
+        return Ok(ended);
     }
     let spot = spot_at(site, top.position);
     let answers = answers_of_top_two(space, &top.stack, &spot, by_zero, operation)?;
-    carry_out(alloc, site, space, group, 2, &answers)
+    let outcomes = carry_out(alloc, site, space, group, 2, &answers)?;
+    Ok(outcomes)
 }

@@ -57,10 +57,12 @@ pub(crate) fn new_primitives<S: Space>(
     let element = element_of_number(number);
     if is_float(element) {
         let what = Name::of(alloc, b"-")?;
-        return unsupported(alloc, site.program, &group, FLOAT_WORD, what);
+        let ended = unsupported(alloc, site.program, &group, FLOAT_WORD, what)?;
+        return Ok(ended);
     }
     let class = array_of_primitives(site.program, element);
-    new_arrays(alloc, site, space, heap, class, 1, group)
+    let outcomes = new_arrays(alloc, site, space, heap, class, 1, group)?;
+    Ok(outcomes)
 }
 
 /// anewarray.
@@ -78,8 +80,10 @@ pub(crate) fn new_references<S: Space>(
 {
     let class = class_of_method(site.program, group.top_frame().method);
     let Some(component) = heap.resolved(site.program, class, index) else {
-        return no_class(alloc, site, &group, index);
+        let ended = no_class(alloc, site, &group, index)?;
+        return Ok(ended);
     };
     let class = array_over(site.program, component);
-    new_arrays(alloc, site, space, heap, class, 1, group)
+    let outcomes = new_arrays(alloc, site, space, heap, class, 1, group)?;
+    Ok(outcomes)
 }

@@ -9,7 +9,7 @@ use std::alloc::{AllocError, Global};
 use std::marker::Model;
 use std::mem;
 use vx_code_parts::pushed;
-use vx_list::{Items, Keyed};
+use vx_list::Items;
 use vx_value::Name;
 
 /// The name and the descriptor of a member.
@@ -23,7 +23,7 @@ pub struct Signature {
 #[derive(Drop)]
 pub struct SignatureTable {
     signatures: Items<Signature>,
-    taken: IndexSet<(Vec<u8>, Vec<u8>), Keyed>,
+    taken: IndexSet<(Vec<u8>, Vec<u8>)>,
 }
 
 impl Model for SignatureTable {
@@ -50,10 +50,10 @@ fn key_of(alloc: Global, name: &[u8], descriptor: &[u8]) -> Result<(Vec<u8>, Vec
 /// Keys with one more, which may be there.
 fn with_key(
     alloc: Global,
-    taken: IndexSet<(Vec<u8>, Vec<u8>), Keyed>,
+    taken: IndexSet<(Vec<u8>, Vec<u8>)>,
     name: &[u8],
     descriptor: &[u8],
-) -> Result<IndexSet<(Vec<u8>, Vec<u8>), Keyed>, AllocError>
+) -> Result<IndexSet<(Vec<u8>, Vec<u8>)>, AllocError>
     ensures { IfOk result (λ s. (n d : List ℕ) → has_key s.keys n d ≡ (has_key taken.keys n d || (bytes_eq n name.now && bytes_eq d descriptor.now))) }
 {
     let key = key_of(alloc, name, descriptor)?;
@@ -72,13 +72,13 @@ fn signature_of(alloc: Global, name: &[u8], descriptor: &[u8]) -> Result<Signatu
 }
 
 impl SignatureTable {
-    /// No signatures. Hashes begin with a key that is made of all from which they come.
-    pub fn new(alloc: Global, key: Keyed) -> SignatureTable
+    /// No signatures.
+    pub fn new(alloc: Global) -> SignatureTable
         ensures { result ≡ [] }
     {
         SignatureTable {
             signatures: Items::of(Vec::new(alloc)),
-            taken: IndexSet::with_hasher(alloc, key),
+            taken: IndexSet::new(alloc),
         }
     }
 
@@ -114,8 +114,7 @@ impl SignatureTable {
     pub fn push(&mut self, alloc: Global, name: &[u8], descriptor: &[u8]) -> Result<(), AllocError>
         ensures { OnOk result (self.new ≡ self.old ++ record { name = name.now; descriptor = descriptor.now } ∷ []) }
     {
-        let key = *self.taken.hasher();
-        let before = mem::replace(self, SignatureTable::new(alloc, key));
+        let before = mem::replace(self, SignatureTable::new(alloc));
         *self = before.with(alloc, name, descriptor)?;
         Ok(())
     }

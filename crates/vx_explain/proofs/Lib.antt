@@ -1,7 +1,7 @@
 mod Cycle
-pub mod Explaining
+mod Explaining
 mod Halves
 pub mod Printed
-pub mod Sums
+mod Sums
 mod TermSets
-pub mod Truths
+mod Truths

@@ -1,5 +1,3 @@
-pub mod NameLaws
-pub mod ChangeLaws
 pub mod MoreTexts
 pub mod Given
 pub mod AttemptLaws

@@ -45,18 +45,24 @@ fn ended<S: Space>(
     let program = site.program;
     match reference {
         FieldReference::Found { .. } | FieldReference::Disagrees => unreachable!(),
-        FieldReference::NoType => illegal(alloc, program, group),
+        FieldReference::NoType => {
+            let ended = illegal(alloc, program, group)?;
+            Ok(ended)
+        }
         FieldReference::Floating => {
             let what = Name::of(alloc, b"-")?;
-            unsupported(alloc, program, group, FLOAT_WORD, what)
+            let floating = unsupported(alloc, program, group, FLOAT_WORD, what)?;
+            Ok(floating)
         }
         FieldReference::NoClass => {
             let what = Name::of(alloc, named.class)?;
-            unsupported(alloc, program, group, CLASS_WORD, what)
+            let no_class = unsupported(alloc, program, group, CLASS_WORD, what)?;
+            Ok(no_class)
         }
         FieldReference::NoField => {
             let what = field_text(alloc, named)?;
-            unsupported(alloc, program, group, FIELD_WORD, what)
+            let no_field = unsupported(alloc, program, group, FIELD_WORD, what)?;
+            Ok(no_field)
         }
     }
 }
@@ -82,5 +88,6 @@ pub fn unresolved<S: Space>(
         )?;
         return Ok(raised);
     }
-    ended(alloc, site, &group, reference, named)
+    let ended = ended(alloc, site, &group, reference, named)?;
+    Ok(ended)
 }

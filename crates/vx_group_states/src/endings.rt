@@ -46,5 +46,6 @@ pub fn pass<S: Space>(
 {
     let (below, mut frame) = group.take_top();
     frame.position += site.size;
-    Outcomes::go(alloc, below.put_top(frame))
+    let outcomes = Outcomes::go(alloc, below.put_top(frame))?;
+    Ok(outcomes)
 }

@@ -86,5 +86,6 @@ pub fn settle<S: Space>(
         ensures { result ≡ nat_le n room }
     { n <= room };
     let fits = sizes.map(space, is_within)?;
-    pass_where(alloc, site, space, group, fits.leaves())
+    let outcomes = pass_where(alloc, site, space, group, fits.leaves())?;
+    Ok(outcomes)
 }

@@ -63,10 +63,12 @@ fn pushed_part<S: Space>(
 {
     let chain = first_above(alloc, program, class, most)?;
     if too_many(group.depth(), &chain) {
-        return raise(alloc, program, group, b"java/lang/StackOverflowError");
+        let raised = raise(alloc, program, group, b"java/lang/StackOverflowError")?;
+        return Ok(raised);
     }
     let above = push_chain(alloc, program, space, callers, group, &chain)?;
-    Outcomes::go(alloc, above)
+    let outcomes = Outcomes::go(alloc, above)?;
+    Ok(outcomes)
 }
 
 /// What comes of the part of a group of one rise.
@@ -98,7 +100,10 @@ fn begun_part<S: Space>(
             let raised = raise(alloc, program, part, b"java/lang/NoClassDefFoundError")?;
             Ok(raised)
         }
-        Rise::Blocked(interface) => blocked_part(alloc, program, &part, interface),
+        Rise::Blocked(interface) => {
+            let ended = blocked_part(alloc, program, &part, interface)?;
+            Ok(ended)
+        }
     }
 }
 

@@ -11,7 +11,6 @@ mod literals;
 pub mod objects;
 mod remembered;
 pub mod statics;
-mod text_keys;
 mod units;
 
 pub use core_classes::CoreClasses;

@@ -7,12 +7,11 @@ ghost use Rattle.vx_java.specs.FirstObjects.{literal_object, literals};
 
 use crate::literal::{Literal, literal_of};
 use crate::remembered::Remembered;
-use crate::text_keys::key_of;
 use indexmap::IndexSet;
 use std::alloc::{AllocError, Global};
 use std::marker::Model;
 use vx_link::{LinkedClass, Program};
-use vx_list::{Items, Keyed};
+use vx_list::Items;
 use vx_pool::{Entry, Pool};
 
 /// The number of the first literal's object: two streams, 256 Integers and two Booleans stand before it.
@@ -21,7 +20,7 @@ const FIRST_LITERAL: u64 = 260;
 /// Literals in order, each once, found by their hashes. Contracts see the list of them.
 #[derive(Drop)]
 pub struct Literals {
-    listed: IndexSet<Literal, Keyed>,
+    listed: IndexSet<Literal>,
 }
 
 impl Model for Literals {
@@ -35,11 +34,11 @@ impl Model for Literals {
 }
 
 impl Literals {
-    fn new(alloc: Global, key: Keyed) -> Literals
+    fn new(alloc: Global) -> Literals
         ensures { result ≡ [] }
     {
         Literals {
-            listed: IndexSet::with_hasher(alloc, key),
+            listed: IndexSet::new(alloc),
         }
     }
 
@@ -140,7 +139,7 @@ impl Literals {
 fn gathered(alloc: Global, classes: &[LinkedClass]) -> Result<Literals, AllocError>
     ensures { IfOk result (λ all. all ≡ fold with_class [] classes.now) }
 {
-    let mut literals = Literals::new(alloc, key_of(classes));
+    let mut literals = Literals::new(alloc);
     for class in classes {
         literals.add_pool(alloc, &class.pool)?;
     }

@@ -143,7 +143,8 @@ pub(crate) fn instance_call<S: Space>(
 {
     let count = types.len() + 1;
     if group.top_frame().stack.len() < count {
-        return illegal(alloc, site.program, &group);
+        let ended = illegal(alloc, site.program, &group)?;
+        return Ok(ended);
     }
     let matching = where_matching(space, &group, types)?;
     let calls = calls_inside(site, space, heap, &group, target, types.len(), matching)?;

@@ -140,7 +140,10 @@ pub fn attempt<S: Space>(
             let target = target_of(mode, &member, named, resolved, class);
             found_call(alloc, site, space, heap, callers, group, &target)
         }
-        MethodReference::Clone(_) => clone_arrays(alloc, site, space, heap, group),
+        MethodReference::Clone(_) => {
+            let cloned = clone_arrays(alloc, site, space, heap, group)?;
+            Ok(cloned)
+        }
         missing => unresolved(alloc, site, group, missing, &member),
     }
 }

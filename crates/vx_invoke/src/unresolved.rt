@@ -9,9 +9,8 @@ ghost use Rattle.vx_references.specs.Calls.{by_reference};
 ghost use Rattle.vx_space.specs.Sets.{Sets};
 ghost use Rattle.vx_invoke.specs.Calling.{is_unresolved};
 
-use crate::entering::raised;
 use std::alloc::Global;
-use vx_families::{CLASS_WORD, METHOD_WORD, unsupported};
+use vx_families::{CLASS_WORD, METHOD_WORD, raise, unsupported};
 use vx_group::Group;
 use vx_group_states::Site;
 use vx_java::MemberReference;
@@ -43,12 +42,13 @@ pub(crate) fn unresolved<S: Space>(
             unsupported(alloc, site.program, &group, METHOD_WORD, name)
         }
         MethodReference::WrongKind => {
-            raised(
+            let raised = raise(
                 alloc,
-                site,
+                site.program,
                 group,
                 b"java/lang/IncompatibleClassChangeError",
-            )
+            )?;
+            Ok(raised)
         }
         MethodReference::Found { .. } | MethodReference::Clone(_) => unreachable!(),
     }

@@ -174,7 +174,8 @@ fn values_written<S: Space>(
     let as_stored = |slot: Slot| -> Slot
         ensures { result ≡ narrowed_slot (narrow_of_type field_type) slot }
     { narrowed(field_type, slot) };
-    top_operand(group).map(space, as_stored)
+    let values = top_operand(group).map(space, as_stored)?;
+    Ok(values)
 }
 
 /// Writes what a putfield writes, at each configuration of a group that has two operands, and says where.
@@ -242,10 +243,14 @@ pub(crate) fn get_field<S: Space>(
             named,
             field,
             field_type,
-        } => get_found(alloc, site, space, heap, group, named, field, field_type),
+        } => {
+            let got = get_found(alloc, site, space, heap, group, named, field, field_type)?;
+            Ok(got)
+        }
         missing => {
             let named = named_member(program, class, index);
-            unresolved(alloc, site, group, missing, &named)
+            let outcomes = unresolved(alloc, site, group, missing, &named)?;
+            Ok(outcomes)
         }
     }
 }
@@ -270,10 +275,14 @@ pub(crate) fn put_field<S: Space>(
             named,
             field,
             field_type,
-        } => put_found(alloc, site, space, heap, group, named, field, field_type),
+        } => {
+            let put = put_found(alloc, site, space, heap, group, named, field, field_type)?;
+            Ok(put)
+        }
         missing => {
             let named = named_member(program, class, index);
-            unresolved(alloc, site, group, missing, &named)
+            let outcomes = unresolved(alloc, site, group, missing, &named)?;
+            Ok(outcomes)
         }
     }
 }

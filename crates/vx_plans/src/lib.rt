@@ -2,10 +2,8 @@
 //! of the answers.
 #![tactic(auto)]
 
-mod answer;
 mod line;
 mod status;
 
-pub use answer::{Answer, done};
 pub use line::put_line;
 pub use status::Status;

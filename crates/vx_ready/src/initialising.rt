@@ -72,7 +72,8 @@ pub fn states_inside<S: Space>(
         let done = Cond::one(alloc, space, InitState::Done, path)?;
         return Ok(done);
     }
-    heap.init_state(class).restrict(space, path)
+    let states = heap.init_state(class).restrict(space, path)?;
+    Ok(states)
 }
 
 fn is_not(state: InitState) -> bool

@@ -33,12 +33,13 @@ fn failed_part<S: Space>(
     if space.is_never(group.path()) {
         return Ok(Outcomes::new(alloc));
     }
-    raise(
+    let raised = raise(
         alloc,
         site.program,
         group,
         b"java/lang/NoClassDefFoundError",
-    )
+    )?;
+    Ok(raised)
 }
 
 /// Runs that begin the initialisation of a class. No runs come to no outcome.
@@ -73,7 +74,8 @@ pub fn ended_part<S: Space>(
     if space.is_never(group.path()) {
         return Ok(Outcomes::new(alloc));
     }
-    illegal(alloc, site.program, &group)
+    let ended = illegal(alloc, site.program, &group)?;
+    Ok(ended)
 }
 
 /// Runs that need a class that isn't ready: it has failed, or its initialisation begins.

@@ -132,7 +132,8 @@ fn going_part<S: Space>(
     if space.is_never(group.path()) {
         return Ok(Outcomes::new(alloc));
     }
-    Outcomes::go(alloc, group)
+    let outcomes = Outcomes::go(alloc, group)?;
+    Ok(outcomes)
 }
 
 /// The group with a value more on its operands.

@@ -45,7 +45,8 @@ fn counted_part<S: Space>(
     ensures gives { IfOk result (λ r. Gives site.now.program.now (formed_by site.now order upper lower) (S.sets space.old) (S.sets space.new) part r.items.items) }
 {
     let group = with_form(alloc, space, part, order, upper, lower)?;
-    settle(alloc, site, space, group)
+    let outcomes = settle(alloc, site, space, group)?;
+    Ok(outcomes)
 }
 
 /// The part of a group in which the operands are cut in this way. A form takes off fewer than five operands, and each takes
@@ -65,12 +66,15 @@ fn cut_part<S: Space>(
     ensures gives { IfOk result (λ r. Gives site.now.program.now (formed_as site.now order (counts_of cut)) (S.sets space.old) (S.sets space.new) part r.items.items) }
 {
     let Some((upper, lower)) = counts(cut) else {
-        return illegal(alloc, site.program, &part);
+        let ended = illegal(alloc, site.program, &part)?;
+        return Ok(ended);
     };
     if part.top_frame().stack.len() > usize::from(site.code.max_stack) + MOST_TAKEN {
-        return illegal(alloc, site.program, &part);
+        let ended = illegal(alloc, site.program, &part)?;
+        return Ok(ended);
     }
-    counted_part(alloc, site, space, part, order, upper, lower)
+    let outcomes = counted_part(alloc, site, space, part, order, upper, lower)?;
+    Ok(outcomes)
 }
 
 /// The parts of a group by where the operands are cut.
@@ -120,5 +124,6 @@ pub fn attempt<S: Space>(
         unreachable!()
     };
     let found = cuts(alloc, space, &group.top_frame().stack, form)?;
-    cut_parts(alloc, site, space, group, order_of(form), found.leaves())
+    let outcomes = cut_parts(alloc, site, space, group, order_of(form), found.leaves())?;
+    Ok(outcomes)
 }

@@ -51,7 +51,8 @@ pub fn attempt<S: Space>(
 {
     let program = site.program;
     if group.top_frame().stack.len() == 0 {
-        return illegal(alloc, program, &group);
+        let ended = illegal(alloc, program, &group)?;
+        return Ok(ended);
     }
     let throwable = core_class(program, b"java/lang/Throwable");
     let null = core_class(program, b"java/lang/NullPointerException");
@@ -59,5 +60,6 @@ pub fn attempt<S: Space>(
         ensures { result ≡ thrown program.entry.now heap.entry.now throwable.0 null slot }
     { thrown(program, heap, throwable, null, slot) };
     let answers = top_operand(&group).map(space, answer)?;
-    carry_out(alloc, site, space, group, 1, &answers)
+    let outcomes = carry_out(alloc, site, space, group, 1, &answers)?;
+    Ok(outcomes)
 }

@@ -10,7 +10,6 @@ use crate::trie::Trie;
 use indexmap::IndexMap;
 use std::alloc::{AllocError, Global};
 use std::marker::Model;
-use vx_list::Keyed;
 
 /// Texts in order, found by the nodes of a trie at which they end. Contracts see the list of them, each as its UTF-16 code units.
 #[derive(Drop)]
@@ -57,11 +56,11 @@ fn list(listed: &mut IndexMap<u64, Span>, end: u64, span: Span) -> Result<u64, A
 }
 
 impl Texts {
-    fn new(alloc: Global, key: Keyed) -> Texts
+    fn new(alloc: Global) -> Texts
         ensures { result ≡ [] }
     {
         Texts {
-            trie: Trie::new(alloc, key),
+            trie: Trie::new(alloc),
             buffers: Buffers::new(alloc),
             listed: IndexMap::new(alloc),
         }
@@ -134,19 +133,12 @@ pub struct TextTable {
 }
 
 impl TextTable {
-    /// No texts. Takes no memory. The hashes by which texts are found have a key that everybody knows.
+    /// No texts. Takes no memory.
     pub fn new(alloc: Global) -> TextTable
         ensures { result.texts ≡ [] }
     {
-        TextTable::keyed(alloc, Keyed::by(&[]))
-    }
-
-    /// No texts. Takes no memory. The hashes by which texts are found begin with a key that is made of all from which texts may come.
-    pub fn keyed(alloc: Global, key: Keyed) -> TextTable
-        ensures { result.texts ≡ [] }
-    {
         TextTable {
-            texts: Texts::new(alloc, key),
+            texts: Texts::new(alloc),
         }
     }
 

@@ -1,9 +1,0 @@
-pub mod Demanding
-pub mod Endings
-pub mod Fails
-pub mod Found
-pub mod Names
-pub mod Numbers
-pub mod Plain
-pub mod Reading
-pub mod Rules

@@ -1,0 +1,5 @@
+pub mod Place
+pub mod Reading
+pub mod Steps
+pub mod Took
+pub mod Again

@@ -1,3 +1,0 @@
-pub mod NumberLaws
-pub mod ReadLaws
-pub mod Flows

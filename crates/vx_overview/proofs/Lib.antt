@@ -1,2 +1,0 @@
-mod Remarked
-mod Overviews

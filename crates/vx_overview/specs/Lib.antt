@@ -1,2 +1,0 @@
-pub mod Overview
-pub mod Remarks
