@@ -1,7 +1,9 @@
+mod Choosing
 mod Cycle
 mod Explaining
 mod Halves
 pub mod Printed
+mod Rejoined
 mod Sums
 mod TermSets
 mod Truths
