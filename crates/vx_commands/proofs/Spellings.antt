@@ -8,8 +8,6 @@ use Rattle.std.proofs.lemmas.Slice.Eq.{bytes_eq-Decides}
 use Rattle.std.proofs.lemmas.Str.Parse.{digit_from_value}
 use Rattle.vx_people.specs.declared.telling.Telling.{Telling}
 use Rattle.vx_value.specs.declared.end.Stream.{Stream}
-use Rattle.vx_explain.specs.declared.explained.Asked.{Asked}
-use Rattle.vx_explain.specs.declared.explained.Asked.TheVariants as explained
 use Rattle.vx_people.specs.declared.telling.Telling.TheVariants as ask
 use Rattle.vx_people.specs.declared.telling.Telling.TheVariants.{Interactions, Picture, Cover, Explanations, Counts, Listed}
 use Rattle.vx_people.specs.Words.{IsTellingInRange, telling_words}
@@ -38,7 +36,7 @@ unfoldable pub telling_code : Telling → ℕ
 telling_code Interactions = 6909556
 telling_code (Picture drawn) = 7367011
 telling_code Cover = 6516598
-telling_code (Explanations asked) = 6649968
+telling_code Explanations = 6649968
 telling_code Counts = 6516597
 telling_code (Listed most) = 7104883
 telling_code ask.Page = 7364967
@@ -72,7 +70,7 @@ unfolding first_code telling_code
 telling_is Interactions rest = refl
 telling_is (Picture drawn) rest = refl
 telling_is Cover rest = refl
-telling_is (Explanations asked) rest = refl
+telling_is Explanations rest = refl
 telling_is Counts rest = refl
 telling_is (Listed most) rest = refl
 telling_is ask.Page rest = refl
@@ -82,7 +80,7 @@ pub telling_parts : (telling : Telling) (report : List ℕ) → telling_words te
 telling_parts Interactions report = refl
 telling_parts (Picture drawn) report = refl
 telling_parts Cover report = refl
-telling_parts (Explanations asked) report = refl
+telling_parts Explanations report = refl
 telling_parts Counts report = refl
 telling_parts (Listed n) report = refl
 telling_parts ask.Page report = refl
@@ -132,7 +130,7 @@ abbrev telling_kind : Telling → ℕ
 telling_kind Interactions = 0
 telling_kind (Picture drawn) = 1
 telling_kind Cover = 2
-telling_kind (Explanations asked) = 3
+telling_kind Explanations = 3
 telling_kind Counts = 4
 telling_kind (Listed most) = 5
 telling_kind ask.Page = 6
@@ -146,7 +144,7 @@ unfolding telling_kind_at telling_code
 telling_kind_back Interactions = refl
 telling_kind_back (Picture drawn) = refl
 telling_kind_back Cover = refl
-telling_kind_back (Explanations asked) = refl
+telling_kind_back Explanations = refl
 telling_kind_back Counts = refl
 telling_kind_back (Listed most) = refl
 telling_kind_back ask.Page = refl
@@ -179,18 +177,12 @@ one_listed None (Some n) h k is = cc
 one_listed (Some m) None h k is = cc
 one_listed (Some m) (Some n) h k is = let e : decimal m ≡ decimal n = cc in ap Some (decimal_injective m n (omega (arith, h.1)) (omega (arith, k.1)) e)
 
-one_explained : (a b : Asked) → asked_words (Explanations a) ≡ asked_words (Explanations b) → a ≡ b
-one_explained explained.Everything explained.Everything is = refl
-one_explained explained.Everything explained.Ends is = cc
-one_explained explained.Ends explained.Everything is = cc
-one_explained explained.Ends explained.Ends is = refl
-
 -- words ask for one telling
 pub one_telling : (t u : Telling) → IsTellingInRange t → IsTellingInRange u → telling_name t ≡ telling_name u → asked_words t ≡ asked_words u → t ≡ u
 one_telling Interactions Interactions h k e is = refl
 one_telling (Picture d) (Picture f) h k e is = ap Picture (one_drawn d f h k is)
 one_telling Cover Cover h k e is = refl
-one_telling (Explanations a) (Explanations b) h k e is = ap Explanations (one_explained a b is)
+one_telling Explanations Explanations h k e is = refl
 one_telling Counts Counts h k e is = refl
 one_telling (Listed m) (Listed n) h k e is = ap Listed (one_listed m n h k is)
 one_telling ask.Page ask.Page h k e is = refl
@@ -238,7 +230,7 @@ kind_back (Project r c) = refl
 kind_back (Tell Interactions r) = refl
 kind_back (Tell (Picture drawn) r) = refl
 kind_back (Tell Cover r) = refl
-kind_back (Tell (Explanations asked) r) = refl
+kind_back (Tell Explanations r) = refl
 kind_back (Tell Counts r) = refl
 kind_back (Tell (Listed most) r) = refl
 kind_back (Tell ask.Page r) = refl
@@ -380,8 +372,7 @@ asked_few (Picture All) = omega arith
 asked_few (Picture Ends) = omega arith
 asked_few (Picture (Piece n)) = omega arith
 asked_few Cover = omega arith
-asked_few (Explanations explained.Everything) = omega arith
-asked_few (Explanations explained.Ends) = omega arith
+asked_few Explanations = omega arith
 asked_few Counts = omega arith
 asked_few (Listed None) = omega arith
 asked_few (Listed (Some n)) = omega arith

@@ -6,17 +6,15 @@ ghost use Rattle.vx_commands.specs.Command.{HasNoReading, IsChoiceInRange, IsLim
 ghost use Rattle.vx_commands.specs.declared.page.Page as shown;
 ghost use Rattle.vx_cut_command.specs.Cut as cut;
 ghost use Rattle.vx_cut_command.specs.Words.{choice_of};
-ghost use Rattle.vx_explain.specs.declared.explained.Asked as explained;
 ghost use Rattle.vx_people.specs.Words.{IsTellingInRange};
 ghost use Rattle.vx_people.specs.declared.telling.Telling as asked;
-ghost use Rattle.vx_people.specs.declared.telling.Telling.TheVariants.{Explanations, Picture};
+ghost use Rattle.vx_people.specs.declared.telling.Telling.TheVariants.{Picture};
 ghost use Rattle.vx_picture.specs.declared.shape.Drawn as drawn;
 ghost use Rattle.vx_value.specs.declared.end.Stream as printed;
 ghost use Rattle.vx_words.specs.Names.{begins_with_digit};
 
 use crate::page::Page;
 use vx_cut_command::{Chosen, CutWords};
-use vx_explain::Asked;
 use vx_people::Telling;
 use vx_picture::Drawn;
 use vx_report_commands::{AgreeWords, JoinWords, OutputWords, ProjectWords, TellWords};
@@ -176,7 +174,7 @@ fn read_telling(word: &str) -> Option<Telling>
     } else if word == "cover" {
         Some(Telling::Cover)
     } else if word == "explain" {
-        Some(Telling::Explanations(Asked::Everything))
+        Some(Telling::Explanations)
     } else if word == "count" {
         Some(Telling::Counts)
     } else if word == "list" {
@@ -199,18 +197,6 @@ fn read_drawn(word: &str) -> Option<Drawn>
     Some(Drawn::Piece(read_from_one(word, u64::MAX)?))
 }
 
-/// Reads which explanations of a report are asked for: those of its ends.
-fn read_explained(word: &str) -> Option<Asked>
-    ensures { MatchOption result ((which : explained.Asked) → asked_words (Explanations which) ≢ word.now ∷ [])
-        (λ which. asked_words (Explanations which) ≡ word.now ∷ []) }
-{
-    if word == "ends" {
-        Some(Asked::Ends)
-    } else {
-        None
-    }
-}
-
 /// Reads the word behind a report, of which something is asked.
 fn read_more(telling: Telling, word: &str) -> Option<Telling>
     ensures { MatchOption result ((more : asked.Telling) → telling_name more ≡ telling_name telling → IsTellingInRange more → asked_words more ≢ word.now ∷ [])
@@ -218,7 +204,6 @@ fn read_more(telling: Telling, word: &str) -> Option<Telling>
 {
     match telling {
         Telling::Picture(_) => Some(Telling::Picture(read_drawn(word)?)),
-        Telling::Explanations(_) => Some(Telling::Explanations(read_explained(word)?)),
         Telling::Listed(_) => Some(Telling::Listed(Some(read_from_one(word, MOST_LISTED)?))),
         _ => None,
     }
