@@ -41,7 +41,8 @@ BOUNDS = {
     'verify: 120,000 casts to a name of 6,000 bytes': 4, 'verify: 100,000 reads of a field with a name of 12,000 bytes': 1,
     'verify: 4,000 catch rows of own starts': 3, 'verify: a loop of 500 copies': 2.5,
     'source: jumps and labels': 1, 'source: jumps to the last label': 1, 'source: fields': 1, 'source: methods': 1, 'source: numbers': 1,
-    'source: strings': 1, 'source: members': 1,
+    'source: strings': 1, 'source: members': 1, 'source: labels that fall together': 1, 'source: constants that fall together': 1,
+    'source: members that fall together': 1, 'class file: units that fall together': 1,
     'project: one long text': 14.5, 'project: one long text of escapes': 9, 'project: pieces of both streams': 57,
     'project: pieces of one stream': 53, 'project: nodes': 8.5, 'interact: one long text': 7, 'interact: nodes': 1,
     'agree: one long text': 15, 'agree: pieces of both streams': 6.5, 'picture: one long text': 7.5, 'picture: pieces of both streams': 7,
@@ -332,6 +333,7 @@ def problem(varexj, dear):
 
 
 def main(varexj, word):
+    trying.needs('gcc', 'gcc')
     known = {name: reason for name, reason in KNOWN.items() if word in name}
     tally = trying.Tally(known)
     for dear in all_inputs(varexj):

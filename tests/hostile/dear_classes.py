@@ -3,6 +3,7 @@
 import struct
 
 import class_files
+import colliding
 from class_files import (
     ACONST_NULL, ALOAD, ASTORE, CHECKCAST, GETSTATIC, GOTO, GOTO_W, ICONST_0, IFEQ, INVOKESTATIC, ISTORE, LOOKUPSWITCH, NATIVE, NOP, POP, PUBLIC, RETURN, STATIC,
     TABLESWITCH, WIDE, ClassFile)
@@ -14,6 +15,10 @@ MOST_LOCALS = 65535
 MOST_CLASSES = 1024
 # How many methods with the longest code a file has room for.
 LONG_METHODS = 15
+# How many texts, strings and units fall together.
+COLLIDING_TEXTS = 60000
+COLLIDING_STRINGS = 30000
+COLLIDING_UNITS = 300000
 # How many entries share a long text, where as many as there may be would take too long.
 SHARERS = 20000
 INTERFACE_FLAGS = class_files.INTERFACE | class_files.ABSTRACT | PUBLIC
@@ -78,6 +83,30 @@ def many_strings():
     made = started()
     for number in range(made.left() // 2):
         made.string(f'{number:024}')
+    return made
+
+
+def colliding_texts():
+    """Texts that fall together where a table of names has no key."""
+    made = started()
+    for name in colliding.names(COLLIDING_TEXTS):
+        made.text(name)
+    return made
+
+
+def colliding_strings():
+    """The same of strings, by their units."""
+    made = started()
+    for name in colliding.names(COLLIDING_STRINGS, 2, ((0, 8),)):
+        made.string(name)
+    return made
+
+
+def colliding_units():
+    """Strings whose units fall together where the table of texts has no key."""
+    made = started()
+    for text in colliding.texts(COLLIDING_UNITS, MOST_TEXT // 3):
+        made.string(text.encode())
     return made
 
 
@@ -344,6 +373,7 @@ FILES = {
     'native methods': many_native_methods, '37,000 native methods of one long descriptor': native_methods_of_one_long_descriptor, 'methods': many_methods, 'constant values': many_constant_values, 'constant values of one long text': constant_values_of_one_long_text,
     'attributes': many_attributes, 'one long attribute': one_long_attribute,
     'descriptors of 255 arguments': longest_descriptors, 'long code': long_code, 'jumps to the end': jumps_to_the_end,
+    'texts that fall together': colliding_texts, 'strings that fall together': colliding_strings, 'units that fall together': colliding_units,
     'table switches': table_switch, 'lookup switches': lookup_switch, 'catch rows': many_catch_rows, 'jumps that run': jumps_that_run}
 
 

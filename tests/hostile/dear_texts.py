@@ -2,9 +2,13 @@
 
 import random
 
+import colliding
+
 MOST_BYTES = 1 << 20
 MOST_REPORT_BYTES = 1 << 28
 OPTIONS = 64
+# How many names fall together.
+COLLIDING = 49000
 NESTING = 256
 
 
@@ -276,6 +280,21 @@ def many_members():
     return source([''.join(f'getstatic C{number} f{number} I\npop\n' for number in range(10000, 23000))])
 
 
+def colliding_labels():
+    """Labels that fall together where the table of labels has no key."""
+    return source([''.join(f'{name}:\n' for name in colliding.names(COLLIDING))])
+
+
+def colliding_constants():
+    """Names of fields that fall together where the pool has no key."""
+    return CLASS + ''.join(f'field 0009 {name} I\n' for name in colliding.names(COLLIDING, 1, ((1, 1),)))
+
+
+def colliding_members():
+    """The same where the table of members has no key."""
+    return CLASS + ''.join(f'field 0009 {name} I\n' for name in colliding.names(COLLIDING, 1, (), ((1, 8), (ord('I'), 1))))
+
+
 def many_catch_rows():
     rows = 'catch A B C any\n' * 60000
     return source(['A:\nnop\nB:\nnop\nC:\n' + rows])
@@ -300,6 +319,7 @@ SOURCES = {
     'jumps and labels': jumps_and_labels, 'jumps to a long label': repeated_label_of_long_name, 'labels of long names': labels_of_long_names,
     'jumps to the last label': jumps_to_the_last_label, 'long switches': long_switches,
     'fields': many_fields, 'methods': many_methods, 'numbers': many_numbers, 'strings': many_strings, 'members': many_members,
+    'labels that fall together': colliding_labels, 'constants that fall together': colliding_constants, 'members that fall together': colliding_members,
     'catch rows': many_catch_rows, 'interfaces': many_interfaces, 'one long comment': long_lines}
 BAD_SOURCES = {
     'a jump to no label in front of many': (no_labels, 'bad source line 3 reason 4'),

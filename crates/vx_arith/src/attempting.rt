@@ -61,8 +61,7 @@ fn goto<S: Space>(
     let (below, mut frame) = group.take_top();
     let spot = spot_at(site, frame.position);
     frame.position = goto_target(&spot, operation);
-    let outcomes = Outcomes::go(alloc, below.put_top(frame))?;
-    Ok(outcomes)
+    Outcomes::go(alloc, below.put_top(frame))
 }
 
 /// An instruction that takes no operand.
@@ -85,8 +84,7 @@ fn with_none<S: Space>(
         }
         Operation::Refuse(word) => {
             let what = Name::of(alloc, NOTHING)?;
-            let ended = unsupported(alloc, site.program, &group, word, what)?;
-            Ok(ended)
+            unsupported(alloc, site.program, &group, word, what)
         }
         _ => unreachable!(),
     }
@@ -108,11 +106,9 @@ fn with_two<S: Space>(
 {
     if divides(operation) {
         let by_zero = division_by_zero(site.program, heap)?;
-        let divided = on_top_two(alloc, site, space, by_zero, operation, group)?;
-        return Ok(divided);
+        return on_top_two(alloc, site, space, by_zero, operation, group);
     }
-    let outcomes = on_top_two(alloc, site, space, Answer::Illegal, operation, group)?;
-    Ok(outcomes)
+    on_top_two(alloc, site, space, Answer::Illegal, operation, group)
 }
 
 /// One attempt of a group by an instruction of numbers, a jump or an instruction that is left out (JVMS 6.5). The only
@@ -131,13 +127,10 @@ pub fn attempt<S: Space>(
     ensures ok { IfOk result (λ r. IsAttemptBy site.now operation (S.sets space.old) (S.sets space.new) heap.old heap.new group r.items.items) }
 {
     if takes_two(operation) {
-        let made = with_two(alloc, site, space, heap, operation, group)?;
-        return Ok(made);
+        return with_two(alloc, site, space, heap, operation, group);
     }
     if takes_one(operation) {
-        let answered = on_top(alloc, site, space, operation, group)?;
-        return Ok(answered);
+        return on_top(alloc, site, space, operation, group);
     }
-    let outcomes = with_none(alloc, site, space, operation, group)?;
-    Ok(outcomes)
+    with_none(alloc, site, space, operation, group)
 }

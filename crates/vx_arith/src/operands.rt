@@ -90,13 +90,11 @@ pub fn on_top<S: Space>(
 {
     let top = group.top_frame();
     if top.stack.len() < 1 {
-        let ended = illegal(alloc, site.program, &group)?;
-        return Ok(ended);
+        return illegal(alloc, site.program, &group);
     }
     let spot = spot_at(site, top.position);
     let answers = answers_of_top(space, &top.stack, &spot, operation)?;
-    let outcomes = carry_out(alloc, site, space, group, 1, &answers)?;
-    Ok(outcomes)
+    carry_out(alloc, site, space, group, 1, &answers)
 }
 
 /// Does at each configuration of a group what the instruction makes of the two operands on top, with this answer for a zero
@@ -117,11 +115,9 @@ pub fn on_top_two<S: Space>(
 {
     let top = group.top_frame();
     if top.stack.len() < 2 {
-        let ended = illegal(alloc, site.program, &group)?;
-        return Ok(ended);
+        return illegal(alloc, site.program, &group);
     }
     let spot = spot_at(site, top.position);
     let answers = answers_of_top_two(space, &top.stack, &spot, by_zero, operation)?;
-    let outcomes = carry_out(alloc, site, space, group, 2, &answers)?;
-    Ok(outcomes)
+    carry_out(alloc, site, space, group, 2, &answers)
 }

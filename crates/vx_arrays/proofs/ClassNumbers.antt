@@ -4,7 +4,7 @@ use Rattle.std.proofs.lemmas.Bool.{leb-true, ltb-false}
 use Rattle.std.proofs.lemmas.List.Quantifiers.{position-Some}
 use Rattle.std.proofs.lemmas.Nat.{div-add-mod'}
 use Rattle.std.specs.Prelude.{IfSome, Option, None, Some, bytes_eq, length, option_and_then, option_map, take_while, drop, position, slice_index, take}
-use Rattle.vx_code.specs.Lookups.{is_array as is_array_text}
+use Rattle.vx_pool.specs.Lookups.{is_array as is_array_text}
 use Rattle.vx_desc.specs.Descriptors.{base_of, element_at, field_of, field_type, only_if, type_at}
 use Rattle.vx_desc.specs.Names.{is_class_name}
 use Rattle.vx_desc.specs.declared.java_type.Base.{Base}

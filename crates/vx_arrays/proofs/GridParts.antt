@@ -4,8 +4,8 @@ use Rattle.std.proofs.lemmas.List.{take_all}
 use Rattle.std.specs.List.{list_all}
 use Rattle.std.specs.Prelude.{unsigned_abs}
 use Rattle.vx_group_states.proofs.StateLaws.{both_first, both_second}
-use Rattle.vx_growth.proofs.ChangeLaws.{changed_as}
-use Rattle.vx_growth.proofs.NameLaws.{name_stays, new_name_is_next}
+use Rattle.vx_families.proofs.ChangeLaws.{changed_as}
+use Rattle.vx_families.proofs.NameLaws.{name_stays, new_name_is_next}
 use Rattle.vx_heap.specs.Changing.{IsChangedIn, IsMade, with_cell_of}
 use Rattle.vx_heap.specs.Heap.{Globals, HeapView, IsHeap, globals_at, is_held, name_at}
 use Rattle.vx_heap.proofs.Growing.{Grows-trans, is_held-grown}

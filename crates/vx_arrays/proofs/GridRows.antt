@@ -16,7 +16,7 @@ use Rattle.vx_group_states.specs.Stands.{state_at}
 use Rattle.vx_group_states.specs.declared.answer.Answer.{Answer}
 use Rattle.vx_group_states.specs.declared.site.Site.{Site}
 use Rattle.vx_group_states.proofs.SettleLaws.{stack_scope}
-use Rattle.vx_growth.proofs.ChangeLaws.{unchanged}
+use Rattle.vx_families.proofs.ChangeLaws.{unchanged}
 use Rattle.vx_heap.specs.Heap.{HeapView, value_of}
 use Rattle.vx_java.specs.Arrays.{array_of, grid, grid_cells, lengths_off, new_array, new_grid_of}
 use Rattle.vx_java.specs.Ids.{as_class}

@@ -26,8 +26,8 @@ use Rattle.vx_group_states.specs.declared.site.Site.{Site}
 use Rattle.vx_group_states.proofs.GrownStates.{Grows-trans, StandsIn-grown}
 use Rattle.vx_group_states.proofs.Operands.{item_held, length-operands}
 use Rattle.vx_group_states.proofs.SettleLaws.{lifting_at}
-use Rattle.vx_growth.specs.Changing.{changed_in, with_globals}
-use Rattle.vx_growth.proofs.ChangeLaws.{attempts_follow}
+use Rattle.vx_families.specs.Changing.{changed_in, with_globals}
+use Rattle.vx_families.proofs.ChangeLaws.{attempts_follow}
 use Rattle.vx_heap.specs.Changing.{IsChangedIn, IsValueHeld, with_cell_of}
 use Rattle.vx_heap.specs.Heap.{Globals, HeapView, IsHeap, are_held, globals_at, is_held, name_at, objects_at, value_of}
 use Rattle.vx_heap.proofs.HeapLaws.{IsHeap-extends, globals_at-extends, is_held-extends, name_at-extends, value_of-extends}

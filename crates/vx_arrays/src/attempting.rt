@@ -33,30 +33,14 @@ pub fn attempt<S: Space>(
     ensures ok { IfOk result (λ r. IsAttemptBy site.now operation (S.sets space.old) (S.sets space.new) heap.old heap.new group r.items.items) }
 {
     match operation {
-        Operation::NewPrimitives(number) => {
-            let made = new_primitives(alloc, site, space, heap, number, group)?;
-            Ok(made)
-        }
-        Operation::NewReferences(index) => {
-            let made = new_references(alloc, site, space, heap, index, group)?;
-            Ok(made)
-        }
+        Operation::NewPrimitives(number) => new_primitives(alloc, site, space, heap, number, group),
+        Operation::NewReferences(index) => new_references(alloc, site, space, heap, index, group),
         Operation::NewGrid(index, dimensions) => {
-            let made = new_grid(alloc, site, space, heap, index, dimensions, group)?;
-            Ok(made)
+            new_grid(alloc, site, space, heap, index, dimensions, group)
         }
-        Operation::LoadElement(element) => {
-            let loaded = load_element(alloc, site, space, heap, element, group)?;
-            Ok(loaded)
-        }
-        Operation::StoreElement(element) => {
-            let stored = store_element(alloc, site, space, heap, element, group)?;
-            Ok(stored)
-        }
-        Operation::Length => {
-            let measured = array_length(alloc, site, space, heap, group)?;
-            Ok(measured)
-        }
+        Operation::LoadElement(element) => load_element(alloc, site, space, heap, element, group),
+        Operation::StoreElement(element) => store_element(alloc, site, space, heap, element, group),
+        Operation::Length => array_length(alloc, site, space, heap, group),
         _ => unreachable!(),
     }
 }

@@ -110,27 +110,25 @@ fn answered<S: Space>(
     ensures ok { IfOk result (AreGridsMade program.now class.0 (λ _. Some lengths.now) (S.sets space.old) (S.sets space.new) heap.old heap.new ((S.sets space.old).test condition) answers.now) }
 {
     if let Some(refusal) = refused(refusals, lengths) {
-        let raised = with_answer(
+        return with_answer(
             alloc,
             space,
             answers,
             Answer::Raise(refusal, None),
             condition,
-        )?;
-        return Ok(raised);
+        );
     }
     let [size, deeper @ ..] = lengths else {
         unreachable!()
     };
     let array = grid(alloc, program, space, heap, class, *size, deeper, condition)?;
-    let given = with_answer(
+    with_answer(
         alloc,
         space,
         answers,
         Answer::Give(Slot::Ref(array)),
         condition,
-    )?;
-    Ok(given)
+    )
 }
 
 /// What the lengths on top of the operands come to inside a condition, where those of the first dimensions are these: the
@@ -257,7 +255,7 @@ fn answers_of<S: Space>(
 {
     let none = Cond::one(alloc, space, Answer::Illegal, space.never())?;
     let refusals = refusals_of(program);
-    let answers = answers_inside(
+    answers_inside(
         alloc,
         program,
         space,
@@ -269,8 +267,7 @@ fn answers_of<S: Space>(
         &[],
         stack.scope(),
         none,
-    )?;
-    Ok(answers)
+    )
 }
 
 /// Whether there is no dimension, or no operand for one.
@@ -297,12 +294,10 @@ pub(crate) fn new_arrays<S: Space>(
 {
     let stack = &group.top_frame().stack;
     if is_lacking(dimensions, stack.len()) {
-        let ended = illegal(alloc, site.program, &group)?;
-        return Ok(ended);
+        return illegal(alloc, site.program, &group);
     }
     let answers = answers_of(alloc, site.program, space, heap, class, stack, dimensions)?;
-    let outcomes = carry_out(alloc, site, space, group, dimensions, &answers)?;
-    Ok(outcomes)
+    carry_out(alloc, site, space, group, dimensions, &answers)
 }
 
 /// multianewarray.
@@ -321,10 +316,8 @@ pub(crate) fn new_grid<S: Space>(
 {
     let current = class_of_method(site.program, group.top_frame().method);
     let Some(class) = heap.resolved(site.program, current, index) else {
-        let ended = no_class(alloc, site, &group, index)?;
-        return Ok(ended);
+        return no_class(alloc, site, &group, index);
     };
     let count = usize::from(dimensions);
-    let outcomes = new_arrays(alloc, site, space, heap, class, count, group)?;
-    Ok(outcomes)
+    new_arrays(alloc, site, space, heap, class, count, group)
 }

@@ -106,12 +106,10 @@ pub(crate) fn load_element<S: Space>(
     ensures ok { IfOk result (λ r. IsAttemptBy site.now (Operation.LoadElement element) (S.sets space.old) (S.sets space.new) heap.old heap.new group r.items.items) }
 {
     if group.top_frame().stack.len() < 2 {
-        let ended = illegal(alloc, site.program, &group)?;
-        return Ok(ended);
+        return illegal(alloc, site.program, &group);
     }
     let answers = loaded(alloc, site, space, heap, &group, element)?;
-    let outcomes = carry_out(alloc, site, space, group, 2, &answers)?;
-    Ok(outcomes)
+    carry_out(alloc, site, space, group, 2, &answers)
 }
 
 /// A length as a value; no array is longer than the bound.
@@ -186,10 +184,8 @@ pub(crate) fn array_length<S: Space>(
     ensures ok { IfOk result (λ r. IsAttemptBy site.now Operation.Length (S.sets space.old) (S.sets space.new) heap.now heap.now group r.items.items) }
 {
     if group.top_frame().stack.len() == 0 {
-        let ended = illegal(alloc, site.program, &group)?;
-        return Ok(ended);
+        return illegal(alloc, site.program, &group);
     }
     let answers = lengths_at(alloc, site, space, heap, &group)?;
-    let outcomes = carry_out(alloc, site, space, group, 1, &answers)?;
-    Ok(outcomes)
+    carry_out(alloc, site, space, group, 1, &answers)
 }

@@ -57,12 +57,10 @@ pub(crate) fn new_primitives<S: Space>(
     let element = element_of_number(number);
     if is_float(element) {
         let what = Name::of(alloc, b"-")?;
-        let ended = unsupported(alloc, site.program, &group, FLOAT_WORD, what)?;
-        return Ok(ended);
+        return unsupported(alloc, site.program, &group, FLOAT_WORD, what);
     }
     let class = array_of_primitives(site.program, element);
-    let outcomes = new_arrays(alloc, site, space, heap, class, 1, group)?;
-    Ok(outcomes)
+    new_arrays(alloc, site, space, heap, class, 1, group)
 }
 
 /// anewarray.
@@ -80,10 +78,8 @@ pub(crate) fn new_references<S: Space>(
 {
     let class = class_of_method(site.program, group.top_frame().method);
     let Some(component) = heap.resolved(site.program, class, index) else {
-        let ended = no_class(alloc, site, &group, index)?;
-        return Ok(ended);
+        return no_class(alloc, site, &group, index);
     };
     let class = array_over(site.program, component);
-    let outcomes = new_arrays(alloc, site, space, heap, class, 1, group)?;
-    Ok(outcomes)
+    new_arrays(alloc, site, space, heap, class, 1, group)
 }

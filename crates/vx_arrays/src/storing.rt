@@ -204,10 +204,8 @@ pub(crate) fn store_element<S: Space>(
     ensures ok { IfOk result (λ r. IsAttemptBy site.now (Operation.StoreElement element) (S.sets space.old) (S.sets space.new) heap.old heap.new group r.items.items) }
 {
     if group.top_frame().stack.len() < 3 {
-        let ended = illegal(alloc, site.program, &group)?;
-        return Ok(ended);
+        return illegal(alloc, site.program, &group);
     }
     let answers = stored(alloc, site, space, heap, &group, element)?;
-    let outcomes = carry_out(alloc, site, space, group, 3, &answers)?;
-    Ok(outcomes)
+    carry_out(alloc, site, space, group, 3, &answers)
 }

@@ -9,7 +9,7 @@ use std::alloc::{AllocError, Global};
 use std::marker::Model;
 use std::mem;
 use vx_code_parts::pushed;
-use vx_list::Items;
+use vx_list::{Items, Keyed};
 use vx_value::Name;
 
 /// The name and the descriptor of a member.
@@ -23,7 +23,7 @@ pub struct Signature {
 #[derive(Drop)]
 pub struct SignatureTable {
     signatures: Items<Signature>,
-    taken: IndexSet<(Vec<u8>, Vec<u8>)>,
+    taken: IndexSet<(Vec<u8>, Vec<u8>), Keyed>,
 }
 
 impl Model for SignatureTable {
@@ -50,10 +50,10 @@ fn key_of(alloc: Global, name: &[u8], descriptor: &[u8]) -> Result<(Vec<u8>, Vec
 /// Keys with one more, which may be there.
 fn with_key(
     alloc: Global,
-    taken: IndexSet<(Vec<u8>, Vec<u8>)>,
+    taken: IndexSet<(Vec<u8>, Vec<u8>), Keyed>,
     name: &[u8],
     descriptor: &[u8],
-) -> Result<IndexSet<(Vec<u8>, Vec<u8>)>, AllocError>
+) -> Result<IndexSet<(Vec<u8>, Vec<u8>), Keyed>, AllocError>
     ensures { IfOk result (λ s. (n d : List ℕ) → has_key s.keys n d ≡ (has_key taken.keys n d || (bytes_eq n name.now && bytes_eq d descriptor.now))) }
 {
     let key = key_of(alloc, name, descriptor)?;
@@ -72,13 +72,13 @@ fn signature_of(alloc: Global, name: &[u8], descriptor: &[u8]) -> Result<Signatu
 }
 
 impl SignatureTable {
-    /// No signatures.
-    pub fn new(alloc: Global) -> SignatureTable
+    /// No signatures. Hashes begin with a key that is made of all from which they come.
+    pub fn new(alloc: Global, key: Keyed) -> SignatureTable
         ensures { result ≡ [] }
     {
         SignatureTable {
             signatures: Items::of(Vec::new(alloc)),
-            taken: IndexSet::new(alloc),
+            taken: IndexSet::with_hasher(alloc, key),
         }
     }
 
@@ -114,7 +114,8 @@ impl SignatureTable {
     pub fn push(&mut self, alloc: Global, name: &[u8], descriptor: &[u8]) -> Result<(), AllocError>
         ensures { OnOk result (self.new ≡ self.old ++ record { name = name.now; descriptor = descriptor.now } ∷ []) }
     {
-        let before = mem::replace(self, SignatureTable::new(alloc));
+        let key = *self.taken.hasher();
+        let before = mem::replace(self, SignatureTable::new(alloc, key));
         *self = before.with(alloc, name, descriptor)?;
         Ok(())
     }

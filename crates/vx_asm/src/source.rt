@@ -21,7 +21,7 @@ use std::alloc::{AllocError, Global};
 use vx_class::ClassFile;
 use vx_class_parts::{ConstantTable, pool_of};
 use vx_code_parts::is_of_version;
-use vx_list::Items;
+use vx_list::{Items, Keyed};
 use vx_source::{Operand, Said, Source, SourceLine, Statement, read_source};
 use vx_source_words::{LineFault, refused};
 use vx_writer::write_class;
@@ -152,7 +152,7 @@ fn at_line(
 }
 
 /// A class before the first line.
-fn nothing(alloc: Global) -> ClassDraft
+fn nothing(alloc: Global, key: Keyed) -> ClassDraft
     ensures { result ≡ nothing }
 {
     ClassDraft {
@@ -161,21 +161,21 @@ fn nothing(alloc: Global) -> ClassDraft
         flags: 0,
         this_class: 0,
         super_class: 0,
-        pool: ConstantTable::new(alloc),
+        pool: ConstantTable::new(alloc, key),
         interfaces: Items::of(Vec::new(alloc)),
         fields: Items::of(Vec::new(alloc)),
-        field_signatures: SignatureTable::new(alloc),
+        field_signatures: SignatureTable::new(alloc, key),
         methods: Items::of(Vec::new(alloc)),
-        method_signatures: SignatureTable::new(alloc),
+        method_signatures: SignatureTable::new(alloc, key),
         body: None,
     }
 }
 
 /// All lines, one after the other.
-fn walk(alloc: Global, lines: &[SourceLine], count: u64) -> Result<ClassDraft, AsmFault>
+fn walk(alloc: Global, key: Keyed, lines: &[SourceLine], count: u64) -> Result<ClassDraft, AsmFault>
     ensures { Answers result (walk count nothing lines.now) }
 {
-    let mut draft = nothing(alloc);
+    let mut draft = nothing(alloc, key);
     for at in 0..lines.len() {
         at_line(alloc, &mut draft, &lines[at], &lines[at + 1..], count)?;
     }
@@ -205,24 +205,34 @@ fn is_whole(draft: &ClassDraft) -> bool
     has_class(draft.stage) && draft.body.is_none()
 }
 
-/// The class of all lines, behind the last of which a part may be missing.
+/// Whether the lines may end here: behind the last of them a part may be missing.
 #[tactic(auto, unfolding(crate::specs::Source::finished))]
-fn finish(alloc: Global, draft: ClassDraft, count: u64) -> Result<ClassFile, AsmFault>
+fn check_end(draft: &ClassDraft, count: u64) -> Result<(), AsmFault>
     requires { count < 2 ^ 63 }
-    ensures { Answers result (finished count draft) }
+    ensures whole { OnOk result (finished count draft.now ≡ Ok (file_of draft.now)) }
+    ensures refused { IfErr result (λ e. Refuses e (finished count draft.now)) }
 {
-    if !is_small(&draft) {
+    if !is_small(draft) {
         return Err(AsmFault::Line {
             line: count,
             reason: 7,
         });
     }
-    if !is_whole(&draft) {
+    if !is_whole(draft) {
         return Err(AsmFault::Line {
             line: count + 1,
             reason: 5,
         });
     }
+    Ok(())
+}
+
+/// The class of all lines.
+fn finish(alloc: Global, draft: ClassDraft, count: u64) -> Result<ClassFile, AsmFault>
+    requires { count < 2 ^ 63 }
+    ensures { Answers result (finished count draft) }
+{
+    check_end(&draft, count)?;
     Ok(file_of(alloc, draft)?)
 }
 
@@ -230,7 +240,8 @@ fn class_of(alloc: Global, bytes: &[u8]) -> Result<ClassFile, AsmFault>
     ensures { Answers result (named bytes.now) }
 {
     let source = read_source(alloc, bytes)?;
-    let draft = walk(alloc, source.lines.as_slice(), source.count)?;
+    let key = Keyed::by(bytes);
+    let draft = walk(alloc, key, source.lines.as_slice(), source.count)?;
     finish(alloc, draft, source.count)
 }
 

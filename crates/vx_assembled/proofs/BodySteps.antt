@@ -24,7 +24,7 @@ use Rattle.vx_class_parts.specs.Rules.{is_lawful_class, is_lawful_field, is_lawf
 use Rattle.vx_class_parts.specs.declared.constants.Constant.{Constant}
 use Rattle.vx_class_parts.specs.declared.constants.Constant.TheVariants as constant
 use Rattle.vx_class_parts.specs.declared.constants.Kind.TheVariants as kind
-use Rattle.vx_code.specs.Instructions.{is_callable}
+use Rattle.vx_pool.specs.Instructions.{is_callable}
 use Rattle.vx_code_parts.specs.Bodies.{labels_from, find_label}
 use Rattle.vx_code_parts.specs.Drafts.{all_reach}
 use Rattle.vx_code_parts.specs.Instructions.{number_of, is_known, leads, all_labels, is_of_version, is_text, is_lawful, is_field_opcode, member_rule, call_rule, instruction_checked, kind_of, constant_of, draft_of}

@@ -3,10 +3,10 @@ use Rattle.std.proofs.Common.{◌≡◌, ℕ, zero, suc, ◌+◌, ◌<◌, ◌�
 use Rattle.std.proofs.lemmas.Bool.{and_parts, and_from, or_left, or_right, lt-ltb, le-leb, eq-eqb, cases_lt}
 use Rattle.std.specs.List.{AllByRecursion}
 use Rattle.vx_pool.specs.declared.pool.Pool.{Pool}
-use Rattle.vx_code.specs.Checks.{all_hold}
-use Rattle.vx_code.specs.Entries.{usable}
-use Rattle.vx_code.specs.Instructions.{is_start, AreInstructions, OperandHolds, JumpsHold}
-use Rattle.vx_code.specs.Lookups as lookups
+use Rattle.vx_pool.specs.Checks.{all_hold}
+use Rattle.vx_pool.specs.Entries.{usable}
+use Rattle.vx_pool.specs.Instructions.{is_start, AreInstructions, OperandHolds, JumpsHold}
+use Rattle.vx_pool.specs.Lookups as lookups
 use Rattle.vx_class.specs.declared.class_file.Catch.{Catch}
 use Rattle.vx_class.specs.Code.{catch_checks}
 use Rattle.vx_class.specs.File.{CodeHolds}

@@ -11,8 +11,8 @@ use Rattle.vx_opcode.specs.declared.shape.Shape.TheVariants as shape
 use Rattle.vx_opcode.specs.Decode.{shaped_at, instruction_at}
 use Rattle.vx_opcode.specs.Numbers.{s2, s4}
 use Rattle.vx_opcode.specs.Table.{shape_of}
-use Rattle.vx_code.specs.Checks.{all_hold}
-use Rattle.vx_code.specs.Instructions.{operand_checks, jump_checks, is_target}
+use Rattle.vx_pool.specs.Checks.{all_hold}
+use Rattle.vx_pool.specs.Instructions.{operand_checks, jump_checks, is_target}
 use Rattle.vx_class_parts.specs.Constants.{in_file_or_zero, pool_of}
 use Rattle.vx_class_parts.specs.declared.constants.Constant.{Constant}
 use Rattle.vx_source.specs.declared.statement.Case.{Case}

@@ -12,10 +12,10 @@ use Rattle.vx_pool.specs.Spelling.{ArePlaced, IsPool}
 use Rattle.vx_pool.specs.Text.{is_text}
 use Rattle.vx_desc.specs.Names.{is_unqualified_byte, is_plain_byte, is_init, is_clinit, is_field_name, is_method_name}
 use Rattle.vx_desc.specs.Descriptors.{is_field_descriptor, is_method_descriptor}
-use Rattle.vx_code.specs.Checks.{all_hold}
-use Rattle.vx_code.specs.Entries.{checks_of, member_checks}
-use Rattle.vx_code.specs.Lookups as lookups
-use Rattle.vx_code.specs.Lookups.{is_class_text}
+use Rattle.vx_pool.specs.Checks.{all_hold}
+use Rattle.vx_pool.specs.Entries.{checks_of, member_checks}
+use Rattle.vx_pool.specs.Lookups as lookups
+use Rattle.vx_pool.specs.Lookups.{is_class_text}
 use Rattle.vx_class_parts.specs.Constants.{places, in_file, width, entry_of, entries_of, pool_of}
 use Rattle.vx_class_parts.specs.Rules.{is_short, is_lawful_class, is_lawful_field, is_lawful_method}
 use Rattle.vx_class_parts.specs.declared.constants.Constant.{Constant}

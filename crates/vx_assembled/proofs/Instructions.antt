@@ -10,8 +10,8 @@ use Rattle.vx_opcode.specs.declared.instruction.Instruction.{Instruction}
 use Rattle.vx_opcode.specs.declared.instruction.Operand.TheVariants as plain
 use Rattle.vx_opcode.specs.declared.shape.Shape.TheVariants as shape
 use Rattle.vx_opcode.specs.Table.{shape_of}
-use Rattle.vx_code.specs.Checks.{all_hold}
-use Rattle.vx_code.specs.Instructions.{operand_checks, jump_checks, is_callable}
+use Rattle.vx_pool.specs.Checks.{all_hold}
+use Rattle.vx_pool.specs.Instructions.{operand_checks, jump_checks, is_callable}
 use Rattle.vx_class_parts.specs.Constants.{places, in_file, in_file_or_zero, pool_of}
 use Rattle.vx_class_parts.specs.Rules.{is_short, is_lawful_class, is_lawful_method, interface_slots, has_dimensions}
 use Rattle.vx_class_parts.specs.declared.constants.Constant.{Constant}

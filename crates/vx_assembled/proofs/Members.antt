@@ -11,9 +11,9 @@ use Rattle.vx_desc.specs.declared.java_type.Base.TheVariants as base
 use Rattle.vx_desc.specs.declared.java_type.JavaType.{JavaType}
 use Rattle.vx_desc.specs.Names.{is_class_name}
 use Rattle.vx_desc.specs.Descriptors.{element_at, type_at, field_of, field_type}
-use Rattle.vx_code.specs.Entries.{where_read}
-use Rattle.vx_code.specs.Lookups as lookups
-use Rattle.vx_code.specs.Lookups.{text, class_text, is_array}
+use Rattle.vx_pool.specs.Entries.{where_read}
+use Rattle.vx_pool.specs.Lookups as lookups
+use Rattle.vx_pool.specs.Lookups.{text, class_text, is_array}
 use Rattle.vx_class.specs.File.{EachBehind, IsInterfaceAt, IsClassAt}
 use Rattle.vx_class.specs.Members as members
 use Rattle.vx_class.specs.Members.{has, INTERFACE, STATIC, fits_type, is_constant_for}

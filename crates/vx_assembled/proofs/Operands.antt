@@ -6,9 +6,9 @@ use Rattle.vx_pool.specs.declared.pool.Entry.TheVariants as entry
 use Rattle.vx_pool.specs.declared.pool.Pool.{Pool}
 use Rattle.vx_desc.specs.Descriptors.{method_slots, is_method_descriptor}
 use Rattle.vx_opcode.specs.declared.instruction.Operand.TheVariants as plain
-use Rattle.vx_code.specs.Checks.{all_hold}
-use Rattle.vx_code.specs.Instructions.{local_of, local_fits, is_callable, dimensions, has_slots, operand_checks}
-use Rattle.vx_code.specs.Lookups.{entry_of, is_array}
+use Rattle.vx_pool.specs.Checks.{all_hold}
+use Rattle.vx_pool.specs.Instructions.{local_of, local_fits, is_callable, dimensions, has_slots, operand_checks}
+use Rattle.vx_pool.specs.Lookups.{entry_of, is_array}
 use Rattle.vx_class_parts.specs.Rules.{is_short, is_plain_class, is_lawful_class, interface_slots, has_dimensions}
 use Rattle.vx_code_parts.specs.Instructions.{class_rule, local_below}
 

@@ -2,7 +2,7 @@
 use Rattle.std.proofs.Common.{◌≡◌, ℕ, ◌<◌, ◌≤◌, List, [], ◌∷◌, ◌++◌, length, Bool, true, false, not, nat_le, ◌==◌, ◌&&◌, ◌||◌, Option, Some, None, Ok, Err, ◌⊎◌, inl, inr, refl, sym, ap, subst, ◌∙◌, arith, codes}
 use Rattle.std.proofs.lemmas.Bool.{and_parts, not-true, not_from_false, leb-true}
 use Rattle.std.specs.List.{AllByRecursion}
-use Rattle.vx_code.specs.Lookups.{entry_of, text}
+use Rattle.vx_pool.specs.Lookups.{entry_of, text}
 use Rattle.vx_desc.specs.Names.{is_field_name, is_method_name}
 use Rattle.vx_desc.specs.Descriptors.{is_field_descriptor, is_method_descriptor}
 use Rattle.vx_class.specs.declared.class_file.Field.{Field}

@@ -10,7 +10,7 @@ use Rattle.std.specs.List.{list_any, flat_map, sum_by, AllByRecursion}
 use Rattle.std.specs.Str.{bytes_eq}
 use Rattle.vx_pool.specs.declared.pool.Entry.{Entry}
 use Rattle.vx_pool.specs.declared.pool.Entry.TheVariants as entry
-use Rattle.vx_code.specs.Lookups as lookups
+use Rattle.vx_pool.specs.Lookups as lookups
 use Rattle.vx_class_parts.specs.Constants.{is_same_kind, is_same, with, with_text, with_class, with_literal, with_name_and_type, with_member, with_constant, width, index_from, index_of, places, in_file, in_file_or_zero, entry_of, entries_of, pool_of}
 use Rattle.vx_class_parts.specs.declared.constants.Constant.{Constant}
 use Rattle.vx_class_parts.specs.declared.constants.Constant.TheVariants as constant

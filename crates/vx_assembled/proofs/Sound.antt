@@ -5,7 +5,7 @@ use Rattle.vx_class.specs.declared.class_file.Field.{Field}
 use Rattle.vx_class.specs.declared.class_file.Method.{Method}
 use Rattle.vx_class.specs.File.{EachBehind, FieldHolds, MethodHolds, IsInterfaceAt, IsClassAt}
 use Rattle.vx_class.specs.Members.{has, INTERFACE, takes_code, slots_of, is_lawful_initialiser}
-use Rattle.vx_code.specs.Lookups.{text}
+use Rattle.vx_pool.specs.Lookups.{text}
 use Rattle.vx_writer.specs.Written.{HasName, IsNamedField, IsNamedMethod}
 use Rattle.vx_source.specs.declared.lines.SourceLine.{SourceLine}
 use Rattle.vx_class_parts.specs.Constants.{pool_of}

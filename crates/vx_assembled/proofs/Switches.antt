@@ -12,7 +12,7 @@ use Rattle.vx_opcode.specs.declared.instruction.Operand.TheVariants as operand
 use Rattle.vx_opcode.specs.declared.shape.Shape.TheVariants as shape
 use Rattle.vx_opcode.specs.Numbers.{u4, s2, s4}
 use Rattle.vx_opcode.specs.Decode.{whole, lawful, aligned, count, table_at, lookup_at, shaped_at, instruction_at}
-use Rattle.vx_code.specs.Instructions.{is_start, is_target, all_below}
+use Rattle.vx_pool.specs.Instructions.{is_start, is_target, all_below}
 use Rattle.vx_code_parts.specs.Drafts.{padding, way, row_bytes, switch_bytes, table_bytes, lookup_bytes}
 use Rattle.vx_code_parts.specs.declared.drafts.Row.{Row}
 use Rattle.vx_assembled.proofs.Bytes.{Stands, front, behind, within, low_2, low_4}

@@ -18,9 +18,9 @@ use Rattle.vx_group_states.specs.declared.answer.Answer.{Answer}
 use Rattle.vx_group_states.specs.declared.answer.Answer.TheVariants.{Illegal}
 use Rattle.vx_group_states.specs.declared.site.Site.{Site}
 use Rattle.vx_group_states.proofs.GrownStates.{StandsIn-grown}
-use Rattle.vx_growth.specs.Changing.{with_globals}
-use Rattle.vx_growth.proofs.ChangeLaws.{attempts_follow, changed_later, unchanged}
-use Rattle.vx_growth.proofs.NameLaws.{name_stays}
+use Rattle.vx_families.specs.Changing.{with_globals}
+use Rattle.vx_families.proofs.ChangeLaws.{attempts_follow, changed_later, unchanged}
+use Rattle.vx_families.proofs.NameLaws.{name_stays}
 use Rattle.vx_heap.specs.Changing.{Grows, IsChangedIn}
 use Rattle.vx_heap.specs.Heap.{Globals, HeapView, IsHeap, IsHeapFor, globals_at}
 use Rattle.vx_heap.proofs.Growing.{Grows-refl, Grows-trans, is_held-grown}

@@ -7,7 +7,7 @@ use Rattle.vx_cond.specs.Leaves.{value_within}
 use Rattle.vx_cond.specs.Slots.{or_top, slot_at}
 use Rattle.vx_cond.proofs.CondLaws.{cond_at-of}
 use Rattle.vx_group_states.specs.Sites.{IsSomewhere}
-use Rattle.vx_growth.proofs.ChangeLaws.{changed_as}
+use Rattle.vx_families.proofs.ChangeLaws.{changed_as}
 use Rattle.vx_heap.specs.Changing.{IsCellWritten, IsChangedIn, IsValueHeld, with_cell_of}
 use Rattle.vx_heap.specs.Heap.{HeapView, globals_at, is_held, name_at, object_in, value_of}
 use Rattle.vx_space.specs.Sets.{Sets}

@@ -2,9 +2,9 @@
 use Rattle.std.proofs.Common.{◌≡◌, ℕ, zero, suc, List, [], ◌∷◌, length, Bool, true, false, Option, Some, None, Ok, filter, ◌⊎◌, inl, inr, refl, sym, ap, subst, arith}
 use Rattle.std.proofs.lemmas.List.Concat.{flat_map-cons}
 use Rattle.std.specs.List.{flat_map, AllByRecursion}
-use Rattle.vx_cursor.specs.Place.{Place, IsBytes}
-use Rattle.vx_cursor.specs.Reading.{Read, steps}
-use Rattle.vx_cursor.specs.Took.{bind_ok, Took, Took-then}
+use Rattle.vx_pool.specs.Place.{Place, IsBytes}
+use Rattle.vx_pool.specs.Reading.{Read, steps}
+use Rattle.vx_pool.specs.Took.{bind_ok, Took, Took-then}
 use Rattle.vx_class.specs.Spelling.{Attribute, attribute_bytes, One, IsOneAmong}
 use Rattle.vx_class.proofs.Took.{at_end}
 

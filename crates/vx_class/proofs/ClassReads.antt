@@ -5,9 +5,9 @@ use Rattle.std.proofs.lemmas.List.{append-nil}
 use Rattle.std.proofs.lemmas.Bool.{le-leb, ne_eqb}
 use Rattle.std.specs.List.{flat_map, list_any, AllByRecursion}
 use Rattle.std.specs.Str.{bytes_eq}
-use Rattle.vx_cursor.specs.Place.{Place, place, start}
-use Rattle.vx_cursor.specs.Reading.{Read, ◌>>=◌, check, number, steps, behind}
-use Rattle.vx_cursor.specs.Again.{Reads, number_reads, reads_then, reads_last, check_passes}
+use Rattle.vx_pool.specs.Place.{Place, place, start}
+use Rattle.vx_pool.specs.Reading.{Read, ◌>>=◌, check, number, steps, behind}
+use Rattle.vx_pool.specs.ReadingAgain.{Reads, number_reads, reads_then, reads_last, check_passes}
 use Rattle.vx_pool.specs.declared.pool.Entry.{Entry}
 use Rattle.vx_pool.specs.declared.pool.Entry.TheVariants as entry
 use Rattle.vx_pool.specs.declared.pool.Pool.{Pool}
@@ -19,10 +19,10 @@ use Rattle.vx_desc.specs.declared.java_type.Base.TheVariants as base
 use Rattle.vx_desc.specs.declared.java_type.JavaType.{JavaType}
 use Rattle.vx_desc.specs.Names.{is_field_name, is_method_name}
 use Rattle.vx_desc.specs.Descriptors.{is_field_descriptor, is_method_descriptor, field_type}
-use Rattle.vx_code.specs.Lookups.{entry_of, is_usable, class, class_text, text, is_array}
-use Rattle.vx_code.specs.Checks.{first_failing, all_hold}
-use Rattle.vx_code.specs.Entries.{where_read, usable, checks_of, entries_checked}
-use Rattle.vx_code.specs.Holding.{none_fails-from, each_holds-from}
+use Rattle.vx_pool.specs.Lookups.{entry_of, is_usable, class, class_text, text, is_array}
+use Rattle.vx_pool.specs.Checks.{first_failing, all_hold}
+use Rattle.vx_pool.specs.Entries.{where_read, usable, checks_of, entries_checked}
+use Rattle.vx_pool.specs.Holding.{none_fails-from, each_holds-from}
 use Rattle.vx_class.specs.declared.class_file.ClassFile.{ClassFile}
 use Rattle.vx_class.specs.declared.class_file.Field.{Field}
 use Rattle.vx_class.specs.declared.class_file.Method.{Method}

@@ -5,9 +5,9 @@ use Rattle.std.proofs.lemmas.List.{append-nil, nil_from_length}
 use Rattle.std.proofs.lemmas.Bool.{eqb-true, leb-true}
 use Rattle.std.specs.List.{flat_map, AllByRecursion}
 use Rattle.std.specs.Str.{bytes_eq}
-use Rattle.vx_cursor.specs.Place.{Place, IsBytes, start}
-use Rattle.vx_cursor.specs.Reading.{Read, ◌>>=◌, check, number, steps, behind}
-use Rattle.vx_cursor.specs.Took.{bind_ok, check_ok, ok_is, Took, Took-then, width2, width4, number_took}
+use Rattle.vx_pool.specs.Place.{Place, IsBytes, start}
+use Rattle.vx_pool.specs.Reading.{Read, ◌>>=◌, check, number, steps, behind}
+use Rattle.vx_pool.specs.Took.{bind_ok, check_ok, ok_is, Took, Took-then, width2, width4, number_took}
 use Rattle.vx_pool.specs.declared.pool.Entry.{Entry}
 use Rattle.vx_pool.specs.declared.pool.Pool.{Pool}
 use Rattle.vx_pool.specs.Pool.{size, pool_at}
@@ -15,10 +15,10 @@ use Rattle.vx_pool.specs.Spelling.{pool_bytes, IsPool}
 use Rattle.vx_pool.specs.PoolTook.{pool_took}
 use Rattle.vx_desc.specs.Names.{is_field_name, is_method_name}
 use Rattle.vx_desc.specs.Descriptors.{is_field_descriptor, is_method_descriptor}
-use Rattle.vx_code.specs.Lookups.{entry_of, is_usable, text}
-use Rattle.vx_code.specs.Checks.{first_failing, all_hold}
-use Rattle.vx_code.specs.Entries.{usable, checks_of, entries_checked}
-use Rattle.vx_code.specs.Holding.{none_fails, and_true, each_holds}
+use Rattle.vx_pool.specs.Lookups.{entry_of, is_usable, text}
+use Rattle.vx_pool.specs.Checks.{first_failing, all_hold}
+use Rattle.vx_pool.specs.Entries.{usable, checks_of, entries_checked}
+use Rattle.vx_pool.specs.Holding.{none_fails, and_true, each_holds}
 use Rattle.vx_class.specs.declared.class_file.ClassFile.{ClassFile}
 use Rattle.vx_class.specs.declared.class_file.Field.{Field}
 use Rattle.vx_class.specs.declared.class_file.Method.{Method}

@@ -6,18 +6,18 @@ use Rattle.std.proofs.lemmas.Option.{slice_get_past}
 use Rattle.std.proofs.lemmas.Bool.{cases_lt, eqb-true, eq-eqb, le-leb, leb-true, lt-ltb, ltb-true}
 use Rattle.std.proofs.lemmas.List.Concat.{flat_map-cons}
 use Rattle.std.specs.List.{flat_map, list_any, AllByRecursion}
-use Rattle.vx_cursor.specs.Place.{Place, place}
-use Rattle.vx_cursor.specs.Reading.{Read, ◌>>=◌, check, number, bytes, steps, item_step, items}
-use Rattle.vx_cursor.specs.Again.{Reads, number_reads, bytes_reads, room_again, reads_then, reads_last, check_passes}
+use Rattle.vx_pool.specs.Place.{Place, place}
+use Rattle.vx_pool.specs.Reading.{Read, ◌>>=◌, check, number, bytes, steps, item_step, items}
+use Rattle.vx_pool.specs.ReadingAgain.{Reads, number_reads, bytes_reads, room_again, reads_then, reads_last, check_passes}
 use Rattle.vx_pool.specs.declared.pool.Entry.{Entry}
 use Rattle.vx_pool.specs.declared.pool.Entry.TheVariants as entry
 use Rattle.vx_pool.specs.declared.pool.Pool.{Pool}
 use Rattle.vx_opcode.specs.Bounds.{lies}
-use Rattle.vx_code.specs.Lookups.{entry_of, is_usable, utf8, class, text}
-use Rattle.vx_code.specs.Checks.{all_hold}
-use Rattle.vx_code.specs.Entries.{usable}
-use Rattle.vx_code.specs.Instructions.{is_start, starts_of, jumps_at, jumps_checked, AreInstructions, JumpsHold}
-use Rattle.vx_code.specs.Holding.{none_fails-from, and_true, each_holds-from, walk_holds-from, jumps_hold-from}
+use Rattle.vx_pool.specs.Lookups.{entry_of, is_usable, utf8, class, text}
+use Rattle.vx_pool.specs.Checks.{all_hold}
+use Rattle.vx_pool.specs.Entries.{usable}
+use Rattle.vx_pool.specs.Instructions.{is_start, starts_of, jumps_at, jumps_checked, AreInstructions, JumpsHold}
+use Rattle.vx_pool.specs.Holding.{none_fails-from, and_true, each_holds-from, walk_holds-from, jumps_hold-from}
 use Rattle.vx_class.specs.declared.class_file.Catch.{Catch}
 use Rattle.vx_class.specs.declared.class_file.Code.{Code}
 use Rattle.vx_class.specs.declared.code.Parts.{Parts}

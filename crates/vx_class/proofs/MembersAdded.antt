@@ -2,14 +2,14 @@
 use Rattle.std.proofs.Common.{◌≡◌, ℕ, List, [], ◌∷◌, ◌++◌, map, Bool, true, false, not, Some, Ok, refl, sym, ap, ◌∙◌}
 use Rattle.std.proofs.lemmas.List.{map-append}
 use Rattle.std.specs.List.{list_any}
-use Rattle.vx_cursor.specs.declared.fault.ClassFault.{ClassFault}
-use Rattle.vx_cursor.specs.declared.fault.ClassFault.TheVariants as fault
-use Rattle.vx_cursor.specs.Place.{Place}
-use Rattle.vx_cursor.specs.Reading.{Read, Fails, check, number, behind}
+use Rattle.vx_pool.specs.declared.fault.ClassFault.{ClassFault}
+use Rattle.vx_pool.specs.declared.fault.ClassFault.TheVariants as fault
+use Rattle.vx_pool.specs.Place.{Place}
+use Rattle.vx_pool.specs.Reading.{Read, Fails, check, number, behind}
 use Rattle.vx_pool.specs.declared.pool.Pool.{Pool}
 use Rattle.vx_desc.specs.Names.{is_field_name, is_method_name}
 use Rattle.vx_desc.specs.Descriptors.{is_field_descriptor, is_method_descriptor}
-use Rattle.vx_code.specs.Lookups.{text}
+use Rattle.vx_pool.specs.Lookups.{text}
 use Rattle.vx_class.specs.declared.class_file.Field.{Field}
 use Rattle.vx_class.specs.declared.class_file.Method.{Method}
 use Rattle.vx_class.specs.Members.{lawful_at, field_at, method_at}

@@ -12,7 +12,7 @@ use Rattle.vx_names.proofs.Keys.{position-cons}
 use Rattle.vx_names.specs.Names.{has_name, place_of}
 use Rattle.vx_pool.specs.declared.pool.Entry.{Entry}
 use Rattle.vx_pool.specs.declared.pool.Pool.{Pool}
-use Rattle.vx_code.specs.Lookups.{utf8, text}
+use Rattle.vx_pool.specs.Lookups.{utf8, text}
 use Rattle.vx_class.specs.Members.{is_given, is_text_of, is_same}
 use Rattle.vx_class.specs.Numbers.{with_text, with_entry, names_of, from_place, number_in, entry_number, numbers_of, key_of, same_key}
 

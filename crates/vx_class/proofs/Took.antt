@@ -6,20 +6,20 @@ use Rattle.std.proofs.lemmas.Bool.{eqb-true, leb-true, ltb-true}
 use Rattle.std.specs.Prelude.{nat_eq, nat_lt, is_some, IsTrue}
 use Rattle.std.specs.List.{flat_map, AllByRecursion}
 use Rattle.vx_pool.specs.declared.pool.Pool.{Pool}
-use Rattle.vx_cursor.specs.Place.{Place}
-use Rattle.vx_cursor.specs.Reading.{Fault, Read, ◌>>=◌, check, number, room, steps, item_step, items}
-use Rattle.vx_cursor.specs.Place.{IsBytes}
-use Rattle.vx_cursor.specs.Took.{bind_ok, check_ok, ok_is, Took, Took-then, width2, width4, number_took, bytes_took}
+use Rattle.vx_pool.specs.Place.{Place}
+use Rattle.vx_pool.specs.Reading.{Fault, Read, ◌>>=◌, check, number, room, steps, item_step, items}
+use Rattle.vx_pool.specs.Place.{IsBytes}
+use Rattle.vx_pool.specs.Took.{bind_ok, check_ok, ok_is, Took, Took-then, width2, width4, number_took, bytes_took}
 use Rattle.vx_class.specs.declared.class_file.Catch.{Catch}
 use Rattle.vx_class.specs.declared.class_file.Code.{Code}
 use Rattle.vx_class.specs.declared.code.Parts.{Parts}
-use Rattle.vx_code.specs.Lookups.{entry_of, utf8, text}
+use Rattle.vx_pool.specs.Lookups.{entry_of, utf8, text}
 use Rattle.vx_class.specs.Code.{text_given, utf8_at, content_at, skipped_at, skip_step, all_skipped_at, catch_at, catches_at, catch_checks, row_checked, catches_checked, parts_at, code_checked, code_at}
 use Rattle.vx_class.specs.Spelling.{u2, u4, Attribute, attribute_bytes, attributes_bytes, catch_bytes, code_bytes, IsAttribute, AreAttributes, IsCode}
 use Rattle.vx_class.specs.File.{CodeHolds}
-use Rattle.vx_code.specs.Checks.{all_hold}
-use Rattle.vx_code.specs.Instructions.{starts_of, jumps_at, jumps_checked, AreInstructions, OperandHolds, JumpsHold}
-use Rattle.vx_code.specs.Holding.{none_fails, and_true, each_holds, walk_holds, jumps_hold}
+use Rattle.vx_pool.specs.Checks.{all_hold}
+use Rattle.vx_pool.specs.Instructions.{starts_of, jumps_at, jumps_checked, AreInstructions, OperandHolds, JumpsHold}
+use Rattle.vx_pool.specs.Holding.{none_fails, and_true, each_holds, walk_holds, jumps_hold}
 
 abbrev pub yes : {A : Type 0} → A × Place → Read A
 yes x = Ok x

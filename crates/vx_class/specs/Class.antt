@@ -1,13 +1,13 @@
 -- A class file, read from the front to the back.
 use Rattle.std.specs.Prelude.{ℕ, ◌+◌, List, length, Result, Ok, is_some, not, nat_le, ◌==◌, ◌&&◌}
 use Rattle.vx_pool.specs.declared.pool.Pool.{Pool}
-use Rattle.vx_cursor.specs.Place.{Place, start}
-use Rattle.vx_cursor.specs.Reading.{Fault, Read, ◌>>=◌, check, number, items}
+use Rattle.vx_pool.specs.Place.{Place, start}
+use Rattle.vx_pool.specs.Reading.{Fault, Read, ◌>>=◌, check, number, items}
 use Rattle.vx_pool.specs.Pool.{pool_at}
 use Rattle.vx_class.specs.declared.class_file.ClassFile.{ClassFile}
 use Rattle.vx_class.specs.declared.reading.Head.{Head}
-use Rattle.vx_code.specs.Lookups.{entry_of, class, class_text, is_array}
-use Rattle.vx_code.specs.Entries.{where_read, usable, entries_checked}
+use Rattle.vx_pool.specs.Lookups.{entry_of, class, class_text, is_array}
+use Rattle.vx_pool.specs.Entries.{where_read, usable, entries_checked}
 use Rattle.vx_class.specs.Code.{all_skipped_at}
 use Rattle.vx_class.specs.Members.{has, INTERFACE, fields_at, methods_at}
 

@@ -1,15 +1,15 @@
 -- The code of a method.
 use Rattle.std.specs.Prelude.{ℕ, ◌+◌, List, [], ◌∷◌, length, Bool, Option, Some, None, Result, Ok, is_some, nat_lt, nat_le, ◌==◌, ◌&&◌, ◌||◌}
 use Rattle.vx_pool.specs.declared.pool.Pool.{Pool}
-use Rattle.vx_cursor.specs.Place.{Place}
-use Rattle.vx_cursor.specs.Reading.{Fault, Read, ◌>>=◌, check, refuse, number, room, bytes, steps, items}
+use Rattle.vx_pool.specs.Place.{Place}
+use Rattle.vx_pool.specs.Reading.{Fault, Read, ◌>>=◌, check, refuse, number, room, bytes, steps, items}
 use Rattle.vx_class.specs.declared.class_file.Code.{Code}
 use Rattle.vx_class.specs.declared.class_file.Catch.{Catch}
 use Rattle.vx_class.specs.declared.code.Parts.{Parts}
-use Rattle.vx_code.specs.Lookups.{entry_of, utf8, class}
-use Rattle.vx_code.specs.Checks.{first_failing, each}
-use Rattle.vx_code.specs.Entries.{usable}
-use Rattle.vx_code.specs.Instructions.{starts_of, is_start, jumps_checked}
+use Rattle.vx_pool.specs.Lookups.{entry_of, utf8, class}
+use Rattle.vx_pool.specs.Checks.{first_failing, each}
+use Rattle.vx_pool.specs.Entries.{usable}
+use Rattle.vx_pool.specs.Instructions.{starts_of, is_start, jumps_checked}
 
 -- ---- attributes
 

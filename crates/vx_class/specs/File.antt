@@ -5,10 +5,10 @@ use Rattle.vx_pool.specs.declared.pool.Pool.{Pool}
 use Rattle.vx_pool.specs.Spelling.{IsPool}
 use Rattle.vx_desc.specs.Names.{is_field_name, is_method_name}
 use Rattle.vx_desc.specs.Descriptors.{is_field_descriptor, is_method_descriptor}
-use Rattle.vx_code.specs.Lookups.{entry_of, class, text, class_text, is_array}
-use Rattle.vx_code.specs.Checks.{all_hold}
-use Rattle.vx_code.specs.Entries.{where_read, checks_of}
-use Rattle.vx_code.specs.Instructions.{AreInstructions, OperandHolds, JumpsHold}
+use Rattle.vx_pool.specs.Lookups.{entry_of, class, text, class_text, is_array}
+use Rattle.vx_pool.specs.Checks.{all_hold}
+use Rattle.vx_pool.specs.Entries.{where_read, checks_of}
+use Rattle.vx_pool.specs.Instructions.{AreInstructions, OperandHolds, JumpsHold}
 use Rattle.vx_class.specs.declared.class_file.ClassFile.{ClassFile}
 use Rattle.vx_class.specs.declared.class_file.Field.{Field}
 use Rattle.vx_class.specs.declared.class_file.Method.{Method}

@@ -5,8 +5,8 @@ use Rattle.std.specs.Str.{bytes_eq}
 use Rattle.vx_pool.specs.declared.pool.Entry.{Entry}
 use Rattle.vx_pool.specs.declared.pool.Entry.TheVariants as entry
 use Rattle.vx_pool.specs.declared.pool.Pool.{Pool}
-use Rattle.vx_cursor.specs.Place.{Place}
-use Rattle.vx_cursor.specs.Reading.{Read, ◌>>=◌, check, number, steps, behind}
+use Rattle.vx_pool.specs.Place.{Place}
+use Rattle.vx_pool.specs.Reading.{Read, ◌>>=◌, check, number, steps, behind}
 use Rattle.vx_desc.specs.declared.java_type.Base.{Base}
 use Rattle.vx_desc.specs.declared.java_type.Base.TheVariants as base
 use Rattle.vx_desc.specs.declared.java_type.JavaType.{JavaType}
@@ -15,8 +15,8 @@ use Rattle.vx_desc.specs.Descriptors.{is_field_descriptor, is_method_descriptor,
 use Rattle.vx_class.specs.declared.class_file.Field.{Field}
 use Rattle.vx_class.specs.declared.class_file.Method.{Method}
 use Rattle.vx_class.specs.declared.class_file.Code.{Code}
-use Rattle.vx_code.specs.Lookups.{entry_of, text}
-use Rattle.vx_code.specs.Entries.{usable}
+use Rattle.vx_pool.specs.Lookups.{entry_of, text}
+use Rattle.vx_pool.specs.Entries.{usable}
 use Rattle.vx_class.specs.Code.{utf8_at, content_at, code_at}
 
 -- ---- access flags

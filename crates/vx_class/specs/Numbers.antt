@@ -3,7 +3,7 @@ use Rattle.std.specs.Prelude.{ℕ, ◌-◌, List, [], map, length, fold, get_or,
 use Rattle.vx_names.specs.Names.{place_of, with_name}
 use Rattle.vx_pool.specs.declared.pool.Entry.{Entry}
 use Rattle.vx_pool.specs.declared.pool.Pool.{Pool}
-use Rattle.vx_code.specs.Lookups.{utf8}
+use Rattle.vx_pool.specs.Lookups.{utf8}
 use Rattle.vx_class.specs.declared.class_file.Field.{Field}
 use Rattle.vx_class.specs.declared.class_file.Method.{Method}
 

@@ -1,8 +1,8 @@
 -- Members, from behind their names and descriptors on.
 use Rattle.std.specs.Prelude.{ℕ, List, Bool, Ok, is_some, unwrap_or, not, ◌||◌}
 use Rattle.vx_pool.specs.declared.pool.Pool.{Pool}
-use Rattle.vx_cursor.specs.Place.{Place}
-use Rattle.vx_cursor.specs.Reading.{Read, ◌>>=◌, check}
+use Rattle.vx_pool.specs.Place.{Place}
+use Rattle.vx_pool.specs.Reading.{Read, ◌>>=◌, check}
 use Rattle.vx_class.specs.declared.class_file.Field.{Field}
 use Rattle.vx_class.specs.declared.class_file.Method.{Method}
 use Rattle.vx_class.specs.Members.{has, STATIC, constant_among, code_among, takes_code, slots_of, is_lawful_initialiser}

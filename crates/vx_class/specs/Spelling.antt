@@ -9,7 +9,7 @@ use Rattle.vx_class.specs.declared.class_file.Field.{Field}
 use Rattle.vx_class.specs.declared.class_file.Method.{Method}
 use Rattle.vx_class.specs.declared.class_file.Code.{Code}
 use Rattle.vx_class.specs.declared.class_file.Catch.{Catch}
-use Rattle.vx_code.specs.Lookups.{text}
+use Rattle.vx_pool.specs.Lookups.{text}
 use Rattle.vx_class.specs.Members.{has, INTERFACE, STATIC, is_text_of}
 
 abbrev pub u2 : ℕ → List ℕ

@@ -1,17 +1,15 @@
 //! The code of a method (JVMS 4.7.3): its parts, then its instructions, its jumps and its catch rows.
 
 ghost use Rattle.std.specs.Prelude.{◌≡◌, ◌+◌, ◌*◌, ◌^◌, ◌<◌, length, IfOk, OnOk, Ok, Some};
-ghost use Rattle.vx_cursor.specs.Reading.{Gives, GivesBy, Answers, steps, items};
+ghost use Rattle.vx_pool.specs.Reading.{Gives, GivesBy, Answers, steps, items};
 ghost use Rattle.vx_class.specs.Code.{utf8_at, content_at, skipped_at, skip_step, all_skipped_at, catch_at, catches_at, row_checked, catches_checked, parts_at, code_checked, code_at};
 ghost use Rattle.vx_class.specs.Fits.{PartsFit};
-ghost use Rattle.vx_code.specs.Lookups.{text};
+ghost use Rattle.vx_pool.specs.Lookups.{text};
 
 use crate::class_file::{Catch, Code};
 use std::alloc::Global;
-use vx_code::{JudgedPool, Starts, check_jumps, is_class, is_usable, starts_of, text};
-use vx_cursor::refusal;
+use vx_pool::{ClassFault, Cursor, JudgedPool, Pool, Starts, check_jumps, is_class, is_usable, refusal, starts_of, text};
 use vx_list::Items;
-use vx_pool::{ClassFault, Cursor, Pool};
 
 /// The index at the cursor, and the text that it names.
 #[tactic(auto, unfolding(crate::specs::Code::utf8_at))]

@@ -12,4 +12,4 @@ mod reading;
 pub use class_file::{Catch, ClassFile, Code, Field, Method};
 pub use flags::{ABSTRACT, INTERFACE, NATIVE, STATIC, has};
 pub use reading::read_class;
-pub use vx_cursor::ClassFault;
+pub use vx_pool::ClassFault;

@@ -1,10 +1,10 @@
 //! Fields (JVMS 4.5), the constants of static ones, and what fields and methods share.
 
 ghost use Rattle.std.specs.Prelude.{◌≡◌, ◌+◌, ◌^◌, ◌<◌, length, map, Some, None, false, [], IfOk, OnOk};
-ghost use Rattle.vx_cursor.specs.Reading.{Gives, GivesBy, steps, behind};
+ghost use Rattle.vx_pool.specs.Reading.{Gives, GivesBy, steps, behind};
 ghost use Rattle.vx_desc.specs.Names.{is_field_name};
 ghost use Rattle.vx_desc.specs.Descriptors.{is_field_descriptor};
-ghost use Rattle.vx_code.specs.Lookups.{entry_of, text};
+ghost use Rattle.vx_pool.specs.Lookups.{entry_of, text};
 ghost use Rattle.vx_class.specs.Members.{is_number_for, is_constant_for, constant_at, field_attribute_at, constant_among, lawful_at, field_at, fields_at};
 ghost use Rattle.vx_class.specs.Numbers.{numbers_of, field_key};
 ghost use Rattle.vx_class.specs.Rest.{field_behind};
@@ -15,11 +15,9 @@ use crate::flags::{STATIC, has};
 use crate::numbers::{Taken, numbers_of, take};
 use indexmap::IndexSet;
 use std::alloc::Global;
-use vx_code::{JudgedPool, entry_of, is_usable};
-use vx_cursor::refusal;
+use vx_pool::{ClassFault, Cursor, Entry, JudgedPool, Pool, entry_of, is_usable, refusal};
 use vx_desc::{Base, field_type};
 use vx_list::Items;
-use vx_pool::{ClassFault, Cursor, Entry, Pool};
 
 /// Whether an entry is a number of a type.
 fn is_number_for(base: Base, pool: &Pool, index: u16) -> bool

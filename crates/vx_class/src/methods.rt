@@ -1,10 +1,10 @@
 //! Methods (JVMS 4.6).
 
 ghost use Rattle.std.specs.Prelude.{◌≡◌, ◌+◌, ◌^◌, ◌<◌, length, map, is_some, Some, None, [], IfOk, OnOk, if◌then◌else◌};
-ghost use Rattle.vx_cursor.specs.Reading.{Gives, GivesBy, steps, behind};
+ghost use Rattle.vx_pool.specs.Reading.{Gives, GivesBy, steps, behind};
 ghost use Rattle.vx_desc.specs.Names.{is_method_name};
 ghost use Rattle.vx_desc.specs.Descriptors.{is_method_descriptor};
-ghost use Rattle.vx_code.specs.Lookups.{text};
+ghost use Rattle.vx_pool.specs.Lookups.{text};
 ghost use Rattle.vx_class.specs.Members.{lawful_at, method_attribute_at, code_among, is_static, takes_code, is_lawful_initialiser, method_at, methods_at};
 ghost use Rattle.vx_class.specs.Numbers.{numbers_of, method_key};
 ghost use Rattle.vx_class.specs.Rest.{method_behind};
@@ -15,11 +15,9 @@ use crate::flags::{ABSTRACT, NATIVE, STATIC, has};
 use crate::numbers::{Taken, numbers_of, take};
 use indexmap::IndexSet;
 use std::alloc::{AllocError, Global};
-use vx_code::JudgedPool;
-use vx_cursor::refusal;
+use vx_pool::{ClassFault, Cursor, JudgedPool, Pool, refusal};
 use vx_desc::{is_clinit, is_init, returns_nothing};
 use vx_list::Items;
-use vx_pool::{ClassFault, Cursor, Pool};
 
 #[tactic(auto, unfolding(crate::specs::Members::lawful_at))]
 fn method_name<'p>(

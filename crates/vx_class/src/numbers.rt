@@ -1,15 +1,27 @@
 //! Numbers of the texts of a pool, by which members with the same name and descriptor are found (JVMS 4.5, 4.6).
 
-ghost use Rattle.std.specs.Prelude.{◌≡◌, ◌++◌, ◌∷◌, [], fold, map, get_or, not, IfOk, OnOk};
+ghost use Rattle.std.specs.Prelude.{◌≡◌, ◌++◌, ◌∷◌, [], fold, map, get_or, not, IfOk, OnErr, OnOk};
 ghost use Rattle.std.specs.Bool.{OnTrue};
 ghost use Rattle.std.specs.List.{list_any};
 ghost use Rattle.vx_class.specs.Numbers.{with_entry, entry_number, numbers_of, key_of, same_key};
 
 use indexmap::IndexSet;
 use std::alloc::{AllocError, Global};
-use vx_list::Items;
+use std::hash::{DefaultHasher, Hasher};
+use vx_list::{Items, Keyed};
 use vx_names::NameTable;
 use vx_pool::{Entry, Pool};
+
+/// A key that is made of all texts.
+fn key_of(entries: &[Entry]) -> Keyed {
+    let mut read = DefaultHasher::new();
+    for entry in entries {
+        if let Entry::Utf8(text) = entry {
+            read.write(text.as_slice());
+        }
+    }
+    Keyed::after(&read)
+}
 
 fn add_entry(alloc: Global, names: &mut NameTable, entry: &Entry) -> Result<(), AllocError>
     ensures { OnOk result (names.new ≡ with_entry names.old entry.now) }
@@ -61,8 +73,8 @@ fn entry_numbers(
 pub fn numbers_of(alloc: Global, pool: &Pool) -> Result<Items<usize>, AllocError>
     ensures { IfOk result (λ numbers. numbers ≡ numbers_of pool.now) }
 {
-    let mut names = NameTable::new(alloc);
     let entries = pool.entries.as_slice();
+    let mut names = NameTable::keyed(alloc, key_of(entries));
     add_entries(alloc, &mut names, entries)?;
     entry_numbers(alloc, &names, entries)
 }
@@ -82,7 +94,8 @@ fn number(numbers: &[usize], index: u16) -> usize
 /// The names and descriptors of members, by their numbers.
 pub type Taken = IndexSet<(usize, usize)>;
 
-/// Takes the name and the descriptor of a member, and says whether no member had both before.
+/// Takes the name and the descriptor of a member, and says whether no member had both before. Want of memory leaves those taken as they
+/// were.
 pub fn take(
     taken: &mut Taken,
     numbers: &[usize],
@@ -91,6 +104,7 @@ pub fn take(
 ) -> Result<bool, AllocError>
     ensures is_new { IfOk result (λ is_new. is_new ≡ not (list_any (same_key (key_of numbers.now name descriptor)) taken.old.keys)) }
     ensures taken { IfOk result (λ is_new. OnTrue is_new (taken.new.keys ≡ taken.old.keys ++ key_of numbers.now name descriptor ∷ [])) }
+    ensures err { OnErr result (taken.new.keys ≡ taken.old.keys) }
 {
     Ok(taken.insert((number(numbers, name), number(numbers, descriptor)))?)
 }

@@ -1,7 +1,7 @@
 //! Reading class files (JVMS 4.1), from the front to the back.
 
 ghost use Rattle.std.specs.Prelude.{◌≡◌, ◌+◌, ◌<◌, IfOk};
-ghost use Rattle.vx_cursor.specs.Reading.{Gives, Answers, IsReadAs, items};
+ghost use Rattle.vx_pool.specs.Reading.{Gives, Answers, IsReadAs, items};
 ghost use Rattle.vx_class.specs.File.{File};
 ghost use Rattle.vx_class.specs.declared.class_file.ClassFile.{ClassFile};
 ghost use Rattle.vx_class.specs.Class.{versions_at, checked_pool_at, interface_at, class_at, interfaces_at, head_at, file_at, class_of};
@@ -12,10 +12,8 @@ use crate::flags::{INTERFACE, has};
 use crate::members::fields;
 use crate::methods::methods;
 use std::alloc::Global;
-use vx_code::{check_entries, class_text, is_array, is_class, is_usable};
-use vx_cursor::refusal;
+use vx_pool::{ClassFault, Cursor, Pool, check_entries, class_text, is_array, is_class, is_usable, read_pool, refusal};
 use vx_list::Items;
-use vx_pool::{ClassFault, Cursor, Pool, read_pool};
 
 const MAGIC: u32 = 0xCAFE_BABE;
 

@@ -6,8 +6,8 @@ use Rattle.vx_desc.specs.declared.java_type.Base.TheVariants as base
 use Rattle.vx_desc.specs.declared.java_type.JavaType.{JavaType}
 use Rattle.vx_desc.specs.Names.{is_field_name, is_method_name}
 use Rattle.vx_desc.specs.Descriptors.{is_field_descriptor, is_method_descriptor, field_type, method_slots}
-use Rattle.vx_code.specs.Lookups.{is_array, is_class_text}
-use Rattle.vx_code.specs.Instructions.{dimensions}
+use Rattle.vx_pool.specs.Lookups.{is_array, is_class_text}
+use Rattle.vx_pool.specs.Instructions.{dimensions}
 use Rattle.vx_class.specs.Members.{has, STATIC, INTERFACE, is_static, takes_code, slots_of}
 use Rattle.vx_source.specs.declared.statement.Value.{Value}
 use Rattle.vx_source.specs.declared.statement.Value.TheVariants as value

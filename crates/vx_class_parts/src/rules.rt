@@ -2,13 +2,13 @@
 
 ghost use Rattle.std.specs.Prelude.{◌≡◌, ◌+◌, ◌<◌, ◌≤◌, ◌^◌, length, IfOk, ◌==◌};
 ghost use Rattle.vx_desc.specs.Descriptors.{is_method_descriptor};
-ghost use Rattle.vx_code.specs.Lookups.{is_class_text};
+ghost use Rattle.vx_pool.specs.Lookups.{is_class_text};
 ghost use Rattle.vx_class.specs.Members.{takes_code, slots_of, is_lawful_initialiser};
 ghost use Rattle.vx_class_parts.specs.Rules.{is_short, is_lawful_class, is_plain_class, is_lawful_field, is_lawful_method, is_int_base, is_value_of_type, is_number_for, is_value_for, is_nothing, may_have_value, receiver, is_lawful_code, interface_slots, has_dimensions};
 
 use std::alloc::{AllocError, Global};
 use vx_class::{ABSTRACT, INTERFACE, NATIVE, STATIC, has};
-use vx_code::{dimensions, is_array};
+use vx_pool::{dimensions, is_array};
 use vx_desc::{
     Base, JavaType, field_type, is_class_name, is_clinit, is_field_descriptor, is_field_name,
     is_init, is_method_name, method_slots, returns_nothing,

@@ -7,12 +7,13 @@ use crate::constants::{Constant, width};
 use indexmap::IndexMap;
 use std::alloc::{AllocError, Global};
 use std::marker::Model;
+use vx_list::Keyed;
 
 /// Constants in order, each once, found by their hashes. Contracts see the list of them.
 #[derive(Drop)]
 pub struct ConstantTable {
     /// The index of each constant: a long takes two places.
-    indices: IndexMap<Constant, u128>,
+    indices: IndexMap<Constant, u128, Keyed>,
     places: u128,
 }
 
@@ -30,12 +31,12 @@ impl Model for ConstantTable {
 }
 
 impl ConstantTable {
-    /// No constants.
-    pub fn new(alloc: Global) -> ConstantTable
+    /// No constants. Hashes begin with a key that is made of all from which constants come.
+    pub fn new(alloc: Global, key: Keyed) -> ConstantTable
         ensures { result ≡ [] }
     {
         ConstantTable {
-            indices: IndexMap::new(alloc),
+            indices: IndexMap::with_hasher(alloc, key),
             places: 1,
         }
     }

@@ -8,7 +8,7 @@ use Rattle.vx_plans.specs.declared.status.Status.{Status}
 use Rattle.vx_plans.specs.declared.status.Status.TheVariants.{Done, NoMemory, ReadFault, WriteFault, BadSource, TooLarge}
 use Rattle.vx_report_commands.specs.Assemble.{or_bad_source, assembled, asm_plan}
 use Rattle.vx_cli.specs.Causes.{AsmCause, Shows, IsShown, IsGood, NothingFails}
-use Rattle.vx_commands.specs.Command.{Asm}
+use Rattle.vx_cli.specs.Command.{Asm}
 use Rattle.vx_plans.specs.Job.{Exactly}
 use Rattle.vx_plans.specs.Plan.{MayGive, Write, attempt, Outcome}
 use Rattle.vx_plans.specs.Sized.{most_bytes}
@@ -33,7 +33,7 @@ asm_shows old new path outcome g = by_file (sized_shows old new most_bytes path 
         let is = source_refused (named bytes) bad.0 bad.1 in
         refused (BadSource is.0 is.1) (bad.2 ∙ ap Err is.2) (told_map old.held _ _ (λ held h. (h.0, ap assembled (sym h.1) ∙ bad.1 ∙ ap Err is.2)) told)
     by_text bytes told (inr good) =
-        rw good.2.2 (refl, told_map old.held _ _ (λ held h. record { fits = h.0; is_text = ap assembled (sym h.1) ∙ good.1 ∙ ap Ok (sym good.2.1) }) told)
+        rw good.2.2 (inl (refl, told_map old.held _ _ (λ held h. record { fits = h.0; is_text = ap assembled (sym h.1) ∙ good.1 ∙ ap Ok (sym good.2.1) }) told))
 
     by_file : SizedShows old new most_bytes path path (λ bytes. attempt (assembled bytes) (λ text. Write (Exactly text))) outcome → Shows old new (Asm path) outcome
     by_file (inl (inl fault)) = refused (ReadFault path) fault.1 (refl, fault.0)

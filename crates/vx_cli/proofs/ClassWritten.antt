@@ -9,7 +9,7 @@ use Rattle.vx_io.specs.Sink.{Gains, SinkState}
 use Rattle.vx_writer.specs.Written.{spelling}
 use Rattle.vx_report_commands.specs.Assemble.{or_bad_source}
 use Rattle.vx_cli.specs.Causes.{IsAssembled, IsClassWritten, IsShown}
-use Rattle.vx_commands.specs.Command.{Asm}
+use Rattle.vx_cli.specs.Command.{Asm}
 use Rattle.vx_cli.specs.Ends.{Ends}
 use Rattle.vx_cli.specs.PlanOf.{plan_of}
 use Rattle.vx_plans.specs.declared.status.Status.{Status}

@@ -21,8 +21,8 @@ use Rattle.vx_plans.specs.Sized.{most_bytes}
 use Rattle.vx_plans.proofs.Told.{IsText, SizedShows, attempt_cases, ok_and_err, same_value, sized_shows, told_both, told_map, unless_cases}
 use Rattle.vx_inputs.specs.Reports.{most_report_bytes, read_report}
 use Rattle.vx_cut_command.specs.Cut.{Choice, GivesParts, IsChosen, IsOversized, IsUnchosen, Many, Named, choose, cut_by, cut_plan, cut_source, if_few, most_chosen, named_options, oversized, read_like, too_few, unlike_model}
-use Rattle.vx_commands.specs.Command.{Cut}
-use Rattle.vx_cli.specs.Causes.{CutCause, HasGoodModel, HasLargePart, HasNoChoice, IsBadAt, IsGood, IsGoodModel, IsLikeIn, IsModelOf, IsParted, IsReportIn, IsShown, IsNamed, IsUnlikeModel, NoReportRose, NothingFails, Shows}
+use Rattle.vx_cli.specs.Command.{Cut}
+use Rattle.vx_cli.specs.Causes.{CutCause, HasGoodModel, HasLargePart, HasNoChoice, IsBadAt, IsGood, IsGoodModel, IsLikeIn, IsModelOf, IsParted, IsReportIn, IsShown, IsNamed, IsUnlikeModel, NoFileRose, NothingFails, Shows}
 use Rattle.vx_cli.proofs.ReportTold.{ReportShows, not_bad, report_shows}
 use Rattle.vx_cli.proofs.RunShown.{model_refused}
 
@@ -104,7 +104,7 @@ cut_shows old new path choice report outcome g = by_file (sized_shows old new mo
         }) told like)))
     by_parts bytes model chosen is told like (inr good) =
         let made = good.1 in
-        rw made.2 (
+        rw made.2 (inl (
           refl,
           told_both old.held _ _ _ (λ held h k. record {
             model = model;
@@ -112,7 +112,7 @@ cut_shows old new path choice report outcome g = by_file (sized_shows old new mo
             like = k;
             gives = subst (λ b. GivesParts path b choice model made.0) h.own (record { chosen = chosen; is_chosen = is; fits = good.0; shows = made.1 });
           }) told like,
-        )
+        ))
 
     by_choice : (bytes : List ℕ) (model : Model) → IfSome old.held (λ held. IsRead held path bytes model) → IfSome old.held (λ held. IsLikeIn held report model) → Chooses old new path bytes choice model outcome → Shows old new (Cut path choice report) outcome
     by_choice bytes model told like (inl bad) =
@@ -177,7 +177,7 @@ cut_completes old new out out' path choice report held status told good fails sh
     same_model m h = same_value m good.0 _ h.spelled.reads good.1.spelled.reads
 
     no_rose : (q : List ℕ) → report ≡ Some q → new.faults (Reading q) ≤ old.faults (Reading q)
-    no_rose q is = subst (NoReportRose old new) is fails.1
+    no_rose q is = subst (NoFileRose old new) is fails.1
 
     like_at : (q : List ℕ) → report ≡ Some q → (r : Report) × IsReportIn held q r × (unlike_model r good.0 ≡ None)
     like_at q is = subst (λ o. IsLikeIn held o good.0) is good.2

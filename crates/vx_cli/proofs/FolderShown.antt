@@ -4,8 +4,8 @@ use Rattle.std.proofs.lemmas.List.Elements.{All-nil, All-push}
 use Rattle.std.specs.Prelude.{All, IsTrue}
 use Rattle.std.specs.List.{AllByRecursion}
 use Rattle.vx_io.specs.Held.{Held, FilesState}
-use Rattle.vx_cursor.specs.Place.{IsBytes}
-use Rattle.vx_cursor.specs.Reading.{Fault}
+use Rattle.vx_pool.specs.Place.{IsBytes}
+use Rattle.vx_pool.specs.Reading.{Fault}
 use Rattle.vx_class.specs.declared.class_file.ClassFile.{ClassFile}
 use Rattle.vx_class.proofs.ClassTook.{class_took}
 use Rattle.vx_class.specs.Class.{class_of}

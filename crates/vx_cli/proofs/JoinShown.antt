@@ -12,7 +12,7 @@ use Rattle.vx_plans.specs.declared.status.Status.{Status}
 use Rattle.vx_plans.specs.declared.status.Status.TheVariants.{Done, NoMemory, ReadFault, WriteFault, BadReport, TooLarge, Unlike, NotJoinable}
 use Rattle.vx_report_commands.specs.Join.{are_like, join_plan, join_reports, unjoined}
 use Rattle.vx_cli.specs.Causes.{AreReportsIn, AreUnjoined, HasReport, IsBadAt, IsReachedAmong, IsReportIn, Shows, IsShown, IsGood, NothingFails}
-use Rattle.vx_commands.specs.Command.{Join}
+use Rattle.vx_cli.specs.Command.{Join}
 use Rattle.vx_plans.specs.Job as product
 use Rattle.vx_plans.specs.Plan.{MayGive, Write, Outcome}
 use Rattle.vx_inputs.specs.Reports.{most_report_bytes, read_reports}
@@ -57,7 +57,7 @@ join_from old new all before [] front outcome split told g = by_reason (unless_c
 
     by_reason : ((status : Status) × (unjoined front ≡ Some status) × (outcome ≡ Err status)) ⊎ ((unjoined front ≡ None) × MayGive old.held old.faults new.faults (Write (product.Join front)) outcome) → Shows old new (Join all) outcome
     by_reason (inl bad) = by_status bad.0 bad.1 bad.2 (unjoined_cases front bad.0 bad.1)
-    by_reason (inr good) = rw good.1.2 (refl, told_map old.held _ _ (λ held h. record { reports = front; are = there held h; joinable = good.0; is_text = good.1.1 }) told)
+    by_reason (inr good) = rw good.1.2 (inl (refl, told_map old.held _ _ (λ held h. record { reports = front; are = there held h; joinable = good.0; is_text = good.1.1 }) told))
 join_from old new all before (path ∷ paths) front outcome split told g =
     by_file (report_shows old new path (λ report. read_reports join_reports (front ++ report ∷ []) paths) outcome g)
     (λ report read more. join_from old new all (before ++ path ∷ []) paths (front ++ report ∷ []) outcome (split ∙ sym (append_assoc before (path ∷ []) paths)) read more)

@@ -12,7 +12,7 @@ use Rattle.vx_report.specs.declared.report.Report.{Report}
 use Rattle.vx_report_reader.proofs.Verdicts.{report_same}
 use Rattle.vx_cli.specs.Causes.{AreReportsIn, IsJoining, IsReportIn, IsShown}
 use Rattle.vx_cli.specs.Parts.{AreParts, IsPart, IsWholeWritten, Parts}
-use Rattle.vx_commands.specs.Command.{Join}
+use Rattle.vx_cli.specs.Command.{Join}
 use Rattle.vx_cli.specs.Ends.{Ends}
 use Rattle.vx_cli.specs.PlanOf.{plan_of}
 use Rattle.vx_plans.specs.declared.status.Status.{Status}

@@ -5,7 +5,7 @@ use Rattle.vx_io.specs.Sink.{SinkState}
 use Rattle.vx_plans.specs.declared.status.Status.{Status}
 use Rattle.vx_plans.specs.declared.status.Status.TheVariants.{Done, NoMemory, WriteFault}
 use Rattle.vx_cli.specs.Causes.{Shows, IsShown, NothingFails}
-use Rattle.vx_commands.specs.Command.{Load}
+use Rattle.vx_cli.specs.Command.{Load}
 use Rattle.vx_plans.specs.Plan.{MayGive, Outcome}
 use Rattle.vx_cli.specs.PlanOf.{plan_of}
 
@@ -15,7 +15,7 @@ always (Some held) x = x
 
 -- whatever the plan gave is the summary
 pub load_shows : (old new : FilesState) (seed options : ℕ) (outcome : Outcome) → MayGive old.held old.faults new.faults (plan_of (Load seed options)) outcome → Shows old new (Load seed options) outcome
-load_shows old new seed options outcome g = rw g.2 (refl, always old.held g.1)
+load_shows old new seed options outcome g = rw g.2 (inl (refl, always old.held g.1))
 
 -- where nothing fails, it is done
 pub load_completes : (old new : FilesState) (out out' : SinkState) (seed options : ℕ) (held : Held) (status : Status) → NothingFails held old new out out' (Load seed options)

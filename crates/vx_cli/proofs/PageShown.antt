@@ -2,11 +2,11 @@
 use Rattle.std.proofs.Common.{◌≡◌, IfSome, Option, None, Some, inl, inr, ◌⊎◌, refl}
 use Rattle.vx_io.specs.Held.{Held, FilesState}
 use Rattle.vx_io.specs.Sink.{SinkState}
-use Rattle.vx_commands.specs.declared.page.Page.{Page}
+use Rattle.vx_cli.specs.declared.page.Page.{Page}
 use Rattle.vx_plans.specs.declared.status.Status.{Status}
 use Rattle.vx_plans.specs.declared.status.Status.TheVariants.{Done, NoMemory, WriteFault}
 use Rattle.vx_cli.specs.Causes.{Shows, IsShown, NothingFails}
-use Rattle.vx_commands.specs.Command.{Show}
+use Rattle.vx_cli.specs.Command.{Show}
 use Rattle.vx_plans.specs.Plan.{MayGive, Outcome}
 use Rattle.vx_cli.specs.PlanOf.{plan_of}
 
@@ -16,7 +16,7 @@ always (Some held) x = x
 
 -- whatever the plan gave is the page
 pub page_shows : (old new : FilesState) (page : Page) (outcome : Outcome) → MayGive old.held old.faults new.faults (plan_of (Show page)) outcome → Shows old new (Show page) outcome
-page_shows old new page outcome g = rw g.2 (refl, always old.held g.1)
+page_shows old new page outcome g = rw g.2 (inl (refl, always old.held g.1))
 
 -- a page, where nothing fails, is done
 pub page_completes : (old new : FilesState) (out out' : SinkState) (page : Page) (held : Held) (status : Status) → NothingFails held old new out out' (Show page)

@@ -6,7 +6,7 @@ use Rattle.vx_value.specs.declared.end.Stream.{Stream}
 use Rattle.vx_plans.specs.declared.status.Status.{Status}
 use Rattle.vx_plans.specs.declared.status.Status.TheVariants.{Done, NoMemory, WriteFault, NotAllowed}
 use Rattle.vx_cli.specs.Causes.{Shows, IsShown, IsGood, NothingFails}
-use Rattle.vx_commands.specs.Command.{Output, Project}
+use Rattle.vx_cli.specs.Command.{Output, Project}
 use Rattle.vx_plans.specs.Plan.{MayGive, Outcome}
 use Rattle.vx_report_commands.specs.Output.{output_plan, printed}
 use Rattle.vx_report_commands.specs.Project.{or_not_allowed, projected, project_plan}

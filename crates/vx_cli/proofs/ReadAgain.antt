@@ -14,7 +14,7 @@ use Rattle.vx_report_reader.proofs.Verdicts.{no_front, report_same}
 use Rattle.vx_report_reader.specs.Reading.{IsCutOff}
 use Rattle.vx_cli.specs.Again.{Asked, IsReportFile, asked_text}
 use Rattle.vx_cli.specs.Causes.{IsGood, IsProjection, IsResult, IsShown}
-use Rattle.vx_commands.specs.Command.{Project}
+use Rattle.vx_cli.specs.Command.{Project}
 use Rattle.vx_configuration.specs.Configuration.{are_distinct, configuration_of, is_among, names_in}
 use Rattle.vx_cli.specs.Ends.{Ends}
 use Rattle.vx_plans.specs.Job.{names_of}

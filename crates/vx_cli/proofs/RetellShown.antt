@@ -4,7 +4,7 @@ use Rattle.std.specs.Prelude.{if◌then◌else◌}
 use Rattle.vx_class.specs.declared.class_file.ClassFile.{ClassFile}
 use Rattle.vx_class.specs.Class.{class_of}
 use Rattle.vx_configuration.specs.Configuration.{configuration_of}
-use Rattle.vx_cursor.specs.Reading.{Fault, ◌>>=◌}
+use Rattle.vx_pool.specs.Reading.{Fault, ◌>>=◌}
 use Rattle.vx_io.specs.Held.{Held, FilesState}
 use Rattle.vx_io.specs.Sink.{SinkState}
 use Rattle.vx_link.specs.Linked.{linked_program}
@@ -16,7 +16,7 @@ use Rattle.vx_plans.specs.declared.status.Status.{Status}
 use Rattle.vx_plans.specs.declared.status.Status.TheVariants.{Done, NoMemory, WriteFault, BadLink, NotAllowed}
 use Rattle.vx_inputs.specs.declared.taken.Traced.{Traced}
 use Rattle.vx_cli.specs.Causes.{AreAll, AreAllGiven, IsModelOf, Shows, IsShown, IsGood, NothingFails, RetellCause, VerifyCause}
-use Rattle.vx_commands.specs.Command.{Retell}
+use Rattle.vx_cli.specs.Command.{Retell}
 use Rattle.vx_plans.specs.Job.{Exactly, names_of, slashed}
 use Rattle.vx_plans.specs.Plan.{MayGive, Write, attempt, Outcome}
 use Rattle.vx_run_commands.specs.Retell.{allowed_at, if_allowed, retell_classes, retell_plan, retold_text, traced_program}
@@ -89,7 +89,7 @@ retell_shows old new retelling folder path main limit word outcome g =
     by_program model c paths traced modeled allowed all (inl bad) = by_refusal model paths traced modeled all bad.0 bad.2 (refused_program main model (map (λ (t : Traced). t.class) traced) bad.0 bad.1)
     by_program model c paths traced modeled allowed all (inr good) =
         let written = good.2 in
-        rw written.2 (
+        rw written.2 (inl (
           refl,
           told_both old.held _ _ _ (λ held m h. record {
             model = model;
@@ -101,7 +101,7 @@ retell_shows old new retelling folder path main limit word outcome g =
             all = h;
             retold = record { program = good.0; is_program = good.1; is_text = written.1 };
           }) modeled all,
-        )
+        ))
 
     by_folder : (model : Model) (c : List Bool) → IfSome old.held (λ held. IsModelOf held path model) → allowed_at model word ≡ Ok c → FolderShows traced_of (λ t. t.class) old new folder path (retell_classes retelling main limit model c) outcome → Shows old new (Retell retelling folder path main limit word) outcome
     by_folder model c modeled allowed (inl stop) = refused stop.0 stop.1 (retell_cause old new folder path main word stop.0 (input_cause old new folder path main stop.0 stop.2))

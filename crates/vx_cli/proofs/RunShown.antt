@@ -14,7 +14,7 @@ use Rattle.vx_link.specs.declared.program.Program.{Program}
 use Rattle.vx_plans.specs.declared.status.Status.{Status}
 use Rattle.vx_plans.specs.declared.status.Status.TheVariants.{Done, NoMemory, ReadFault, WriteFault, BadModel, NoConfiguration, BadClass, BadLink, TooLarge}
 use Rattle.vx_cli.specs.Causes.{HasClasses, IsReached, IsModelOf, IsGoodModel, IsNotLinked, AreAll, class_bytes, InputCause, RunCause, Shows, IsShown, IsGood, NothingFails}
-use Rattle.vx_commands.specs.Command.{Run}
+use Rattle.vx_cli.specs.Command.{Run}
 use Rattle.vx_plans.specs.Job.{model_of, or_bad_link, or_bad_model, program_in, slashed, spelled_model, Report}
 use Rattle.vx_plans.specs.Plan.{Plan, MayGive, Write, If_allowed, AllowsSome, AllowsNone, attempt, Outcome}
 use Rattle.vx_inputs.specs.ModelFile.{read_model}
@@ -111,7 +111,7 @@ run_shows old new folder path main limit version outcome g = by_model (model_sho
     by_program model paths classes modeled all (inl bad) = by_refusal model paths classes modeled all bad.0 bad.2 (refused_program main model classes bad.0 bad.1)
     by_program model paths classes modeled all (inr good) =
         let written = good.2 in
-        rw written.2 (
+        rw written.2 (inl (
           refl,
           told_both old.held _ _ _ (λ held m h. record {
             model = model;
@@ -121,7 +121,7 @@ run_shows old new folder path main limit version outcome g = by_model (model_sho
             all = h;
             reported = record { program = good.0; is_program = good.1; is_report = written.1 };
           }) modeled all,
-        )
+        ))
 
     by_folder : (model : Model) → IfSome old.held (λ held. IsGoodModel held path model) → FolderShows class_of (λ class. class) old new folder path (run_classes main limit version model) outcome → Shows old new (Run folder path main limit version) outcome
     by_folder model modeled (inl stop) = refused stop.0 stop.1 (run_cause old new folder path main stop.0 stop.2)

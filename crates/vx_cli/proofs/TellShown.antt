@@ -6,7 +6,7 @@ use Rattle.vx_report.specs.declared.report.Report.{Report}
 use Rattle.vx_plans.specs.declared.status.Status.{Status}
 use Rattle.vx_plans.specs.declared.status.Status.TheVariants.{Done, NoMemory, ReadFault, WriteFault, BadReport, NotAllowed, TooLarge}
 use Rattle.vx_cli.specs.Causes.{TellCause, IsBadAt, IsReportIn, Shows, IsShown, IsGood, NothingFails}
-use Rattle.vx_commands.specs.Command.{Tell}
+use Rattle.vx_cli.specs.Command.{Tell}
 use Rattle.vx_plans.specs.Job.{Told}
 use Rattle.vx_plans.specs.Plan.{MayGive, Write, Outcome}
 use Rattle.vx_inputs.specs.Reports.{most_report_bytes}
@@ -31,7 +31,7 @@ tell_shows old new telling path outcome g = by_file (report_shows old new path (
         refused NotAllowed (bad.2 ∙ ap Err is) (told_map old.held _ _ (λ held h. (report, h, bad.1 ∙ ap Some is)) told)
     by_text report told (inr good) =
         let made = good.1 in
-        rw made.2 (refl, told_map old.held _ _ (λ held h. record { report = report; is_report = h; is_there = good.0; is_text = made.1 }) told)
+        rw made.2 (inl (refl, told_map old.held _ _ (λ held h. record { report = report; is_report = h; is_there = good.0; is_text = made.1 }) told))
 
     by_file : ReportShows old new path (tell_report telling) outcome → Shows old new (Tell telling path) outcome
     by_file (inl fault) = refused (ReadFault path) fault.1 (refl, fault.0)

@@ -14,7 +14,7 @@ use Rattle.vx_link.specs.declared.program.Program.{Program}
 use Rattle.vx_plans.specs.declared.status.Status.{Status}
 use Rattle.vx_plans.specs.declared.status.Status.TheVariants.{Done, NoMemory, ReadFault, WriteFault, BadModel, BadClass, BadLink, TooLarge}
 use Rattle.vx_cli.specs.Causes.{HasClasses, InputCause, IsReached, IsModelOf, IsUnlinked, AreAll, class_bytes, Shows, IsShown, IsGood, NothingFails, VerifyCause}
-use Rattle.vx_commands.specs.Command.{Verify}
+use Rattle.vx_cli.specs.Command.{Verify}
 use Rattle.vx_plans.specs.Job.{Judged, model_of, program_in, slashed}
 use Rattle.vx_plans.specs.Plan.{Plan, MayGive, Write, attempt, Outcome}
 use Rattle.vx_inputs.specs.Folder.{most_classes, read_folder}
@@ -118,7 +118,7 @@ pub verify_shows : (old new : FilesState) (folder path main : List ℕ) (outcome
 verify_shows old new folder path main (Ok said) g =
     let all = verify_gave old new folder path main (Ok said) g in
     let gave : IsJudged old folder path main said.0 = all.1 in
-    (all.0, told_both old.held _ _ _ (λ held m h. record { model = gave.model; modeled = m; paths = gave.paths; classes = gave.classes; all = h; judged = gave.judged }) gave.modeled gave.all)
+    inl (all.0, told_both old.held _ _ _ (λ held m h. record { model = gave.model; modeled = m; paths = gave.paths; classes = gave.classes; all = h; judged = gave.judged }) gave.modeled gave.all)
 verify_shows old new folder path main (Err status) g = verify_gave old new folder path main (Err status) g
 
 -- nothing refuses good files, where nothing fails

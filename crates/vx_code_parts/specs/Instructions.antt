@@ -5,7 +5,7 @@ use Rattle.std.specs.Int.{w16, w32, cast_unsigned}
 use Rattle.byteorder.specs.Endian.{big_bytes}
 use Rattle.vx_class.specs.Spelling.{u2}
 use Rattle.vx_opcode.specs.declared.instruction.Operand.TheVariants as plain
-use Rattle.vx_code.specs.Instructions.{local_of, is_long_local, is_callable, dimensions}
+use Rattle.vx_pool.specs.Instructions.{local_of, is_long_local, is_callable, dimensions}
 use Rattle.vx_source_words.specs.Reading.{Read, check}
 use Rattle.vx_source.specs.declared.statement.Operand.{Operand}
 use Rattle.vx_source.specs.declared.statement.Operand.TheVariants as operand

@@ -2,7 +2,7 @@
 
 ghost use Rattle.std.specs.Prelude.{◌≡◌, ◌==◌, ◌||◌, not, nat_lt, None, option_copied, IfOk};
 ghost use Rattle.std.specs.List.{list_all};
-ghost use Rattle.vx_code.specs.Instructions.{local_of, is_long_local};
+ghost use Rattle.vx_pool.specs.Instructions.{local_of, is_long_local};
 ghost use Rattle.vx_opcode.specs.declared.instruction.Operand.TheVariants as plain;
 ghost use Rattle.vx_class_parts.specs.Rules.{interface_slots};
 ghost use Rattle.vx_source_words.specs.Reading.{Gives};
@@ -14,7 +14,7 @@ use vx_class_parts::{
     has_dimensions, interface_slots, is_lawful_class, is_lawful_field, is_lawful_method,
     is_plain_class,
 };
-use vx_code::{dimensions, is_callable};
+use vx_pool::{dimensions, is_callable};
 use vx_source::{Case, Instruction, Member, Operand};
 use vx_source_words::{ANEWARRAY, INVOKEINTERFACE, LineFault, NEW, PUTFIELD, refused};
 use vx_value::Name;

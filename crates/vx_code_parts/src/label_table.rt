@@ -10,7 +10,7 @@ use crate::items::pushed;
 use indexmap::IndexMap;
 use std::alloc::{AllocError, Global};
 use std::marker::Model;
-use vx_list::Items;
+use vx_list::{Items, Keyed};
 use vx_value::Name;
 
 /// A label, and the number of the instruction behind it.
@@ -25,7 +25,7 @@ pub struct Label {
 pub struct LabelTable {
     labels: Items<Label>,
     /// The place of the first label of each name.
-    firsts: IndexMap<Vec<u8>, usize>,
+    firsts: IndexMap<Vec<u8>, usize, Keyed>,
 }
 
 impl Model for LabelTable {
@@ -43,10 +43,10 @@ impl Model for LabelTable {
 /// Places with that of a name, unless it has one.
 fn with_first(
     alloc: Global,
-    firsts: IndexMap<Vec<u8>, usize>,
+    firsts: IndexMap<Vec<u8>, usize, Keyed>,
     name: &[u8],
     place: usize,
-) -> Result<IndexMap<Vec<u8>, usize>, AllocError>
+) -> Result<IndexMap<Vec<u8>, usize, Keyed>, AllocError>
     ensures { IfOk result (λ m. (n : List ℕ) → first_of m n ≡ option_or (first_of firsts n) (if bytes_eq name.now n then Some place else None)) }
 {
     if firsts.contains_key(name) {
@@ -58,13 +58,13 @@ fn with_first(
 }
 
 impl LabelTable {
-    /// No labels.
-    pub fn new(alloc: Global) -> LabelTable
+    /// No labels. Hashes begin with a key that is made of all labels that may come.
+    pub fn new(alloc: Global, key: Keyed) -> LabelTable
         ensures { result ≡ [] }
     {
         LabelTable {
             labels: Items::of(Vec::new(alloc)),
-            firsts: IndexMap::new(alloc),
+            firsts: IndexMap::with_hasher(alloc, key),
         }
     }
 

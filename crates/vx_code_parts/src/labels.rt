@@ -5,6 +5,8 @@ ghost use Rattle.vx_code_parts.specs.Bodies.{after, labels_of};
 
 use crate::label_table::{Label, LabelTable};
 use std::alloc::{AllocError, Global};
+use std::hash::{DefaultHasher, Hasher};
+use vx_list::Keyed;
 use vx_source::{Said, SourceLine, Statement};
 use vx_value::Name;
 
@@ -48,12 +50,26 @@ fn after(alloc: Global, labels: Labels, said: &Said) -> Result<Labels, AllocErro
     }
 }
 
+/// A key that is made of the names of all labels.
+fn key_of(lines: &[SourceLine]) -> Keyed {
+    let mut read = DefaultHasher::new();
+    for line in lines {
+        if line.ends_body {
+            return Keyed::after(&read);
+        }
+        if let Said::Statement(Statement::Label(name)) = &line.said {
+            read.write(name.bytes());
+        }
+    }
+    Keyed::after(&read)
+}
+
 /// The labels of the lines up to the end of a body.
 pub fn labels_of(alloc: Global, lines: &[SourceLine]) -> Result<Labels, AllocError>
     ensures { IfOk result (λ l. l ≡ labels_of lines.now) }
 {
     let mut labels = Labels {
-        labels: LabelTable::new(alloc),
+        labels: LabelTable::new(alloc, key_of(lines)),
         instructions: 0,
     };
     for line in lines {

@@ -1,6 +1,6 @@
 //! Conditional values: distinct leaves in ascending value, with nonempty disjoint conditions whose union is the scope.
 
-ghost use Rattle.std.specs.Prelude.{◌≡◌, ◌++◌, [], false, Some, IfOk, OnOk, IsNone, ◌↔◌};
+ghost use Rattle.std.specs.Prelude.{◌≡◌, ◌++◌, [], false, Some, IfOk, OnErr, OnOk, IsNone, ◌↔◌};
 ghost use Rattle.vx_space.specs.Sets.{IsKnown, Extends};
 
 use crate::leaves::{
@@ -10,6 +10,7 @@ use crate::leaves::{
 use crate::projects::Projects;
 use std::alloc::{AllocError, Global};
 use std::marker::Model;
+use vx_list::or_cut_back;
 use vx_space::{Config, Space, SpaceFault};
 use vx_value::Exact;
 
@@ -189,12 +190,15 @@ impl<T: Exact, S: Space> Cond<T, S> {
         Ok(Cond::of(self.scope(), leaves))
     }
 
-    /// Appends just the ids held: the scope, then the conditions of the leaves.
+    /// Appends just the ids held: the scope, then the conditions of the leaves. Want of memory leaves the list as it was.
+    #[tactic(auto, using(std::proofs::lemmas::List::append_assoc, std::proofs::lemmas::List::take_at))]
     pub fn ids_out(&self, ids: &mut Vec<S::Id>) -> Result<(), AllocError>
         ensures ok { OnOk result (ids.new.items ≡ ids.old.items ++ cond_ids self.now) }
+        ensures err { OnErr result (ids.new.items ≡ ids.old.items) }
     {
+        let held = ids.len();
         ids.push(self.scope())?;
-        conditions_out(self.leaves(), ids)
+        or_cut_back(conditions_out(self.leaves(), ids), ids, held)
     }
 }
 

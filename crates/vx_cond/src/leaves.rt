@@ -1,6 +1,6 @@
 //! Leaves: ascending values with the conditions under which they hold. Each call is a loop of `add`.
 
-ghost use Rattle.std.specs.Prelude.{◌≡◌, ◌<◌, ◌≤◌, ◌+◌, ◌-◌, if◌then◌else◌, IsTrue, length, OnOk, IfOk, ◌++◌, map};
+ghost use Rattle.std.specs.Prelude.{◌≡◌, ◌<◌, ◌≤◌, ◌+◌, ◌-◌, if◌then◌else◌, IsTrue, length, OnErr, OnOk, IfOk, ◌++◌, map};
 ghost use Rattle.vx_space.specs.Sets.{IsKnown, Extends};
 ghost use Rattle.vx_cond.specs.Merges.{HasNext};
 ghost use Rattle.vx_cond.specs.Leaves.{IsPlace, AreAscending, AreLeaves, IsApart, AreLeavesOf, value_at, value_under, value_within, first_of, AreLeavesApart, AreLifted, AreLifted2, IsLiftedUnder};
@@ -8,6 +8,7 @@ ghost use Rattle.vx_cond.specs.Leaves.{IsPlace, AreAscending, AreLeaves, IsApart
 use crate::cond::Leaf;
 use std::alloc::{AllocError, Global};
 use std::cmp::Ordering;
+use vx_list::{or_cut_back, put_one};
 use vx_space::{Config, Space, SpaceFault};
 use vx_value::Exact;
 
@@ -265,15 +266,18 @@ pub(crate) fn value_of_leaves<T: Exact, S: Space>(
     None
 }
 
-/// Appends the conditions.
+/// Appends the conditions. Want of memory leaves the list as it was.
+#[tactic(auto, using(std::proofs::lemmas::List::append_assoc, std::proofs::lemmas::List::take_at))]
 pub(crate) fn conditions_out<T: Exact, S: Space>(
     leaves: &[Leaf<T, S>],
     ids: &mut Vec<S::Id>,
 ) -> Result<(), AllocError>
-    ensures { OnOk result (ids.new.items ≡ ids.old.items ++ map (λ leaf. leaf.condition) leaves.now) }
+    ensures ok { OnOk result (ids.new.items ≡ ids.old.items ++ map (λ leaf. leaf.condition) leaves.now) }
+    ensures err { OnErr result (ids.new.items ≡ ids.old.items) }
 {
+    let held = ids.len();
     for leaf in leaves {
-        ids.push(leaf.condition)?;
+        or_cut_back(put_one(ids, leaf.condition), ids, held)?;
     }
     Ok(())
 }

@@ -1,6 +1,6 @@
 //! What every container of conditions has: the ids that it holds, and its plain value at each configuration.
 
-ghost use Rattle.std.specs.Prelude.{◌≡◌, ◌++◌, Bool, List, OnOk};
+ghost use Rattle.std.specs.Prelude.{◌≡◌, ◌++◌, Bool, List, OnErr, OnOk};
 ghost use Rattle.vx_space.specs.Sets.{Sets, AreKept};
 
 use std::alloc::AllocError;
@@ -17,9 +17,10 @@ pub trait Projects<S: Space> {
     /// The plain value at a configuration, over what a space knows.
     ghost plain: { Sets S.Id → Self → List Bool → Plain };
 
-    /// Appends just the ids held.
+    /// Appends just the ids held. Want of memory leaves the list as it was.
     fn ids_out(&self, out: &mut Vec<S::Id>) -> Result<(), AllocError>
-        ensures ok { OnOk result (out.new.items ≡ out.old.items ++ ids self.now) };
+        ensures ok { OnOk result (out.new.items ≡ out.old.items ++ ids self.now) }
+        ensures err { OnErr result (out.new.items ≡ out.old.items) };
 
     /// The law of keeping: over two spaces in which each of its ids has the same set, the plain value at each
     /// configuration is the same.

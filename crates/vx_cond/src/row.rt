@@ -9,6 +9,7 @@ use crate::cond::Cond;
 use crate::projects::Projects;
 use std::alloc::{AllocError, Global};
 use std::marker::Model;
+use vx_list::or_cut_back;
 use vx_space::{Space, SpaceFault};
 use vx_value::Exact;
 
@@ -148,13 +149,16 @@ impl<T: Exact, S: Space> Row<T, S> {
         Ok(Row::of(scope, conds))
     }
 
-    /// Appends just the ids held: the scope, then those of each conditional value.
+    /// Appends just the ids held: the scope, then those of each conditional value. Want of memory leaves the list as it was.
+    #[tactic(auto, using(std::proofs::lemmas::List::append_assoc, std::proofs::lemmas::List::take_at))]
     pub fn ids_out(&self, ids: &mut Vec<S::Id>) -> Result<(), AllocError>
         ensures ok { OnOk result (ids.new.items ≡ ids.old.items ++ row_ids self.now) }
+        ensures err { OnErr result (ids.new.items ≡ ids.old.items) }
     {
+        let held = ids.len();
         ids.push(self.scope())?;
         for cond in self.conds() {
-            cond.ids_out(ids)?;
+            or_cut_back(cond.ids_out(ids), ids, held)?;
         }
         Ok(())
     }

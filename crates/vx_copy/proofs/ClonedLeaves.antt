@@ -17,8 +17,8 @@ use Rattle.vx_group_states.specs.Sites.{IsSomewhere}
 use Rattle.vx_group_states.specs.declared.answer.Answer.{Answer}
 use Rattle.vx_group_states.specs.declared.answer.Answer.TheVariants.{Give, Illegal, Raise}
 use Rattle.vx_group_states.proofs.Gathering.{AreLeaves-of, leaf_value}
-use Rattle.vx_growth.proofs.ChangeLaws.{changed_as}
-use Rattle.vx_growth.proofs.NameLaws.{new_name_is_next}
+use Rattle.vx_families.proofs.ChangeLaws.{changed_as}
+use Rattle.vx_families.proofs.NameLaws.{new_name_is_next}
 use Rattle.vx_heap.specs.Changing.{IsMadeAt, IsValueHeld, named_object, with_object}
 use Rattle.vx_heap.specs.Heap.{Globals, HeapView, IsHeap, globals_at, is_held, name_at, object_in, objects_at, value_of}
 use Rattle.vx_heap.proofs.Copying.{named_is}

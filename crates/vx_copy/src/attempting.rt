@@ -37,11 +37,9 @@ pub fn clone_arrays<S: Space>(
     let stack = &group.top_frame().stack;
     let count = stack.len();
     if count == 0 {
-        let ended = illegal(alloc, site.program, &group)?;
-        return Ok(ended);
+        return illegal(alloc, site.program, &group);
     }
     let receivers = stack.get(count - 1);
     let answers = clones(alloc, site.program, space, heap, receivers)?;
-    let outcomes = carry_out(alloc, site, space, group, 1, &answers)?;
-    Ok(outcomes)
+    carry_out(alloc, site, space, group, 1, &answers)
 }

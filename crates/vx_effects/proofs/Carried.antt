@@ -11,7 +11,7 @@ use Rattle.vx_group_states.specs.Answers.{answer_cmp}
 use Rattle.vx_group_states.specs.Sites.{IsSomewhere}
 use Rattle.vx_group_states.specs.declared.answer.Answer.{Answer}
 use Rattle.vx_group_states.specs.declared.answer.Answer.TheVariants as answer
-use Rattle.vx_growth.proofs.NameLaws.{name_stays, new_name_is_next}
+use Rattle.vx_families.proofs.NameLaws.{name_stays, new_name_is_next}
 use Rattle.vx_heap.proofs.Growing.{Grows-trans, is_held-grown, value_of-grown}
 use Rattle.vx_heap.specs.Changing.{IsChangedIn, IsMade, of_cells, with_cell_of, with_object}
 use Rattle.vx_heap.specs.Heap.{Globals, HeapView, IsHeap, IsTextPut, globals_at, is_held, name_at, objects_at, value_of}

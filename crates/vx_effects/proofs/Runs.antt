@@ -9,7 +9,7 @@ use Rattle.vx_cond.specs.Cond.{Conditional, IsCond, IsInside, cond_at}
 use Rattle.vx_cond.specs.Row.{Conditionals, conds_at}
 use Rattle.vx_cond.specs.Slots.{or_top, slot_at}
 use Rattle.vx_group_states.specs.Sites.{IsSomewhere}
-use Rattle.vx_growth.proofs.NameLaws.{name_stays}
+use Rattle.vx_families.proofs.NameLaws.{name_stays}
 use Rattle.vx_heap.proofs.Growing.{Grows-refl, Grows-trans, is_held-grown, value_of-grown}
 use Rattle.vx_heap.proofs.Known.{cond_known}
 use Rattle.vx_heap.proofs.Places.{place_of_some}

@@ -41,12 +41,12 @@ pub rule_same : {I : Type 0} {s0 s1 : Sets I} → Extends s0 s1 → (set scope l
 rule_same x set scope least most l m = λ i. if_few (terms_between (x.options i) 0 (λ c. l.test c i) (λ c. m.test c i))
 
 -- the rule of a set within a scope is true just where the set holds, among the configurations of the scope
-record IsRuleOf (options : ℕ) (set scope : List Bool → Bool) (terms : List (List Literal)) : Type 0 where
-  few : length terms ≤ 32
-  named : AreOf options terms
-  same : (c : List Bool) → scope c ≡ true → some_term_holds terms c ≡ set c
+pub record IsRuleOf (options : ℕ) (set scope : List Bool → Bool) (terms : List (List Literal)) : Type 0 where
+  pub few : length terms ≤ 32
+  pub named : AreOf options terms
+  pub same : (c : List Bool) → scope c ≡ true → some_term_holds terms c ≡ set c
 
-rule_is : (options : ℕ) (set scope : List Bool → Bool) → AsksFrom 0 options set → AsksFrom 0 options scope → IfSome (rule_within options set scope) (IsRuleOf options set scope)
+pub rule_is : (options : ℕ) (set scope : List Bool → Bool) → AsksFrom 0 options set → AsksFrom 0 options scope → IfSome (rule_within options set scope) (IsRuleOf options set scope)
 rule_is options set scope a b = by (nat_le (length terms) 32) refl
   where
     terms : List (List Literal)

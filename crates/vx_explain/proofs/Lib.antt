@@ -1,7 +1,7 @@
 mod Cycle
-mod Explaining
+pub mod Explaining
 mod Halves
 pub mod Printed
-mod Sums
+pub mod Sums
 mod TermSets
-mod Truths
+pub mod Truths

@@ -8,7 +8,8 @@ pub mod parts;
 pub mod terms;
 pub mod text;
 
-pub use explained::{Explained, explain};
+pub use explained::{Explained, bounds, explain};
 pub use law::rules_are_read_back;
-pub use literal::Literal;
-pub use text::explanation_text;
+pub use literal::{Literal, Term};
+pub use terms::few_terms;
+pub use text::{explanation_text, put_rule};

@@ -46,7 +46,7 @@ fn put_term(out: &mut Vec<u8>, names: &[Name], term: &[Literal]) -> Result<(), A
 
 /// Puts a rule: its terms, with `|` between them, or `false` for none.
 #[tactic(auto, unfolding(crate::specs::Text::rule_text))]
-fn put_rule(out: &mut Vec<u8>, names: &[Name], terms: &[Term]) -> Result<(), AllocError>
+pub fn put_rule(out: &mut Vec<u8>, names: &[Name], terms: &[Term]) -> Result<(), AllocError>
     ensures { OnOk result (out.new.items ≡ out.old.items ++ rule_text names.now terms.now) }
 {
     let Some((first, rest)) = terms.split_first() else {

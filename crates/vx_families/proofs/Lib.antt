@@ -1,3 +1,5 @@
+pub mod NameLaws
+pub mod ChangeLaws
 pub mod MoreTexts
 pub mod Given
 pub mod AttemptLaws

@@ -1,3 +1,6 @@
+pub mod Changing
+pub mod Laws
+pub mod Names
 pub mod Bounds
 pub mod Attempts
 pub mod Pushing

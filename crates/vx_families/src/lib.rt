@@ -2,14 +2,18 @@
 //! raises, and the sorts of slots.
 #![tactic(auto)]
 
+pub mod changes;
 pub mod endings;
 pub mod missing;
+pub mod names;
 pub mod pushing;
 pub mod sorts;
 pub mod words;
 
+pub use changes::{attempts_follow, changes_follow, outcomes_stay, statics_change_in};
 pub use endings::{core_class, raise, unsupported};
 pub use missing::no_class;
+pub use names::{names_are_references, values_stay};
 pub use pushing::push_answers;
 pub use sorts::slot_is_of;
 pub use words::{CLASS_WORD, CONSTANT_WORD, FIELD_WORD, FLOAT_WORD, METHOD_WORD, NATIVE_WORD};

@@ -29,6 +29,5 @@ pub fn no_class<S: Space>(
 {
     let class = class_of_method(site.program, group.top_frame().method);
     let what = Name::of(alloc, name_of_entry(site.program, class, index))?;
-    let ended = unsupported(alloc, site.program, group, CLASS_WORD, what)?;
-    Ok(ended)
+    unsupported(alloc, site.program, group, CLASS_WORD, what)
 }

@@ -36,9 +36,7 @@ pub fn push_answers<S: Space>(
     ensures gives { IfOk result (λ r. (heap : HeapView S S.Id) → AreHeld (S.sets space.old) heap (path_of group) answers.now → GivesAt site.now.program.now (answered_by site.now 0 (S.sets space.old) answers.now) (S.sets space.old) (S.sets space.new) group r.items.items heap) }
 {
     if group.top_frame().stack.len() >= usize::from(site.code.max_stack) {
-        let ended = illegal(alloc, site.program, &group)?;
-        return Ok(ended);
+        return illegal(alloc, site.program, &group);
     }
-    let outcomes = carry_out(alloc, site, space, group, 0, answers)?;
-    Ok(outcomes)
+    carry_out(alloc, site, space, group, 0, answers)
 }

@@ -3,7 +3,7 @@ use Rattle.std.proofs.Common.{◌≡◌, ℕ, ◌<◌, ◌^◌, zero, suc, Bool,
 use Rattle.std.proofs.lemmas.Bool.Decides.{nat_tests}
 use Rattle.std.specs.Prelude.{Option, Some, None, nat_lt, option_and_then, slice_get, unwrap_or}
 use Rattle.std.specs.List.{list_all}
-use Rattle.vx_code.specs.Lookups.{entry_of, member_descriptor, name_and_type, text, utf8}
+use Rattle.vx_pool.specs.Lookups.{entry_of, member_descriptor, name_and_type, text, utf8}
 use Rattle.vx_families.specs.Bounds.{IsBounded, has_short_texts, is_short, is_short_entry}
 use Rattle.vx_link.specs.Names.{member, member_named}
 use Rattle.vx_link.specs.Parts.{class_at, method_at, no_class, no_method}

@@ -193,11 +193,9 @@ fn get_fitting<S: Space>(
     ensures ok { IfOk result (λ r. (named : ℕ) → AttemptsBy site.now (λ s. got (record { named = named; field = field.0; type = field_type }) (here site.now s)) (S.sets space.old) (S.sets space.new) heap.old heap.new group r.items.items) }
 {
     if group.top_frame().stack.len() >= usize::from(site.code.max_stack) {
-        let ended = illegal(alloc, site.program, &group)?;
-        return Ok(ended);
+        return illegal(alloc, site.program, &group);
     }
-    let outcomes = get_found(alloc, site, space, heap, group, field, field_type)?;
-    Ok(outcomes)
+    get_found(alloc, site, space, heap, group, field, field_type)
 }
 
 /// Takes an operand off and goes past the instruction in the runs that proceed; the others stop.
@@ -274,11 +272,9 @@ fn put_fitting<S: Space>(
     ensures ok { IfOk result (λ r. (named : ℕ) → AttemptsBy site.now (λ s. put_value (here site.now s) (record { named = named; field = field.0; type = field_type }) s.top.operands) (S.sets space.old) (S.sets space.new) heap.old heap.new group r.items.items) }
 {
     if group.top_frame().stack.len() == 0 {
-        let ended = illegal(alloc, site.program, &group)?;
-        return Ok(ended);
+        return illegal(alloc, site.program, &group);
     }
-    let outcomes = put_found(alloc, site, space, heap, group, field, field_type)?;
-    Ok(outcomes)
+    put_found(alloc, site, space, heap, group, field, field_type)
 }
 
 /// The field that an entry of the pool of a class names, for an instruction of static fields or of those of objects.
@@ -319,14 +315,10 @@ fn get_static<S: Space>(
             field,
             field_type,
             ..
-        } => {
-            let outcomes = get_fitting(alloc, site, space, heap, group, field, field_type)?;
-            Ok(outcomes)
-        }
+        } => get_fitting(alloc, site, space, heap, group, field, field_type),
         missing => {
             let named = named_member(site.program, class, index);
-            let outcomes = unresolved(alloc, site, group, missing, &named)?;
-            Ok(outcomes)
+            unresolved(alloc, site, group, missing, &named)
         }
     }
 }
@@ -350,14 +342,10 @@ fn put_static<S: Space>(
             field,
             field_type,
             ..
-        } => {
-            let outcomes = put_fitting(alloc, site, space, heap, group, field, field_type)?;
-            Ok(outcomes)
-        }
+        } => put_fitting(alloc, site, space, heap, group, field, field_type),
         missing => {
             let named = named_member(site.program, class, index);
-            let outcomes = unresolved(alloc, site, group, missing, &named)?;
-            Ok(outcomes)
+            unresolved(alloc, site, group, missing, &named)
         }
     }
 }
@@ -379,14 +367,8 @@ pub fn attempt<S: Space>(
     ensures ok { IfOk result (λ r. IsAttemptBy site.now operation (S.sets space.old) (S.sets space.new) heap.old heap.new group r.items.items) }
 {
     match operation {
-        Operation::GetStatic(index) => {
-            let got = get_static(alloc, site, space, heap, index, group)?;
-            Ok(got)
-        }
-        Operation::PutStatic(index) => {
-            let put = put_static(alloc, site, space, heap, index, group)?;
-            Ok(put)
-        }
+        Operation::GetStatic(index) => get_static(alloc, site, space, heap, index, group),
+        Operation::PutStatic(index) => put_static(alloc, site, space, heap, index, group),
         _ => unreachable!(),
     }
 }

@@ -45,24 +45,18 @@ fn ended<S: Space>(
     let program = site.program;
     match reference {
         FieldReference::Found { .. } | FieldReference::Disagrees => unreachable!(),
-        FieldReference::NoType => {
-            let ended = illegal(alloc, program, group)?;
-            Ok(ended)
-        }
+        FieldReference::NoType => illegal(alloc, program, group),
         FieldReference::Floating => {
             let what = Name::of(alloc, b"-")?;
-            let floating = unsupported(alloc, program, group, FLOAT_WORD, what)?;
-            Ok(floating)
+            unsupported(alloc, program, group, FLOAT_WORD, what)
         }
         FieldReference::NoClass => {
             let what = Name::of(alloc, named.class)?;
-            let no_class = unsupported(alloc, program, group, CLASS_WORD, what)?;
-            Ok(no_class)
+            unsupported(alloc, program, group, CLASS_WORD, what)
         }
         FieldReference::NoField => {
             let what = field_text(alloc, named)?;
-            let no_field = unsupported(alloc, program, group, FIELD_WORD, what)?;
-            Ok(no_field)
+            unsupported(alloc, program, group, FIELD_WORD, what)
         }
     }
 }
@@ -88,6 +82,5 @@ pub fn unresolved<S: Space>(
         )?;
         return Ok(raised);
     }
-    let ended = ended(alloc, site, &group, reference, named)?;
-    Ok(ended)
+    ended(alloc, site, &group, reference, named)
 }

@@ -8,6 +8,7 @@ use vx_code_parts::{
     Draft, Labels, all_reach, check_instruction, code_bytes, constant_of, draft_of, is_known,
     is_of_version, labels_of, leads, next_place, number_of, place_of,
 };
+use vx_list::Keyed;
 use vx_pool::Entry;
 use vx_source::{Instruction, Operand, Said, SourceLine, Statement, Value, read_source};
 use vx_value::Name;
@@ -47,7 +48,7 @@ fn is_written(alloc: Global, pool: &ConstantTable) -> Result<bool, AllocError> {
 
 #[test]
 fn puts_each_constant_once_where_it_is_first_needed(rt: HostRuntime) {
-    let mut pool = ConstantTable::new(rt.alloc());
+    let mut pool = ConstantTable::new(rt.alloc(), Keyed::by(&[]));
     assert!(rt; fill(rt.alloc(), &mut pool).is_ok());
     assert!(rt; matches!(are_placed(rt.alloc(), &pool), Ok(true)));
     assert!(rt; matches!(is_written(rt.alloc(), &pool), Ok(true)));
@@ -124,7 +125,7 @@ fn writes_the_code_of_a_body(rt: HostRuntime) {
     let alloc = rt.alloc();
     let source = read_source(alloc, BODY).expect(&rt, "memory");
     let labels = labels_of(alloc, source.lines.as_slice()).expect(&rt, "memory");
-    let (mut pool, mut drafts) = (ConstantTable::new(alloc), Vec::new(alloc));
+    let (mut pool, mut drafts) = (ConstantTable::new(alloc, Keyed::by(&[])), Vec::new(alloc));
     let put = put_drafts(
         alloc,
         source.lines.as_slice(),

@@ -1,6 +1,6 @@
 //! Frames (JVMS 2.6): a row of locals and a row of operands of one scope, at one position of one method.
 
-ghost use Rattle.std.specs.Prelude.{◌≡◌, ◌++◌, ◌&&◌, ◌||◌, ◌<◌, ◌^◌, List, Bool, IfOk, OnOk, length, replicate};
+ghost use Rattle.std.specs.Prelude.{◌≡◌, ◌++◌, ◌&&◌, ◌||◌, ◌<◌, ◌^◌, List, Bool, IfOk, OnErr, OnOk, length, replicate};
 ghost use Rattle.vx_space.specs.Sets.{IsKnown, IsSet, Extends};
 ghost use Rattle.vx_cond.specs.Cond.{AreDisjoint};
 ghost use Rattle.vx_cond.specs.Row.{IsRow};
@@ -10,6 +10,7 @@ ghost use Rattle.vx_value.specs.declared.slot.Slot.TheVariants.{Top};
 
 use std::alloc::{AllocError, Global};
 use vx_cond::{Cond, Projects, Row};
+use vx_list::or_cut_back;
 use vx_space::{Space, SpaceFault};
 use vx_value::{KeyPart, Kind, MethodId, Slot};
 
@@ -112,12 +113,15 @@ impl<S: Space> Frame<S> {
         })
     }
 
-    /// Appends just the ids held: those of the locals, then those of the operands.
+    /// Appends just the ids held: those of the locals, then those of the operands. Want of memory leaves the list as it was.
+    #[tactic(auto, using(std::proofs::lemmas::List::append_assoc, std::proofs::lemmas::List::take_at))]
     pub fn ids_out(&self, ids: &mut Vec<S::Id>) -> Result<(), AllocError>
         ensures ok { OnOk result (ids.new.items ≡ ids.old.items ++ frame_ids self.now) }
+        ensures err { OnErr result (ids.new.items ≡ ids.old.items) }
     {
+        let held = ids.len();
         self.locals.ids_out(ids)?;
-        self.stack.ids_out(ids)
+        or_cut_back(self.stack.ids_out(ids), ids, held)
     }
 }
 

@@ -7,8 +7,8 @@ use Rattle.std.specs.Borrow.{Bor}
 use Rattle.std.specs.List.{flat_map}
 use Rattle.std.specs.Prelude.{◌==◌}
 use Rattle.vx_class.specs.declared.class_file.Field.{Field}
-use Rattle.vx_code.specs.Holding.{and_true}
-use Rattle.vx_code.specs.Loops.{value_first}
+use Rattle.vx_pool.specs.Holding.{and_true}
+use Rattle.vx_pool.specs.Loops.{value_first}
 use Rattle.vx_gen.specs.Parts.{AreShort, field_list, option_parts, reference_part}
 use Rattle.vx_gen.specs.Workload.{all_option_items, choice_items, option_items, step_items}
 use Rattle.vx_gen.specs.declared.pool.Kind.TheVariants as kind

@@ -9,7 +9,7 @@ use Rattle.std.specs.Prelude.{nat_lt, ◌==◌}
 use Rattle.vx_class.specs.declared.class_file.ClassFile.{ClassFile}
 use Rattle.vx_class.specs.declared.class_file.Field.{Field}
 use Rattle.vx_class.specs.declared.class_file.Method.{Method}
-use Rattle.vx_code.specs.Holding.{and_true}
+use Rattle.vx_pool.specs.Holding.{and_true}
 use Rattle.vx_gen.proofs.Loops.{four}
 use Rattle.vx_gen.specs.Parts.{AreNames, AreShort, code_part, coded_method, field_list, field_parts, file_of, fixed_parts, head_part, main_entries, option_of, option_parts, reference_part, signature_part, stepping_entries, stepping_methods}
 use Rattle.vx_gen.specs.Workload.{all_option_items, first_items, fixed_references, last_items, main_at, main_class, main_items, option_field, option_items, option_reference, step_class, stepping_class, work_file, work_model, work_option}

@@ -6,6 +6,7 @@ use slab::Slab;
 use std::alloc::{AllocError, Global};
 use std::marker::Model;
 use vx_frame::Frame;
+use vx_list::or_cut_back;
 use vx_space::Space;
 
 /// A node of the tree: a frame, whose scope may be wider than the path of a group that reaches it, and the number of its
@@ -69,9 +70,10 @@ impl<S: Space> Callers<S> {
         Ok(self.nodes.insert(Caller { frame, caller })?)
     }
 
-    /// Appends just the ids held by the node of a number, if there is one.
+    /// Appends just the ids held by the node of a number, if there is one. Want of memory leaves the list as it was.
     fn node_ids_out(&self, number: usize, ids: &mut Vec<S::Id>) -> Result<(), AllocError>
-        ensures { OnOk result (ids.new.items ≡ ids.old.items ++ node_ids (node_at self.now number)) }
+        ensures ok { OnOk result (ids.new.items ≡ ids.old.items ++ node_ids (node_at self.now number)) }
+        ensures err { OnErr result (ids.new.items ≡ ids.old.items) }
     {
         match self.nodes.get(number) {
             Some(node) => node.frame.ids_out(ids),
@@ -79,12 +81,15 @@ impl<S: Space> Callers<S> {
         }
     }
 
-    /// Appends just the ids held by the nodes.
+    /// Appends just the ids held by the nodes. Want of memory leaves the list as it was.
+    #[tactic(auto, using(std::proofs::lemmas::List::append_assoc, std::proofs::lemmas::List::take_at))]
     pub fn ids_out(&self, ids: &mut Vec<S::Id>) -> Result<(), AllocError>
         ensures ok { OnOk result (ids.new.items ≡ ids.old.items ++ tree_ids self.now) }
+        ensures err { OnErr result (ids.new.items ≡ ids.old.items) }
     {
+        let held = ids.len();
         for number in 0..self.nodes.capacity() {
-            self.node_ids_out(number, ids)?;
+            or_cut_back(self.node_ids_out(number, ids), ids, held)?;
         }
         Ok(())
     }

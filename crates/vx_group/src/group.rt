@@ -13,6 +13,7 @@ use std::marker::Model;
 use std::mem;
 use vx_cond::{Cond, Projects};
 use vx_frame::Frame;
+use vx_list::or_cut_back;
 use vx_space::{Space, SpaceFault};
 use vx_value::Key;
 
@@ -250,28 +251,76 @@ impl<S: Space> Group<S> {
         })
     }
 
+    /// Cuts off the part outside a condition, and keeps the part inside it. No caller frame is copied, and where the whole group is
+    /// inside, it stays as it is.
+    fn cut_off(&mut self, space: &mut S, within: S::Id) -> Result<Group<S>, SpaceFault>
+        requires group { IsGroup (S.sets space.old) self.old }
+        requires known { IsKnown (S.sets space.old) within }
+        ensures extends { Extends (S.sets space.old) (S.sets space.new) }
+        ensures inside { OnOk result (IsPartOf (S.sets space.old) (S.sets space.new) (λ c. (S.sets space.old).test (path_of self.old) c && (S.sets space.old).test within c) self.old self.new) }
+        ensures outside { IfOk result (IsPartOf (S.sets space.old) (S.sets space.new) (λ c. (S.sets space.old).test (path_of self.old) c && not ((S.sets space.old).test within c)) self.old) }
+    {
+        let rest = space.minus(self.path(), within)?;
+        let outer = self.inside(space, rest)?;
+        if space.is_never(rest) {
+            return Ok(outer);
+        }
+        *self = self.inside(space, within)?;
+        Ok(outer)
+    }
+
     /// The parts of the group inside and outside a condition. No caller frame is copied, and where the whole group is inside it, it
     /// stays as it is.
-    pub fn split(self, space: &mut S, within: S::Id) -> Result<(Group<S>, Group<S>), SpaceFault>
+    pub fn split(mut self, space: &mut S, within: S::Id) -> Result<(Group<S>, Group<S>), SpaceFault>
         requires group { IsGroup (S.sets space.old) self }
         requires known { IsKnown (S.sets space.old) within }
         ensures extends { Extends (S.sets space.old) (S.sets space.new) }
         ensures inside { IfOk result (λ r. IsPartOf (S.sets space.old) (S.sets space.new) (λ c. (S.sets space.old).test (path_of self) c && (S.sets space.old).test within c) self r.0) }
         ensures outside { IfOk result (λ r. IsPartOf (S.sets space.old) (S.sets space.new) (λ c. (S.sets space.old).test (path_of self) c && not ((S.sets space.old).test within c)) self r.1) }
     {
-        let rest = space.minus(self.path(), within)?;
-        let outer = self.inside(space, rest)?;
-        if space.is_never(rest) {
-            return Ok((self, outer));
-        }
-        let inner = self.inside(space, within)?;
-        Ok((inner, outer))
+        let outer = self.cut_off(space, within)?;
+        Ok((self, outer))
+    }
+
+    /// Takes in another group of an equal key, of equally many locals in each two frames at one height, and of a disjoint path.
+    fn take_in(
+        &mut self,
+        callers: &mut Callers<S>,
+        space: &mut S,
+        other: &Group<S>,
+    ) -> Result<(), SpaceFault>
+        requires first { IsGroupIn (S.sets space.old) callers.old self.old }
+        requires second { IsGroupIn (S.sets space.old) callers.old other.now }
+        requires shapes { shapes_of callers.old self.old ≡ shapes_of callers.old other.now }
+        requires disjoint { AreDisjoint (S.sets space.old) (path_of self.old) (path_of other.now) }
+        ensures extends { Extends (S.sets space.old) (S.sets space.new) }
+        ensures keeps { Keeps callers.old callers.new }
+        ensures path { OnOk result (IsSet (S.sets space.new) (path_of self.new) (λ c. (S.sets space.old).test (path_of self.old) c || (S.sets space.old).test (path_of other.now) c)) }
+        ensures shapes { OnOk result (shapes_of callers.new self.new ≡ shapes_of callers.old self.old) }
+        ensures ok { OnOk result (IsGroupOf (S.sets space.new) callers.new (side_at (S.sets space.old) (path_of self.old) (group_at (S.sets space.old) callers.old self.old) (group_at (S.sets space.old) callers.old other.now)) self.new) }
+        ensures shared { self.old.caller ≡ other.now.caller → (callers.new ≡ callers.old) × OnOk result (self.new.caller ≡ self.old.caller) }
+    {
+        let first = Reach {
+            path: self.path(),
+            caller: self.caller,
+        };
+        let second = Reach {
+            path: other.path(),
+            caller: other.caller,
+        };
+        let attempts = self.attempts.join(space, &other.attempts)?;
+        let top = self.top.join(space, &other.top)?;
+        let caller = join_callers(callers, space, &first, &second, self.below.len())?;
+        self.attempts = attempts;
+        self.top = top;
+        self.caller = caller;
+        Ok(())
     }
 
     /// Two groups of equal keys, of equally many locals in each two frames at one height, and of disjoint paths as one:
     /// at each configuration, what stands in the side that holds there. A caller that both have is kept.
     pub fn join(
-        self,
+        mut self,
         callers: &mut Callers<S>,
         space: &mut S,
         other: Group<S>,
@@ -287,23 +336,8 @@ impl<S: Space> Group<S> {
         ensures ok { IfOk result (IsGroupOf (S.sets space.new) callers.new (side_at (S.sets space.old) (path_of self) (group_at (S.sets space.old) callers.old self) (group_at (S.sets space.old) callers.old other))) }
         ensures shared { self.caller ≡ other.caller → (callers.new ≡ callers.old) × IfOk result (λ r. r.caller ≡ self.caller) }
     {
-        let first = Reach {
-            path: self.path(),
-            caller: self.caller,
-        };
-        let second = Reach {
-            path: other.path(),
-            caller: other.caller,
-        };
-        let attempts = self.attempts.join(space, &other.attempts)?;
-        let top = self.top.join(space, &other.top)?;
-        let caller = join_callers(callers, space, &first, &second, self.below.len())?;
-        Ok(Group {
-            attempts,
-            top,
-            below: self.below,
-            caller,
-        })
+        self.take_in(callers, space, &other)?;
+        Ok(self)
     }
 
     /// The number of the nearest caller, if there is one.
@@ -320,12 +354,16 @@ impl<S: Space> Group<S> {
         self.below.len()
     }
 
-    /// Appends just the ids that the group holds by itself: path and attempts, then the frame on top.
+    /// Appends just the ids that the group holds by itself: path and attempts, then the frame on top. Want of memory leaves the list as
+    /// it was.
+    #[tactic(auto, using(std::proofs::lemmas::List::append_assoc, std::proofs::lemmas::List::take_at))]
     pub fn ids_out(&self, ids: &mut Vec<S::Id>) -> Result<(), AllocError>
         ensures ok { OnOk result (ids.new.items ≡ ids.old.items ++ group_ids self.now) }
+        ensures err { OnErr result (ids.new.items ≡ ids.old.items) }
     {
+        let held = ids.len();
         self.attempts.ids_out(ids)?;
-        self.top.ids_out(ids)
+        or_cut_back(self.top.ids_out(ids), ids, held)
     }
 }
 

@@ -151,8 +151,7 @@ fn pushed_part<S: Space>(
 {
     let values = slots_inside(space, answers, part.path())?;
     let group = with_operand(space, part, taken, values)?;
-    let outcomes = settle(alloc, site, space, group)?;
-    Ok(outcomes)
+    settle(alloc, site, space, group)
 }
 
 /// The part of a group in which values are given for which room was asked before.
@@ -186,7 +185,7 @@ fn jumped_part<S: Space>(
     part: Group<S>,
     taken: usize,
     position: u32,
-) -> Result<Outcomes<S>, AllocError>
+) -> Result<Outcomes<S>, SpaceFault>
     requires group { IsGroup (S.sets space.now) part }
     requires enough { taken ≤ length part.top.stack.conds }
     ensures { IfOk result (λ r. (program : Program) → Gives program (λ s. Go (at_position s position (drop taken s.top.operands))) (S.sets space.now) (S.sets space.now) part r.items.items) }
@@ -203,15 +202,14 @@ fn passed_part<S: Space>(
     space: &S,
     part: Group<S>,
     taken: usize,
-) -> Result<Outcomes<S>, AllocError>
+) -> Result<Outcomes<S>, SpaceFault>
     requires group { IsGroup (S.sets space.now) part }
     requires past { HasPast site.now part }
     requires enough { taken ≤ length part.top.stack.conds }
     ensures { IfOk result (λ r. Gives site.now.program.now (λ s. go_of (here site.now s) (drop taken s.top.operands)) (S.sets space.now) (S.sets space.now) part r.items.items) }
 {
     let position = part.top_frame().position + site.size;
-    let outcomes = jumped_part(alloc, space, part, taken, position)?;
-    Ok(outcomes)
+    jumped_part(alloc, space, part, taken, position)
 }
 
 /// The part of a group that writes a text and goes past the instruction.
@@ -223,7 +221,7 @@ fn written_part<S: Space>(
     taken: usize,
     stream: Stream,
     text: u64,
-) -> Result<Outcomes<S>, AllocError>
+) -> Result<Outcomes<S>, SpaceFault>
     requires group { IsGroup (S.sets space.now) part }
     requires past { HasPast site.now part }
     requires enough { taken ≤ length part.top.stack.conds }
@@ -241,7 +239,7 @@ fn written_part<S: Space>(
 }
 
 /// The part of a group whose runs end.
-fn ended_part<S: Space>(alloc: Global, part: &Group<S>, end: End) -> Result<Outcomes<S>, AllocError>
+fn ended_part<S: Space>(alloc: Global, part: &Group<S>, end: End) -> Result<Outcomes<S>, SpaceFault>
     ensures { IfOk result (λ r. (program : Program) (sets : Sets S.Id) → Gives program (λ _. Ended end) sets sets part.now r.items.items) }
 {
     let mut outcomes = Outcomes::new(alloc);
@@ -280,7 +278,7 @@ fn raised_part<S: Space>(
     part: Group<S>,
     class: ClassId,
     message: Option<u64>,
-) -> Result<Outcomes<S>, AllocError>
+) -> Result<Outcomes<S>, SpaceFault>
     ensures { IfOk result (λ r. (program : Program) (sets : Sets S.Id) (heap : HeapView S S.Id) → IsMessage heap message → GivesAt program (λ heap _ s. RaiseOf class.0 (message_of heap message) s) sets sets part r.items.items heap) }
 {
     let mut outcomes = Outcomes::new(alloc);
@@ -307,42 +305,15 @@ fn answered_part<S: Space>(
     ensures gives { IfOk result (λ r. (heap : HeapView S S.Id) → IsKindHeld (S.sets space.old) heap (path_of part) kind answers.now → GivesAt site.now.program.now (answered_as site.now taken (S.sets space.old) kind answers.now) (S.sets space.old) (S.sets space.new) part r.items.items heap) }
 {
     match kind {
-        Answer::Illegal => {
-            let ended = illegal(alloc, site.program, &part)?;
-            Ok(ended)
-        }
-        Answer::Raise(class, message) => {
-            let raised = raised_part(alloc, part, class, message)?;
-            Ok(raised)
-        }
-        Answer::Push(_) => {
-            let put = pushed_part(alloc, site, space, part, taken, answers)?;
-            Ok(put)
-        }
-        Answer::Jump(position) => {
-            let jumped = jumped_part(alloc, space, part, taken, position)?;
-            Ok(jumped)
-        }
-        Answer::Pass => {
-            let passed = passed_part(alloc, site, space, part, taken)?;
-            Ok(passed)
-        }
-        Answer::Give(_) => {
-            let given = given_part(alloc, site, space, part, taken, answers)?;
-            Ok(given)
-        }
-        Answer::Write(stream, text) => {
-            let wrote = written_part(alloc, site, space, part, taken, stream, text)?;
-            Ok(wrote)
-        }
-        Answer::Exit(_) => {
-            let exited = ended_part(alloc, &part, end_of(kind))?;
-            Ok(exited)
-        }
-        Answer::Throw(_) => {
-            let thrown = thrown_part(alloc, space, part, answers)?;
-            Ok(thrown)
-        }
+        Answer::Illegal => illegal(alloc, site.program, &part),
+        Answer::Raise(class, message) => raised_part(alloc, part, class, message),
+        Answer::Push(_) => pushed_part(alloc, site, space, part, taken, answers),
+        Answer::Jump(position) => jumped_part(alloc, space, part, taken, position),
+        Answer::Pass => passed_part(alloc, site, space, part, taken),
+        Answer::Give(_) => given_part(alloc, site, space, part, taken, answers),
+        Answer::Write(stream, text) => written_part(alloc, site, space, part, taken, stream, text),
+        Answer::Exit(_) => ended_part(alloc, &part, end_of(kind)),
+        Answer::Throw(_) => thrown_part(alloc, space, part, answers),
     }
 }
 
@@ -389,6 +360,5 @@ pub fn carry_out<S: Space>(
     ensures gives { IfOk result (λ r. (heap : HeapView S S.Id) → AreHeld (S.sets space.old) heap (path_of group) answers.now → GivesAt site.now.program.now (answered_by site.now taken (S.sets space.old) answers.now) (S.sets space.old) (S.sets space.new) group r.items.items heap) }
 {
     let kinds = answers.map(space, kind)?;
-    let outcomes = answered_parts(alloc, site, space, group, taken, kinds.leaves(), answers)?;
-    Ok(outcomes)
+    answered_parts(alloc, site, space, group, taken, kinds.leaves(), answers)
 }

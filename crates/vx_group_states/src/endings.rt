@@ -46,6 +46,5 @@ pub fn pass<S: Space>(
 {
     let (below, mut frame) = group.take_top();
     frame.position += site.size;
-    let outcomes = Outcomes::go(alloc, below.put_top(frame))?;
-    Ok(outcomes)
+    Outcomes::go(alloc, below.put_top(frame))
 }

@@ -86,6 +86,5 @@ pub fn settle<S: Space>(
         ensures { result ≡ nat_le n room }
     { n <= room };
     let fits = sizes.map(space, is_within)?;
-    let outcomes = pass_where(alloc, site, space, group, fits.leaves())?;
-    Ok(outcomes)
+    pass_where(alloc, site, space, group, fits.leaves())
 }

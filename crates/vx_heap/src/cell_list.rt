@@ -14,6 +14,7 @@ ghost use Rattle.vx_value.specs.declared.slot.Slot.TheVariants.{Top};
 use std::alloc::{AllocError, Global};
 use std::marker::Model;
 use vx_cond::Cond;
+use vx_list::or_cut_back;
 use vx_space::{Space, SpaceFault};
 use vx_value::Slot;
 
@@ -188,9 +189,10 @@ impl<S: Space> CellList<S> {
         Ok(())
     }
 
-    /// Appends just the ids held.
+    /// Appends just the ids held. Want of memory leaves the list as it was.
     pub fn ids_out(&self, ids: &mut Vec<S::Id>) -> Result<(), AllocError>
-        ensures { OnOk result (ids.new.items ≡ ids.old.items ++ flat_map cell_ids self.now) }
+        ensures ok { OnOk result (ids.new.items ≡ ids.old.items ++ flat_map cell_ids self.now) }
+        ensures err { OnErr result (ids.new.items ≡ ids.old.items) }
     {
         if !self.differs {
             return Ok(());
@@ -317,13 +319,16 @@ fn cell_of<S: Space>(alloc: Global, value: Cond<Slot, S>) -> Result<Cell<S>, All
     Ok(Cell::Differs(cond))
 }
 
-/// Appends the ids held by cells.
+/// Appends the ids held by cells. Want of memory leaves the list as it was.
+#[tactic(auto, using(std::proofs::lemmas::List::append_assoc, std::proofs::lemmas::List::take_at))]
 fn cells_out<S: Space>(cells: &[Cell<S>], ids: &mut Vec<S::Id>) -> Result<(), AllocError>
-    ensures { OnOk result (ids.new.items ≡ ids.old.items ++ flat_map cell_ids cells.now) }
+    ensures ok { OnOk result (ids.new.items ≡ ids.old.items ++ flat_map cell_ids cells.now) }
+    ensures err { OnErr result (ids.new.items ≡ ids.old.items) }
 {
+    let held = ids.len();
     for cell in cells {
         if let Cell::Differs(cond) = cell {
-            cond.ids_out(ids)?;
+            or_cut_back(cond.ids_out(ids), ids, held)?;
         }
     }
     Ok(())

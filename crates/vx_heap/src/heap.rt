@@ -22,7 +22,7 @@ ghost use Rattle.vx_cond.specs.Slots.{slot_at};
 
 use crate::cell_list::CellList;
 use crate::defaults::new_slots;
-use crate::lifted::{lifted_objects, same_values, static_values};
+use crate::lifted::lifted_first;
 use crate::object::HeapObject;
 use std::alloc::{AllocError, Global};
 use std::marker::Model;
@@ -30,7 +30,7 @@ use vx_cond::{Cond, Projects};
 use vx_initial_heap::First;
 use vx_java::{class_named, name_of_entry};
 use vx_link::Program;
-use vx_list::Items;
+use vx_list::{Items, or_cut_back};
 use vx_references::{class_table, owner_entry};
 use vx_space::{Space, SpaceFault};
 use vx_value::{ClassId, Exact, FieldId, InitState, Slot, TextTable};
@@ -72,26 +72,18 @@ impl<S: Space> Heap<S> {
         ensures extends { Extends (S.sets space.old) (S.sets space.new) }
         ensures first { IfOk result (IsFirstHeap program.now (S.sets space.new) allowed) }
     {
-        let first = First::of(alloc, program)?;
-        let statics = static_values(alloc, space, &first.statics, allowed)?;
-        let objects = lifted_objects(alloc, &first.objects, allowed)?;
-        let inits = same_values(alloc, space, &first.inits, allowed)?;
         let resolved = class_table(alloc, program)?;
-        let First {
-            texts,
-            literals,
-            words,
-            ..
-        } = first;
+        let first = First::of(alloc, program)?;
+        let lifted = lifted_first(alloc, space, &first, allowed)?;
         Ok(Heap {
-            objects,
-            statics,
-            inits,
-            texts,
+            objects: lifted.objects,
+            statics: lifted.statics,
+            inits: lifted.inits,
+            texts: first.texts,
             allowed,
-            literals,
+            literals: first.literals,
             resolved,
-            words,
+            words: first.words,
         })
     }
 
@@ -303,7 +295,7 @@ impl<S: Space> Heap<S> {
         program: &Program,
         class: ClassId,
         path: S::Id,
-    ) -> Result<u64, AllocError>
+    ) -> Result<u64, SpaceFault>
         ensures { IfOk result (MakesObject self.old path (new_object program.now class.0) self.new) }
     {
         let empty = self.put_text(&[])?;
@@ -341,7 +333,7 @@ impl<S: Space> Heap<S> {
         class: ClassId,
         units: &[u16],
         path: S::Id,
-    ) -> Result<u64, AllocError>
+    ) -> Result<u64, SpaceFault>
         ensures { IfOk result (MakesObject self.old path (of_text class.0 units.now) self.new) }
     {
         let text = self.put_text(units)?;
@@ -514,14 +506,17 @@ impl<S: Space> Heap<S> {
     }
 
     /// Appends just the ids held: the set of all configurations that run, then those of objects, statics and
-    /// initialisation states.
+    /// initialisation states. Want of memory leaves the list as it was.
+    #[tactic(auto, using(std::proofs::lemmas::List::append_assoc, std::proofs::lemmas::List::take_at))]
     pub fn ids_out(&self, ids: &mut Vec<S::Id>) -> Result<(), AllocError>
-        ensures { OnOk result (ids.new.items ≡ ids.old.items ++ heap_ids self.now) }
+        ensures ok { OnOk result (ids.new.items ≡ ids.old.items ++ heap_ids self.now) }
+        ensures err { OnErr result (ids.new.items ≡ ids.old.items) }
     {
+        let held = ids.len();
         ids.push(self.allowed)?;
-        objects_out(&self.objects, ids)?;
-        conds_out(&self.statics, ids)?;
-        conds_out(&self.inits, ids)
+        or_cut_back(objects_out(&self.objects, ids), ids, held)?;
+        or_cut_back(conds_out(&self.statics, ids), ids, held)?;
+        or_cut_back(conds_out(&self.inits, ids), ids, held)
     }
 }
 
@@ -542,26 +537,42 @@ impl<S: Space> Projects<S> for Heap<S> {
     }
 }
 
-/// Appends the ids held by objects.
-fn objects_out<S: Space>(objects: &[HeapObject<S>], ids: &mut Vec<S::Id>) -> Result<(), AllocError>
-    ensures { OnOk result (ids.new.items ≡ ids.old.items ++ flat_map object_ids objects.now) }
+/// Appends the ids held by an object. Want of memory leaves the list as it was.
+#[tactic(auto, using(std::proofs::lemmas::List::append_assoc, std::proofs::lemmas::List::take_at))]
+fn object_out<S: Space>(object: &HeapObject<S>, ids: &mut Vec<S::Id>) -> Result<(), AllocError>
+    ensures ok { OnOk result (ids.new.items ≡ ids.old.items ++ object_ids object.now) }
+    ensures err { OnErr result (ids.new.items ≡ ids.old.items) }
 {
+    let held = ids.len();
+    ids.push(object.presence)?;
+    or_cut_back(object.cells.ids_out(ids), ids, held)
+}
+
+/// Appends the ids held by objects. Want of memory leaves the list as it was.
+#[tactic(auto, using(std::proofs::lemmas::List::append_assoc, std::proofs::lemmas::List::take_at))]
+fn objects_out<S: Space>(objects: &[HeapObject<S>], ids: &mut Vec<S::Id>) -> Result<(), AllocError>
+    ensures ok { OnOk result (ids.new.items ≡ ids.old.items ++ flat_map object_ids objects.now) }
+    ensures err { OnErr result (ids.new.items ≡ ids.old.items) }
+{
+    let held = ids.len();
     for object in objects {
-        ids.push(object.presence)?;
-        object.cells.ids_out(ids)?;
+        or_cut_back(object_out(object, ids), ids, held)?;
     }
     Ok(())
 }
 
-/// Appends the ids held by conditional values.
+/// Appends the ids held by conditional values. Want of memory leaves the list as it was.
+#[tactic(auto, using(std::proofs::lemmas::List::append_assoc, std::proofs::lemmas::List::take_at))]
 fn conds_out<T: Exact, S: Space>(
     conds: &[Cond<T, S>],
     ids: &mut Vec<S::Id>,
 ) -> Result<(), AllocError>
-    ensures { OnOk result (ids.new.items ≡ ids.old.items ++ flat_map cond_ids conds.now) }
+    ensures ok { OnOk result (ids.new.items ≡ ids.old.items ++ flat_map cond_ids conds.now) }
+    ensures err { OnErr result (ids.new.items ≡ ids.old.items) }
 {
+    let held = ids.len();
     for cond in conds {
-        cond.ids_out(ids)?;
+        or_cut_back(cond.ids_out(ids), ids, held)?;
     }
     Ok(())
 }

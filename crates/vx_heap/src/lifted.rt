@@ -2,7 +2,7 @@
 
 ghost use Rattle.std.specs.Prelude.{◌≡◌, ◌<◌, true, IfOk, map};
 ghost use Rattle.vx_space.specs.Sets.{IsKnown, Extends};
-ghost use Rattle.vx_value.specs.Slot.{slot_cmp};
+ghost use Rattle.vx_value.specs.Slot.{init_state_cmp, slot_cmp};
 ghost use Rattle.vx_heap.specs.Heap.{has_option};
 ghost use Rattle.vx_heap.specs.declared.cell_list.Cell.TheVariants.{Plain};
 ghost use Rattle.vx_heap.specs.Lifted.{option_of, option_slot, options_known, AreLifted, AreSame, AreStatics, IsLifted, IsSame, IsStatic, IsThroughout, slots_of};
@@ -11,9 +11,9 @@ use crate::cell_list::CellList;
 use crate::object::HeapObject;
 use std::alloc::{AllocError, Global};
 use vx_cond::Cond;
-use vx_initial_heap::{FirstObject, FirstStatic};
+use vx_initial_heap::{First, FirstObject, FirstStatic};
 use vx_space::{Space, SpaceFault};
-use vx_value::{Exact, Slot};
+use vx_value::{Exact, InitState, Slot};
 
 /// One value in a scope.
 fn same<T: Exact, S: Space>(
@@ -30,7 +30,7 @@ fn same<T: Exact, S: Space>(
 }
 
 /// Values, each everywhere in a scope.
-pub fn same_values<T: Exact, S: Space>(
+fn same_values<T: Exact, S: Space>(
     alloc: Global,
     space: &S,
     values: &[T],
@@ -73,7 +73,7 @@ fn lifted<S: Space>(
 }
 
 /// The first objects, which are there in a scope.
-pub fn lifted_objects<S: Space>(
+fn lifted_objects<S: Space>(
     alloc: Global,
     objects: &[FirstObject],
     scope: S::Id,
@@ -128,7 +128,7 @@ fn static_value<S: Space>(
 }
 
 /// What the static fields begin with, in a scope.
-pub fn static_values<S: Space>(
+fn static_values<S: Space>(
     alloc: Global,
     space: &mut S,
     statics: &[FirstStatic],
@@ -144,4 +144,37 @@ pub fn static_values<S: Space>(
         conds.push(static_value(alloc, space, *first, scope)?)?;
     }
     Ok(conds)
+}
+
+/// What every run begins with and depends on the configuration: the objects, and by their numbers the values of the static fields and
+/// the initialisation states of the classes.
+#[derive(Drop)]
+pub struct LiftedFirst<S: Space> {
+    pub objects: Vec<HeapObject<S>>,
+    pub statics: Vec<Cond<Slot, S>>,
+    pub inits: Vec<Cond<InitState, S>>,
+}
+
+/// What every run begins with, in a scope.
+pub fn lifted_first<S: Space>(
+    alloc: Global,
+    space: &mut S,
+    first: &First,
+    scope: S::Id,
+) -> Result<LiftedFirst<S>, SpaceFault>
+    requires known { IsKnown (S.sets space.old) scope }
+    requires options { options_known (S.sets space.old).options first.now.statics.items ≡ true }
+    ensures extends { Extends (S.sets space.old) (S.sets space.new) }
+    ensures objects { IfOk result (λ r. AreLifted scope first.now.objects.items r.objects.items) }
+    ensures statics { IfOk result (λ r. AreStatics (S.sets space.new) scope first.now.statics.items r.statics.items) }
+    ensures inits { IfOk result (λ r. AreSame init_state_cmp (S.sets space.new) scope first.now.inits.items r.inits.items) }
+{
+    let statics = static_values(alloc, space, &first.statics, scope)?;
+    let objects = lifted_objects(alloc, &first.objects, scope)?;
+    let inits = same_values(alloc, space, &first.inits, scope)?;
+    Ok(LiftedFirst {
+        objects,
+        statics,
+        inits,
+    })
 }

@@ -3,7 +3,7 @@ use Rattle.std.proofs.Common.{◌≡◌, ℕ, ◌+◌, ◌<◌, zero, suc, Bool,
 use Rattle.std.proofs.lemmas.Bool.{lt-ltb}
 use Rattle.std.specs.List.{range_with_len}
 use Rattle.std.specs.Prelude.{Option, Some, None, ◌&&◌, find, if◌then◌else◌, reverse}
-use Rattle.vx_growth.specs.Changing.{with_globals}
+use Rattle.vx_families.specs.Changing.{with_globals}
 use Rattle.vx_java.proofs.Chains.{begins_with}
 use Rattle.vx_java.specs.Initialisation.{begin, begin_chain, blocked, blocks, chain_blocked, has_failed, pushed_chain, with_frames}
 use Rattle.vx_java.specs.Machine.{Go, Outcome, Raise, State, depth, unsupported_in, when, with_inits}

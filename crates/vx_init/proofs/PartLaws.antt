@@ -17,8 +17,8 @@ use Rattle.vx_group.specs.Group.{GroupView, IsGroupIn, depth_of, path_of}
 use Rattle.vx_group_states.proofs.GrownStates.{Grows-refl, StandsIn-grown, state_at-grown}
 use Rattle.vx_group_states.proofs.OutcomeStates.{CameTo-one, CameTo-same}
 use Rattle.vx_group_states.specs.Stands.{CameTo, StandsIn, state_at}
-use Rattle.vx_growth.proofs.ChangeLaws.{attempts_follow, statics_change_in}
-use Rattle.vx_growth.specs.Changing.{IsChangedIn, changed_in, with_globals}
+use Rattle.vx_families.proofs.ChangeLaws.{attempts_follow, statics_change_in}
+use Rattle.vx_families.specs.Changing.{IsChangedIn, changed_in, with_globals}
 use Rattle.vx_heap.proofs.Written.{allowed_known}
 use Rattle.vx_heap.specs.Heap.{Globals, HeapView, globals_at, inits_at}
 use Rattle.vx_java.specs.Initialisation.{begin, with_frames}

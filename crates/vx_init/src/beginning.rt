@@ -63,12 +63,10 @@ fn pushed_part<S: Space>(
 {
     let chain = first_above(alloc, program, class, most)?;
     if too_many(group.depth(), &chain) {
-        let raised = raise(alloc, program, group, b"java/lang/StackOverflowError")?;
-        return Ok(raised);
+        return raise(alloc, program, group, b"java/lang/StackOverflowError");
     }
     let above = push_chain(alloc, program, space, callers, group, &chain)?;
-    let outcomes = Outcomes::go(alloc, above)?;
-    Ok(outcomes)
+    Outcomes::go(alloc, above)
 }
 
 /// What comes of the part of a group of one rise.
@@ -100,10 +98,7 @@ fn begun_part<S: Space>(
             let raised = raise(alloc, program, part, b"java/lang/NoClassDefFoundError")?;
             Ok(raised)
         }
-        Rise::Blocked(interface) => {
-            let ended = blocked_part(alloc, program, &part, interface)?;
-            Ok(ended)
-        }
+        Rise::Blocked(interface) => blocked_part(alloc, program, &part, interface),
     }
 }
 

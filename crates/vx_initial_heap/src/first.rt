@@ -12,9 +12,10 @@ use crate::inits::first_inits;
 use crate::literals::{Literals, literal_table, literals_of};
 use crate::objects::{FirstObject, first_objects};
 use crate::statics::{FirstStatic, first_statics};
+use crate::text_keys::key_of;
 use std::alloc::{AllocError, Global};
 use vx_link::Program;
-use vx_list::Items;
+use vx_list::{Items, Keyed};
 use vx_value::{InitState, TextTable};
 
 /// What every run of a program begins with: the first objects, what each field begins with, how far the initialisation of each
@@ -31,10 +32,10 @@ pub struct First {
 }
 
 /// The table with the empty text, as it is before the first objects have theirs.
-fn first_texts(alloc: Global) -> Result<TextTable, AllocError>
+fn first_texts(alloc: Global, key: Keyed) -> Result<TextTable, AllocError>
     ensures { IfOk result (λ made. made.texts ≡ empty_text) }
 {
-    let mut texts = TextTable::new(alloc);
+    let mut texts = TextTable::keyed(alloc, key);
     texts.put(&[])?;
     Ok(texts)
 }
@@ -51,7 +52,7 @@ fn objects_and_texts(
     ensures objects { IfOk result (λ made. AreFirstObjects program.now made.1.texts (first_objects program.now) made.0.items) }
     ensures texts { IfOk result (λ made. Extends empty_text made.1.texts) }
 {
-    let mut texts = first_texts(alloc)?;
+    let mut texts = first_texts(alloc, key_of(program.classes.as_slice()))?;
     let objects = first_objects(alloc, program, listed, &mut texts)?;
     Ok((objects, texts))
 }

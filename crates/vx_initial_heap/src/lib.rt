@@ -11,6 +11,7 @@ mod literals;
 pub mod objects;
 mod remembered;
 pub mod statics;
+mod text_keys;
 mod units;
 
 pub use core_classes::CoreClasses;

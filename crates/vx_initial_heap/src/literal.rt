@@ -7,8 +7,7 @@ ghost use Rattle.vx_link.specs.Names.{utf8};
 
 use crate::units::units_of;
 use std::alloc::{AllocError, Global};
-use vx_code::text;
-use vx_pool::{Entry, Pool};
+use vx_pool::{Entry, Pool, text};
 
 /// A string literal by its UTF-16 units, or a class by its name.
 #[derive(Drop, PartialEq, Eq, Hash)]

@@ -7,11 +7,12 @@ ghost use Rattle.vx_java.specs.FirstObjects.{literal_object, literals};
 
 use crate::literal::{Literal, literal_of};
 use crate::remembered::Remembered;
+use crate::text_keys::key_of;
 use indexmap::IndexSet;
 use std::alloc::{AllocError, Global};
 use std::marker::Model;
 use vx_link::{LinkedClass, Program};
-use vx_list::Items;
+use vx_list::{Items, Keyed};
 use vx_pool::{Entry, Pool};
 
 /// The number of the first literal's object: two streams, 256 Integers and two Booleans stand before it.
@@ -20,7 +21,7 @@ const FIRST_LITERAL: u64 = 260;
 /// Literals in order, each once, found by their hashes. Contracts see the list of them.
 #[derive(Drop)]
 pub struct Literals {
-    listed: IndexSet<Literal>,
+    listed: IndexSet<Literal, Keyed>,
 }
 
 impl Model for Literals {
@@ -34,11 +35,11 @@ impl Model for Literals {
 }
 
 impl Literals {
-    fn new(alloc: Global) -> Literals
+    fn new(alloc: Global, key: Keyed) -> Literals
         ensures { result ≡ [] }
     {
         Literals {
-            listed: IndexSet::new(alloc),
+            listed: IndexSet::with_hasher(alloc, key),
         }
     }
 
@@ -139,7 +140,7 @@ impl Literals {
 fn gathered(alloc: Global, classes: &[LinkedClass]) -> Result<Literals, AllocError>
     ensures { IfOk result (λ all. all ≡ fold with_class [] classes.now) }
 {
-    let mut literals = Literals::new(alloc);
+    let mut literals = Literals::new(alloc, key_of(classes));
     for class in classes {
         literals.add_pool(alloc, &class.pool)?;
     }

@@ -2,7 +2,7 @@
 
 ghost use Rattle.std.specs.Prelude.{◌≡◌, ◌&&◌, ◌<◌, [], bytes_eq, map, suc, true, IfOk, IfSome};
 ghost use Rattle.std.specs.List.{AllZip};
-ghost use Rattle.vx_code.specs.Lookups.{entry_of};
+ghost use Rattle.vx_pool.specs.Lookups.{entry_of};
 ghost use Rattle.vx_initial_heap.specs.First.{empty_text, is_among, value_in, IsFirstStatic};
 ghost use Rattle.vx_java.specs.FirstObjects.{constant_of, first_words, literal_object, plain_static};
 ghost use Rattle.vx_java.specs.Step.{core_static, not_core};
@@ -12,11 +12,10 @@ ghost use Rattle.vx_list.specs.Places.{item_or};
 use crate::defaults::default_of;
 use bitflags::Flags;
 use std::alloc::{AllocError, Global};
-use vx_code::entry_of;
+use vx_pool::{Entry, Pool, entry_of};
 use vx_java::parts::name_of_class;
 use vx_link::{AccessFlags, LinkedField, Program};
 use vx_list::Items;
-use vx_pool::{Entry, Pool};
 use vx_value::{ClassId, Slot};
 
 /// What a static field begins with: one value at each configuration, or that of an option as an int.

@@ -5,7 +5,7 @@ use Rattle.vx_io.specs.Held.{Held, FilesState, IsListing}
 use Rattle.vx_plans.specs.declared.status.Status.{Status}
 use Rattle.vx_plans.specs.declared.status.Status.TheVariants.{TooLarge, NoMemory, NoConfiguration}
 use Rattle.vx_plans.specs.Plan.{Plan, If_allowed, As_report, AllowsSome, AllowsNone, IsRefused, Leads, MayStop, attempt}
-use Rattle.vx_cursor.specs.Reading.{Fault}
+use Rattle.vx_pool.specs.Reading.{Fault}
 use Rattle.vx_model.specs.declared.model.Model.{Model}
 use Rattle.vx_plans.specs.Job.{model_of}
 use Rattle.vx_report.specs.declared.report.Report.{Report}

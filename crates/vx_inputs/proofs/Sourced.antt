@@ -2,9 +2,9 @@
 use Rattle.std.proofs.Common.{Err, List, Ok, Option, Result, ap, ℕ, ◌∙◌, ◌≡◌, sym}
 use Rattle.vx_class.specs.Class.{class_of}
 use Rattle.vx_class.specs.declared.class_file.ClassFile.{ClassFile}
-use Rattle.vx_cursor.specs.Reading.{Fails, Fault, ◌>>=◌}
-use Rattle.vx_cursor.specs.declared.fault.ClassFault.{ClassFault}
-use Rattle.vx_cursor.specs.declared.fault.ClassFault.TheVariants.{Bad, NoMemory}
+use Rattle.vx_pool.specs.Reading.{Fails, Fault, ◌>>=◌}
+use Rattle.vx_pool.specs.declared.fault.ClassFault.{ClassFault}
+use Rattle.vx_pool.specs.declared.fault.ClassFault.TheVariants.{Bad, NoMemory}
 use Rattle.vx_inputs.specs.Traced.{file_of, traced_of, with_source}
 use Rattle.vx_inputs.specs.declared.taken.Traced.{Traced}
 use Rattle.vx_lines.specs.Sources.{IsName}

@@ -1,7 +1,7 @@
 -- The part of a plan that lists a folder and reads its class files.
 use Rattle.std.specs.Prelude.{ℕ, List, [], ◌∷◌, ◌++◌, length, filter, Ok, Err}
 use Rattle.std.specs.declared.result.Result.{Result}
-use Rattle.vx_cursor.specs.Reading.{Fault}
+use Rattle.vx_pool.specs.Reading.{Fault}
 use Rattle.vx_plans.specs.declared.status.Status.{Status}
 use Rattle.vx_plans.specs.declared.status.Status.TheVariants.{ReadFault, BadClass}
 use Rattle.vx_plans.specs.Job.{is_class_path}

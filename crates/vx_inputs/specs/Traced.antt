@@ -3,8 +3,8 @@ use Rattle.std.specs.Prelude.{Err, List, None, Ok, Option, [], map, option_and_t
 use Rattle.std.specs.declared.result.Result.{Result}
 use Rattle.vx_class.specs.Class.{class_of}
 use Rattle.vx_class.specs.declared.class_file.ClassFile.{ClassFile}
-use Rattle.vx_code.specs.Lookups.{text}
-use Rattle.vx_cursor.specs.Reading.{Fault, ◌>>=◌}
+use Rattle.vx_pool.specs.Lookups.{text}
+use Rattle.vx_pool.specs.Reading.{Fault, ◌>>=◌}
 use Rattle.vx_inputs.specs.declared.taken.Parts.{Parts}
 use Rattle.vx_inputs.specs.declared.taken.Traced.{Traced}
 use Rattle.vx_lines.specs.Sources.{source_of}

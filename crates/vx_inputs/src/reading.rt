@@ -3,7 +3,7 @@
 
 ghost use Rattle.std.specs.Prelude.{◌≡◌, ◌<◌, ◌≤◌, ◌^◌, ℕ, All, List, length, map, string_bytes, IfOk, IfErr, MatchResult, Ok, [], ◌⊎◌};
 ghost use Rattle.vx_class.specs.File.{Holds};
-ghost use Rattle.vx_cursor.specs.Place.{IsBytes};
+ghost use Rattle.vx_pool.specs.Place.{IsBytes};
 ghost use Rattle.vx_plans.specs.Plan.{Plan, Leads, MayStop};
 ghost use Rattle.vx_plans.specs.Sized.{read_sized};
 ghost use Rattle.vx_inputs.specs.Folder.{or_bad_class, read_checked, read_classes, read_folder, list_classes, place_of, class_paths};

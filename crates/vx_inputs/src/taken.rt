@@ -4,7 +4,7 @@ ghost use Rattle.std.specs.Prelude.{◌≡◌, IfOk, List, Result, ℕ};
 ghost use Rattle.vx_class.specs.File.{File};
 ghost use Rattle.vx_class.specs.declared.class_file.ClassFile as file;
 ghost use Rattle.vx_inputs.specs.Traced.{ArePartsOf, traced_of, with_source};
-ghost use Rattle.vx_cursor.specs.Reading.{Answers, Fault};
+ghost use Rattle.vx_pool.specs.Reading.{Answers, Fault};
 
 use std::alloc::{AllocError, Global};
 use vx_class::{ClassFault, ClassFile, read_class};

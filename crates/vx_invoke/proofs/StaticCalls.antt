@@ -21,8 +21,8 @@ use Rattle.vx_group_states.proofs.GrownStates.{Grows-refl, StandsIn-grown, state
 use Rattle.vx_group_states.proofs.Operands.{length-operands}
 use Rattle.vx_group_states.proofs.OutcomeStates.{CameTo-same}
 use Rattle.vx_group_states.proofs.StateLaws.{both_first, both_second}
-use Rattle.vx_growth.specs.Changing.{IsChangedIn, with_globals}
-use Rattle.vx_growth.proofs.ChangeLaws.{attempts_follow, statics_change_in}
+use Rattle.vx_families.specs.Changing.{IsChangedIn, with_globals}
+use Rattle.vx_families.proofs.ChangeLaws.{attempts_follow, statics_change_in}
 use Rattle.vx_heap.specs.Heap.{Globals, HeapView, globals_at, value_of}
 use Rattle.vx_java.specs.Calls.{call_static}
 use Rattle.vx_java.specs.Machine.{Here, State, illegal_in}

@@ -1,14 +1,15 @@
 //! What comes of the part of a group in which a call comes to one thing.
 
-ghost use Rattle.std.specs.Prelude.{IfOk};
+ghost use Rattle.std.specs.Prelude.{IfOk, None, unwrap_or};
 ghost use Rattle.vx_frames.specs.Giving.{GivesIn};
 ghost use Rattle.vx_group.specs.Callers.{Keeps};
 ghost use Rattle.vx_group.specs.Group.{IsGroupIn};
 ghost use Rattle.vx_group_states.specs.Sites.{Gives, here};
 ghost use Rattle.vx_heap.specs.Heap.{HeapView};
 ghost use Rattle.vx_java.specs.Ids.{HasClassNumbers};
-ghost use Rattle.vx_java.specs.Machine.{Native as NativeOf, method_text, unsupported as unsupported_of};
+ghost use Rattle.vx_java.specs.Machine.{Native as NativeOf, Raise as RaiseOf, method_text, unsupported as unsupported_of};
 ghost use Rattle.vx_java.specs.Operation.{native_word};
+ghost use Rattle.vx_link.specs.ClassNames.{class_of_name};
 ghost use Rattle.vx_link.specs.Parts.{method_at};
 ghost use Rattle.vx_space.specs.Sets.{Sets};
 ghost use Rattle.vx_invoke.specs.Called.{MayEnter, called_with};
@@ -42,8 +43,7 @@ fn enter<S: Space>(
     ensures gives { IfOk result (λ r. (heap : HeapView S S.Id) → GivesIn site.now.program.now (λ _ _. called_with site.now count (Call.Enter method)) (S.sets space.now) (S.sets space.now) callers.old callers.new group r.items.items heap) }
 {
     if group.depth() >= MOST_FRAMES {
-        let raised = raise(alloc, site.program, group, b"java/lang/StackOverflowError")?;
-        return Ok(raised);
+        return raise(alloc, site.program, group, b"java/lang/StackOverflowError");
     }
     let (caller, arguments) = taken(alloc, group, count)?;
     let called = entered(
@@ -56,8 +56,7 @@ fn enter<S: Space>(
         method,
         arguments,
     )?;
-    let outcomes = Outcomes::go(alloc, called)?;
-    Ok(outcomes)
+    Outcomes::go(alloc, called)
 }
 
 /// All runs call a native method that the machine doesn't have.
@@ -70,8 +69,21 @@ fn missing<S: Space>(
     ensures { IfOk result (λ r. (sets : Sets S.Id) → Gives site.now.program.now (λ s. unsupported_of (here site.now s) native_word (method_text site.now.program.now (method_at site.now.program.now method.0))) sets sets group.now r.items.items) }
 {
     let name = method_name(alloc, site.program, method)?;
-    let ended = unsupported(alloc, site.program, group, NATIVE_WORD, name)?;
-    Ok(ended)
+    unsupported(alloc, site.program, group, NATIVE_WORD, name)
+}
+
+/// All runs raise an exception of the core class of this name.
+pub(crate) fn raised<S: Space>(
+    alloc: Global,
+    site: &Site,
+    part: Group<S>,
+    name: &[u8],
+) -> Result<Outcomes<S>, SpaceFault>
+    requires { HasClassNumbers site.now.program.now }
+    ensures { IfOk result (λ r. (sets : Sets S.Id) → Gives site.now.program.now (λ s. RaiseOf (unwrap_or (class_of_name site.now.program.now name.now) 0) None s) sets sets part r.items.items) }
+{
+    let outcomes = raise(alloc, site.program, part, name)?;
+    Ok(outcomes)
 }
 
 /// All runs call a native method, whose arguments stay on the operands.
@@ -79,7 +91,7 @@ fn native<S: Space>(
     alloc: Global,
     group: Group<S>,
     method: MethodId,
-) -> Result<Outcomes<S>, AllocError>
+) -> Result<Outcomes<S>, SpaceFault>
     ensures { IfOk result (λ r. (program : _) (sets : Sets S.Id) → Gives program (λ s. NativeOf method.0 s) sets sets group r.items.items) }
 {
     let mut outcomes = Outcomes::new(alloc);
@@ -105,35 +117,12 @@ pub(crate) fn called_part<S: Space>(
     ensures gives { IfOk result (λ r. (heap : HeapView S S.Id) → GivesIn site.now.program.now (λ _ _. called_with site.now count call) (S.sets space.now) (S.sets space.now) callers.old callers.new part r.items.items heap) }
 {
     match call {
-        Call::Illegal => {
-            let ended = illegal(alloc, site.program, &part)?;
-            Ok(ended)
-        }
-        Call::Null => {
-            let raised = raise(alloc, site.program, part, b"java/lang/NullPointerException")?;
-            Ok(raised)
-        }
-        Call::WrongKind => {
-            let raised = raise(
-                alloc,
-                site.program,
-                part,
-                b"java/lang/IncompatibleClassChangeError",
-            )?;
-            Ok(raised)
-        }
-        Call::Abstract => {
-            let raised = raise(alloc, site.program, part, b"java/lang/AbstractMethodError")?;
-            Ok(raised)
-        }
-        Call::Missing(method) => {
-            let unknown = missing(alloc, site, &part, method)?;
-            Ok(unknown)
-        }
-        Call::Native(method) => {
-            let left = native(alloc, part, method)?;
-            Ok(left)
-        }
+        Call::Illegal => illegal(alloc, site.program, &part),
+        Call::Null => raised(alloc, site, part, b"java/lang/NullPointerException"),
+        Call::WrongKind => raised(alloc, site, part, b"java/lang/IncompatibleClassChangeError"),
+        Call::Abstract => raised(alloc, site, part, b"java/lang/AbstractMethodError"),
+        Call::Missing(method) => missing(alloc, site, &part, method),
+        Call::Native(method) => native(alloc, part, method),
         Call::Enter(method) => {
             let made = enter(alloc, site, space, callers, part, method, count)?;
             Ok(made)

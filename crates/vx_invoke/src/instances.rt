@@ -143,8 +143,7 @@ pub(crate) fn instance_call<S: Space>(
 {
     let count = types.len() + 1;
     if group.top_frame().stack.len() < count {
-        let ended = illegal(alloc, site.program, &group)?;
-        return Ok(ended);
+        return illegal(alloc, site.program, &group);
     }
     let matching = where_matching(space, &group, types)?;
     let calls = calls_inside(site, space, heap, &group, target, types.len(), matching)?;

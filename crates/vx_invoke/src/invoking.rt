@@ -140,10 +140,7 @@ pub fn attempt<S: Space>(
             let target = target_of(mode, &member, named, resolved, class);
             found_call(alloc, site, space, heap, callers, group, &target)
         }
-        MethodReference::Clone(_) => {
-            let cloned = clone_arrays(alloc, site, space, heap, group)?;
-            Ok(cloned)
-        }
+        MethodReference::Clone(_) => clone_arrays(alloc, site, space, heap, group),
         missing => unresolved(alloc, site, group, missing, &member),
     }
 }

@@ -84,8 +84,7 @@ pub(crate) fn static_call<S: Space>(
 {
     let count = types.len();
     if group.top_frame().stack.len() < count {
-        let ended = illegal(alloc, site.program, &group)?;
-        return Ok(ended);
+        return illegal(alloc, site.program, &group);
     }
     let class = class_of_method(site.program, method);
     let needs = where_matching(space, &group, types)?;

@@ -9,8 +9,9 @@ ghost use Rattle.vx_references.specs.Calls.{by_reference};
 ghost use Rattle.vx_space.specs.Sets.{Sets};
 ghost use Rattle.vx_invoke.specs.Calling.{is_unresolved};
 
+use crate::entering::raised;
 use std::alloc::Global;
-use vx_families::{CLASS_WORD, METHOD_WORD, raise, unsupported};
+use vx_families::{CLASS_WORD, METHOD_WORD, unsupported};
 use vx_group::Group;
 use vx_group_states::Site;
 use vx_java::MemberReference;
@@ -42,13 +43,12 @@ pub(crate) fn unresolved<S: Space>(
             unsupported(alloc, site.program, &group, METHOD_WORD, name)
         }
         MethodReference::WrongKind => {
-            let raised = raise(
+            raised(
                 alloc,
-                site.program,
+                site,
                 group,
                 b"java/lang/IncompatibleClassChangeError",
-            )?;
-            Ok(raised)
+            )
         }
         MethodReference::Found { .. } | MethodReference::Clone(_) => unreachable!(),
     }

@@ -2,7 +2,7 @@
 use Rattle.std.specs.Fmt.{signed_decimal}
 use Rattle.std.specs.List.{list_any}
 use Rattle.std.specs.Prelude.{Bool, List, None, Option, Some, [], codes, if◌then◌else◌, map, nat_lt, pos, replicate, suc, true, zero, ℕ, ℤ, ◌&&◌, ◌*◌, ◌++◌, ◌+◌, ◌-◌, ◌==◌, ◌||◌, ◌∷◌}
-use Rattle.vx_code.specs.Checks.{each}
+use Rattle.vx_pool.specs.Checks.{each}
 use Rattle.vx_desc.specs.declared.java_type.Base.{Base}
 use Rattle.vx_java.specs.Checks.{is_object, is_of, is_within, non_null, width_of_sort, with_class}
 use Rattle.vx_java.specs.FirstObjects.{default_of_base}

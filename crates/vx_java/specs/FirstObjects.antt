@@ -2,7 +2,7 @@
 use Rattle.std.specs.List.{filter_map, list_any}
 use Rattle.std.specs.Prelude.{Bool, List, None, Option, Some, [], bytes_eq, false, flat_map, length, map, nat_lt, negsuc, pos, position, suc, true, unwrap_or, zero, ℕ, ℤ, ◌%◌, ◌*◌, ◌++◌, ◌+◌, ◌-ℤ◌, ◌==◌, ◌∷◌}
 use Prim.Native.String.{String}
-use Rattle.vx_code.specs.Lookups.{entry_of}
+use Rattle.vx_pool.specs.Lookups.{entry_of}
 use Rattle.vx_desc.specs.Descriptors.{field_type}
 use Rattle.vx_desc.specs.declared.java_type.Base.{Base}
 use Rattle.vx_desc.specs.declared.java_type.JavaType.{JavaType}

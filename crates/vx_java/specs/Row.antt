@@ -2,7 +2,7 @@
 use Rattle.std.specs.Int.{w32, w64}
 use Rattle.std.specs.Prelude.{List, None, Option, Some, codes}
 use Rattle.vx_class.specs.declared.class_file.Code.{Code}
-use Rattle.vx_code.specs.Lookups.{entry_of}
+use Rattle.vx_pool.specs.Lookups.{entry_of}
 use Rattle.vx_java.specs.Arrays.{array_length, load_element, new_grid, new_primitives, new_references, store_element}
 use Rattle.vx_java.specs.Calculation.{int_arithmetic, int_shift, long_arithmetic, long_compare, long_shift, on_int, on_long}
 use Rattle.vx_java.specs.Calls.{invoke}

@@ -10,7 +10,7 @@ use crate::assignability::assignable;
 use crate::naming::class_named;
 use crate::parts::class_of_method;
 use vx_class::Catch;
-use vx_code::class_text;
+use vx_pool::class_text;
 use vx_link::Program;
 use vx_value::{ClassId, MethodId};
 

@@ -5,8 +5,7 @@ ghost use Rattle.std.specs.Prelude.{◌≡◌, ◌<◌, ◌^◌, length};
 ghost use Rattle.vx_java.specs.Named.{in_bytes};
 ghost use Rattle.vx_link.specs.Names.{member, member_named, member_of};
 
-use vx_code::{class_text, entry_of, member_descriptor, member_name};
-use vx_pool::{Entry, Pool};
+use vx_pool::{Entry, Pool, class_text, entry_of, member_descriptor, member_name};
 
 /// A field or a method as an entry of a pool names it.
 #[derive(Clone, Copy)]

@@ -9,10 +9,10 @@ use Rattle.vx_class.specs.declared.class_file.Catch.{Catch}
 use Rattle.vx_class.specs.declared.class_file.ClassFile.{ClassFile}
 use Rattle.vx_class.specs.declared.class_file.Code.{Code}
 use Rattle.vx_class.specs.declared.class_file.Method.{Method}
-use Rattle.vx_code.specs.Checks.{all_hold}
-use Rattle.vx_code.specs.Entries.{usable}
-use Rattle.vx_code.specs.Lookups.{class, entry_of}
-use Rattle.vx_code.specs.Instructions.{AreInstructions, JumpsHold, is_start}
+use Rattle.vx_pool.specs.Checks.{all_hold}
+use Rattle.vx_pool.specs.Entries.{usable}
+use Rattle.vx_pool.specs.Lookups.{class, entry_of}
+use Rattle.vx_pool.specs.Instructions.{AreInstructions, JumpsHold, is_start}
 use Rattle.vx_opcode.specs.Bounds.{lies}
 use Rattle.vx_pool.specs.declared.pool.Pool.{Pool}
 use Rattle.std.specs.Cmp.Derive.{both_true}

@@ -14,7 +14,7 @@ use Rattle.vx_model.specs.declared.model.OptionField.{OptionField}
 use Rattle.vx_opcode.specs.Decode.{instruction_at, shaped_at}
 use Rattle.vx_pool.specs.declared.pool.Pool.{Pool}
 use Rattle.std.specs.Cmp.Derive.{both_true}
-use Rattle.vx_code.specs.Holding.{and_true}
+use Rattle.vx_pool.specs.Holding.{and_true}
 use Rattle.vx_jump_targets.proofs.Lists.{all_pass}
 use Rattle.vx_jump_targets.proofs.PlacedFiles.{is_placed_file, placed_file}
 use Rattle.vx_jump_targets.specs.Placed.{are_well_placed, has_placed_code}

@@ -8,7 +8,7 @@ use Rattle.std.proofs.lemmas.List.{reverse-append}
 use Rattle.std.proofs.lemmas.List.Folds.{list_all-append, list_all-map}
 use Rattle.std.specs.Cmp.Derive.{both_true}
 use Rattle.std.specs.List.{list_all, take_while}
-use Rattle.vx_code.specs.Holding.{and_true}
+use Rattle.vx_pool.specs.Holding.{and_true}
 use Rattle.vx_java.specs.Initialisation.{begin, begin_chain, begin_free, chain_blocked, init_chain, init_frame, is_not, pushed_chain, with_frames}
 use Rattle.vx_java.specs.Machine.{Go, Raise, State, init_at, with_inits}
 use Rattle.vx_kept_facts.proofs.KeptRows.{begins}

@@ -4,7 +4,7 @@ use Rattle.std.proofs.lemmas.Bool.{ltb-true, or_left}
 use Rattle.std.specs.Cmp.Derive.{both_true}
 use Rattle.std.specs.List.{list_all}
 use Rattle.vx_class.specs.declared.class_file.Code.{Code}
-use Rattle.vx_code.specs.Holding.{and_true}
+use Rattle.vx_pool.specs.Holding.{and_true}
 use Rattle.vx_java.specs.Calls.{state_in_callee}
 use Rattle.vx_java.specs.Machine.{Frame, Go, Here, Value, current_class, with_inits}
 use Rattle.vx_java.specs.Returns.{bytes_of, frame_resumed, instruction_size, return_to}

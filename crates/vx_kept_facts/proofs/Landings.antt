@@ -6,9 +6,9 @@ use Rattle.std.proofs.lemmas.Bool.Decides.{eqb_tells}
 use Rattle.std.proofs.lemmas.Option.{same_Some, slice_get_past}
 use Rattle.std.specs.Option.{option_and_then}
 use Rattle.std.specs.Prelude.{nat_le, nat_lt, slice_get}
-use Rattle.vx_code.specs.Checks.{all_hold}
-use Rattle.vx_code.specs.Holding.{and_true}
-use Rattle.vx_code.specs.Instructions.{all_below, is_start, is_target, jump_checks}
+use Rattle.vx_pool.specs.Checks.{all_hold}
+use Rattle.vx_pool.specs.Holding.{and_true}
+use Rattle.vx_pool.specs.Instructions.{all_below, is_start, is_target, jump_checks}
 use Rattle.vx_java.proofs.OpcodeRanges.{Each, at_each}
 use Rattle.vx_java.specs.Machine.{Here}
 use Rattle.vx_java.specs.Operation.{Rule, does, number_of, operation_of, rules, switch_of}

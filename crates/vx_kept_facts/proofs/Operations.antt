@@ -1,7 +1,7 @@
 -- What the row of each operation comes to.
 use Rattle.std.proofs.Common.{if◌then◌else◌, Bool, List, arith, false, int_le, nat_abs, refl, subst, suc, true, zero, ℕ, ℤ, ◌&&◌, ◌*◌, ◌+◌, ◌-ℤ◌, ◌<◌, ◌≤◌, ◌∷◌, ◌≡◌}
 use Rattle.std.proofs.lemmas.Int.{ints}
-use Rattle.vx_code.specs.Lookups.{entry_of}
+use Rattle.vx_pool.specs.Lookups.{entry_of}
 use Rattle.vx_java.specs.Jumps.{jump, offset_at, pair_of, switch_lookup, switch_table}
 use Rattle.vx_java.specs.Machine.{Here, Int, Long, Null, Top, Value}
 use Rattle.vx_java.specs.Row.{row_of}

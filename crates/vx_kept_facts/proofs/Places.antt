@@ -9,9 +9,9 @@ use Rattle.std.specs.List.{list_all}
 use Rattle.std.specs.Prelude.{nat_lt, ◌&&◌, ◌==◌, ◌||◌}
 use Rattle.vx_class.specs.declared.class_file.Catch.{Catch}
 use Rattle.vx_class.specs.declared.class_file.Code.{Code}
-use Rattle.vx_code.specs.Checks.{all_hold}
-use Rattle.vx_code.specs.Holding.{and_true}
-use Rattle.vx_code.specs.Instructions.{is_start, jump_checks}
+use Rattle.vx_pool.specs.Checks.{all_hold}
+use Rattle.vx_pool.specs.Holding.{and_true}
+use Rattle.vx_pool.specs.Instructions.{is_start, jump_checks}
 use Rattle.vx_java.specs.Selection.{covers, handler_in, takes}
 use Rattle.vx_jump_targets.specs.Placed.{behind, is_well_placed, jumps_lead, meets_jumps, starts_from, starts_in}
 use Rattle.vx_link.specs.declared.program.Program.{Program}

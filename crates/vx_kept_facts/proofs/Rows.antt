@@ -3,7 +3,7 @@ use Rattle.std.proofs.Common.{Bool, None, Option, Some, ap, arith, false, inl, i
 use Rattle.std.proofs.Math.Dec.{eqb}
 use Rattle.std.proofs.lemmas.Bool.Decides.{eqb_tells}
 use Rattle.vx_class.specs.declared.class_file.Code.{Code}
-use Rattle.vx_code.specs.Instructions.{is_start}
+use Rattle.vx_pool.specs.Instructions.{is_start}
 use Rattle.vx_java.specs.Machine.{Here, State, current_class}
 use Rattle.vx_java.specs.Operation.{operation_of}
 use Rattle.vx_java.specs.Row.{row, row_at, row_if, row_in}

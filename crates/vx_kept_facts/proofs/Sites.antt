@@ -7,8 +7,8 @@ use Rattle.std.proofs.lemmas.Slice.Eq.{bytes_eq-Decides}
 use Rattle.std.specs.List.{list_all, list_any}
 use Rattle.std.specs.Prelude.{slice_set, ◌||◌}
 use Rattle.vx_class.specs.declared.class_file.Code.{Code}
-use Rattle.vx_code.specs.Holding.{and_true}
-use Rattle.vx_code.specs.Instructions.{is_start}
+use Rattle.vx_pool.specs.Holding.{and_true}
+use Rattle.vx_pool.specs.Instructions.{is_start}
 use Rattle.vx_java.specs.Jumps.{target}
 use Rattle.vx_java.specs.Machine.{Begin, Ended, Frame, Go, Here, Native, Object, Outcome, Raise, State, Throw, Value, Write, in_state, inits_with, object_at, with_inits}
 use Rattle.vx_jump_targets.specs.Placed.{starts_in}

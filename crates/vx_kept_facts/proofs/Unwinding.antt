@@ -3,7 +3,7 @@ use Rattle.std.proofs.Common.{if◌then◌else◌, Bool, List, None, Option, Som
 use Rattle.std.proofs.lemmas.Bool.{or_left}
 use Rattle.std.specs.List.{list_all}
 use Rattle.vx_class.specs.declared.class_file.Code.{Code}
-use Rattle.vx_code.specs.Holding.{and_true}
+use Rattle.vx_pool.specs.Holding.{and_true}
 use Rattle.vx_java.specs.Machine.{Ends, Frame, Goes, Next, State, current_class, object_at, with_inits, with_objects}
 use Rattle.vx_java.specs.Selection.{catches_of, handler_in}
 use Rattle.vx_java.specs.Throwing.{exception_objects, handler_of, is_error, next_after_raise, next_after_throw, next_in_handler, passed_object, passed_state, uncaught, unwind, with_wrapper}

@@ -2,7 +2,7 @@
 use Rattle.std.specs.List.{list_all}
 use Rattle.std.specs.Prelude.{Bool, None, Option, Some, false, is_some, length, true, ℕ, ◌==◌, ◌||◌, ◌≡◌}
 use Rattle.vx_class.specs.declared.class_file.Code.{Code}
-use Rattle.vx_code.specs.Instructions.{is_start}
+use Rattle.vx_pool.specs.Instructions.{is_start}
 use Rattle.vx_java.specs.Machine.{Begin, Ended, Frame, Go, Native, Outcome, Raise, State, Throw, Write, object_at}
 use Rattle.vx_java.specs.Step.{Live, Over, Run, frames_of}
 use Rattle.vx_jump_targets.specs.Placed.{starts_in}

@@ -7,7 +7,7 @@ use Rattle.std.specs.Cmp.Derive.{both_true}
 use Rattle.std.specs.List.{list_all, position}
 use Rattle.vx_class.specs.declared.class_file.ClassFile.{ClassFile}
 use Rattle.vx_class.specs.declared.class_file.Method.{Method}
-use Rattle.vx_code.specs.Holding.{and_true}
+use Rattle.vx_pool.specs.Holding.{and_true}
 use Rattle.vx_desc.specs.Names.{is_clinit}
 use Rattle.vx_kept_facts.specs.Law.{has_bytes}
 use Rattle.vx_kept_states.proofs.WholeFiles.{begins_class, is_whole_file, is_whole_method}

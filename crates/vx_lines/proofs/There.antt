@@ -3,14 +3,14 @@ use Rattle.std.proofs.Common.{◌≡◌, ℕ, ◌+◌, ◌*◌, ◌<◌, ◌^◌
 use Rattle.std.proofs.lemmas.List.{append-nil}
 use Rattle.std.proofs.lemmas.List.Concat.{flat_map-cons}
 use Rattle.std.specs.List.{flat_map, AllByRecursion}
-use Rattle.vx_cursor.specs.Place.{Place, place}
-use Rattle.vx_cursor.specs.Reading.{Fault, Read, ◌>>=◌, number, bytes, steps, item_step}
-use Rattle.vx_cursor.specs.Again.{Reads, number_reads, bytes_reads, reads_then, reads_last}
+use Rattle.vx_pool.specs.Place.{Place, place}
+use Rattle.vx_pool.specs.Reading.{Fault, Read, ◌>>=◌, number, bytes, steps, item_step}
+use Rattle.vx_pool.specs.ReadingAgain.{Reads, number_reads, bytes_reads, reads_then, reads_last}
 use Rattle.vx_pool.specs.declared.pool.Pool.{Pool}
 use Rattle.vx_pool.specs.Pool.{pool_at}
 use Rattle.vx_pool.specs.Spelling.{pool_bytes, IsPool}
 use Rattle.vx_pool.specs.Again.{pool_reads}
-use Rattle.vx_code.specs.Lookups.{text}
+use Rattle.vx_pool.specs.Lookups.{text}
 use Rattle.vx_class.specs.declared.class_file.Catch.{Catch}
 use Rattle.vx_class.specs.declared.class_file.ClassFile.{ClassFile}
 use Rattle.vx_class.specs.declared.class_file.Code.{Code}

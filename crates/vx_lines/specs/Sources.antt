@@ -1,9 +1,9 @@
 -- The source file of a class (JVMS 4.7.10; that the last one counts, and that one of another form names none, is own).
 use Rattle.std.specs.Prelude.{ℕ, ◌+◌, ◌*◌, List, [], ◌∷◌, Option, Some, None, Result, Ok, codes, if◌then◌else◌, option_and_then, ◌≡◌}
-use Rattle.vx_cursor.specs.Place.{Place, start}
-use Rattle.vx_cursor.specs.Reading.{Fault, Read, ◌>>=◌, number, steps}
+use Rattle.vx_pool.specs.Place.{Place, start}
+use Rattle.vx_pool.specs.Reading.{Fault, Read, ◌>>=◌, number, steps}
 use Rattle.vx_pool.specs.declared.pool.Pool.{Pool}
-use Rattle.vx_code.specs.Lookups.{text}
+use Rattle.vx_pool.specs.Lookups.{text}
 use Rattle.vx_class.specs.Members.{is_text_of}
 use Rattle.vx_lines.specs.Tables.{attribute_at, methods_at}
 

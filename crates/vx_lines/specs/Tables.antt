@@ -1,7 +1,7 @@
 -- The line tables of a class file (JVMS 4.7.12), as they stand in its bytes.
 use Rattle.std.specs.Prelude.{ℕ, ◌+◌, ◌*◌, ◌==◌, List, [], ◌∷◌, ◌++◌, length, Result, Ok, codes, if◌then◌else◌}
-use Rattle.vx_cursor.specs.Place.{Place, start}
-use Rattle.vx_cursor.specs.Reading.{Fault, Read, ◌>>=◌, number, bytes, steps, items}
+use Rattle.vx_pool.specs.Place.{Place, start}
+use Rattle.vx_pool.specs.Reading.{Fault, Read, ◌>>=◌, number, bytes, steps, items}
 use Rattle.vx_pool.specs.declared.pool.Pool.{Pool}
 use Rattle.vx_pool.specs.Pool.{pool_at}
 use Rattle.vx_class.specs.Code.{content_at}

@@ -1,7 +1,7 @@
 //! The line tables of a class (JVMS 4.7.12), read from the bytes of its file. All else is passed over.
 
 ghost use Rattle.std.specs.Prelude.{◌≡◌, length, Ok, IfOk, OnOk};
-ghost use Rattle.vx_cursor.specs.Reading.{Answers, Gives, GivesBy, items, steps};
+ghost use Rattle.vx_pool.specs.Reading.{Answers, Gives, GivesBy, items, steps};
 ghost use Rattle.vx_class.specs.File.{File};
 ghost use Rattle.vx_class.specs.Members.{is_text_of};
 ghost use Rattle.vx_lines.specs.Tables.{attribute_at, code_at, content_rows_at, field_at, field_step, head_at, lines_of, method_at, method_step, methods_at, pass_step, table_step, with_rows};
@@ -10,10 +10,8 @@ use crate::rows::put_table;
 use crate::table::{LineRow, LineTable, MethodLines};
 use std::alloc::{AllocError, Global};
 use vx_class::ClassFile;
-use vx_code::text;
-use vx_cursor::{ClassFault, Cursor};
+use vx_pool::{ClassFault, Cursor, Pool, read_pool, text};
 use vx_list::Items;
-use vx_pool::{Pool, read_pool};
 
 /// The index of the name of an attribute, and its content.
 #[tactic(auto, unfolding(crate::specs::Tables::attribute_at, vx_class::specs::Code::content_at))]

@@ -1,18 +1,16 @@
 //! The source file of a class (JVMS 4.7.10), read from the bytes of its file. All else is passed over.
 
 ghost use Rattle.std.specs.Prelude.{◌≡◌, IfOk, option_and_then};
-ghost use Rattle.vx_cursor.specs.Reading.{Answers, Gives, GivesBy, steps};
+ghost use Rattle.vx_pool.specs.Reading.{Answers, Gives, GivesBy, steps};
 ghost use Rattle.vx_class.specs.File.{File};
-ghost use Rattle.vx_code.specs.Lookups.{text};
+ghost use Rattle.vx_pool.specs.Lookups.{text};
 ghost use Rattle.vx_lines.specs.Sources.{IsName, file_step, index_in, source_of, sources_at, with_index};
 
 use crate::reading::{attribute, class_methods, is_text_of};
 use crate::rows::number_of;
 use std::alloc::{AllocError, Global};
 use vx_class::ClassFile;
-use vx_code::text;
-use vx_cursor::{ClassFault, Cursor};
-use vx_pool::Pool;
+use vx_pool::{ClassFault, Cursor, Pool, text};
 use vx_value::Name;
 
 /// The index in a content of two bytes; one of another length has none.

@@ -2,7 +2,7 @@
 use Rattle.std.specs.Prelude.{Bool, List, None, Option, Some, [], bytes_eq, codes, false, if◌then◌else◌, nat_le, nat_lt, not, option_and_then, option_map, position, replicate, true, unwrap_or, ℕ, ◌%◌, ◌&&◌, ◌*◌, ◌++◌, ◌+◌, ◌-◌, ◌/◌, ◌==◌, ◌||◌, ◌∷◌}
 use Rattle.std.specs.Str.{byte}
 use Prim.Native.String.{String}
-use Rattle.vx_code.specs.Instructions.{dimensions}
+use Rattle.vx_pool.specs.Instructions.{dimensions}
 use Rattle.vx_desc.specs.Descriptors.{field_type}
 use Rattle.vx_desc.specs.declared.java_type.Base.{Base}
 use Rattle.vx_desc.specs.declared.java_type.Base.TheVariants.{Byte, Char, Class, Double, Float, Int, Long, Short}
@@ -11,7 +11,7 @@ use Rattle.vx_link.specs.Parts.{class_at, class_count}
 use Rattle.vx_link.specs.Signature.{class_in}
 use Rattle.vx_link.specs.declared.program.Program.{Program}
 use Rattle.vx_list.specs.Places.{item_or}
-use Rattle.vx_code.specs.Lookups.{is_array as is_array_text}
+use Rattle.vx_pool.specs.Lookups.{is_array as is_array_text}
 use Rattle.vx_desc.specs.declared.java_type.Base.TheVariants.{Bool as BoolBase}
 
 -- the number of a class by its name

@@ -1,6 +1,6 @@
 -- What the entries of a constant pool name (JVMS 4.4), where a reader has seen to it that each index names an entry of the right kind.
 use Rattle.std.specs.Prelude.{Bool, List, Option, Some, [], false, true, unwrap_or, ℕ}
-use Rattle.vx_code.specs.Lookups.{class_text, entry_of, member_descriptor, member_name, text}
+use Rattle.vx_pool.specs.Lookups.{class_text, entry_of, member_descriptor, member_name, text}
 use Rattle.vx_pool.specs.declared.pool.Entry.{Entry}
 use Rattle.vx_pool.specs.declared.pool.Entry.TheVariants.{Field, InterfaceMethod, Method}
 use Rattle.vx_pool.specs.declared.pool.Pool.{Pool}

@@ -8,8 +8,7 @@ ghost use Rattle.vx_link.specs.Faults.{name_of, super_name, is_interface_file};
 use crate::access_flags::AccessFlags;
 use bitflags::Flags;
 use vx_class::ClassFile;
-use vx_code::{class_text, text};
-use vx_pool::Pool;
+use vx_pool::{Pool, class_text, text};
 
 /// The name of a class entry.
 pub fn class_name(pool: &Pool, index: u16) -> &[u8]

@@ -240,18 +240,40 @@ fn with_cells(
     Ok(laid_out)
 }
 
-/// The program with the cells of its instance fields. A class's superclasses are gone through once.
+/// The cell of each field of a program. A class's superclasses are gone through once.
+fn cells_of(alloc: Global, program: &Program) -> Result<Vec<u32>, AllocError>
+    requires few { All HasFewFields program.now.classes }
+    requires classes { length program.now.classes ≤ 2 ^ 15 }
+    requires fields { length program.now.fields < 2 ^ 32 }
+    ensures { IfOk result (λ cells. cells.items ≡ all_cells program.now) }
+{
+    let counts = instance_counts(alloc, program)?;
+    let above = cells_above(alloc, program, &counts)?;
+    all_cells(alloc, program, &above)
+}
+
+/// Fields with the cells of a list.
+fn laid_out(
+    alloc: Global,
+    fields: MemberList<LinkedField>,
+    cells: &[u32],
+) -> Result<MemberList<LinkedField>, AllocError>
+    ensures { IfOk result (λ made. made ≡ with_cells fields cells.now) }
+{
+    let (fields, keys) = fields.into_parts();
+    let laid_out = with_cells(alloc, fields, cells)?;
+    let fields = MemberList::from_parts(Items::of(laid_out), keys);
+    Ok(fields)
+}
+
+/// The program with the cells of its instance fields.
 pub fn with_layout(alloc: Global, program: Program) -> Result<Program, AllocError>
     requires few { All HasFewFields program.classes }
     requires classes { length program.classes ≤ 2 ^ 15 }
     requires fields { length program.fields < 2 ^ 32 }
     ensures { IfOk result (λ p. p ≡ with_layout program) }
 {
-    let counts = instance_counts(alloc, &program)?;
-    let above = cells_above(alloc, &program, &counts)?;
-    let cells = all_cells(alloc, &program, &above)?;
-    let (fields, keys) = program.fields.into_parts();
-    let laid_out = with_cells(alloc, fields, &cells)?;
-    let fields = MemberList::from_parts(Items::of(laid_out), keys);
+    let cells = cells_of(alloc, &program)?;
+    let fields = laid_out(alloc, program.fields, &cells)?;
     Ok(Program { fields, ..program })
 }

@@ -1,8 +1,14 @@
-//! Values in order, which contracts see as a list: the type of every field that holds many values.
+//! Values in order, which contracts see as a list: the type of every field that holds many values. And what calls on lists and tables have in
+//! common: how want of memory leaves a list as it was, and how hashes of what an input names begin.
 #![tactic(auto)]
 
 ghost use Rattle.std.specs.Prelude.{◌≡◌, length, slice_get, option_copied};
 
+mod appending;
+mod keyed;
+
+pub use appending::{or_cut_back, put_one};
+pub use keyed::Keyed;
 use std::marker::Model;
 
 /// Values in order, which contracts see as the list of them. It is made from a `Vec` and gives it back, without memory.

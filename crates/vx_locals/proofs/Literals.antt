@@ -4,7 +4,7 @@ use Rattle.std.proofs.lemmas.List.{length-map}
 use Rattle.std.proofs.lemmas.List.Quantifiers.{position-Some}
 use Rattle.std.specs.Prelude.{Option, Some, None, position, slice_get, unwrap_or}
 use Rattle.vx_list.specs.Places.{item_or}
-use Rattle.vx_code.specs.Lookups.{entry_of}
+use Rattle.vx_pool.specs.Lookups.{entry_of}
 use Rattle.vx_pool.specs.declared.pool.Entry.{Entry}
 use Rattle.vx_pool.specs.declared.pool.Pool.{Pool}
 use Rattle.vx_space.specs.Sets.{Sets}

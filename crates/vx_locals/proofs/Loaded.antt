@@ -1,7 +1,7 @@
 -- What a group comes to by the kind of the constant that it loads.
 use Rattle.std.proofs.Common.{◌≡◌, ℕ, Bool, true, List, [], refl, sym, ◌∙◌, ap}
 use Rattle.std.specs.Prelude.{Option, Some, None, codes, option_and_then, option_map, unwrap_or}
-use Rattle.vx_code.specs.Lookups.{class, entry_of, text}
+use Rattle.vx_pool.specs.Lookups.{class, entry_of, text}
 use Rattle.vx_pool.specs.declared.pool.Entry.{Entry}
 use Rattle.vx_pool.specs.declared.pool.Entry.TheVariants as entry
 use Rattle.vx_value.specs.declared.ids.ClassId.{ClassId}

@@ -1,16 +1,15 @@
 //! What the entries of a pool are to a load of a constant (JVMS 6.5 ldc, ldc_w, ldc2_w).
 
 ghost use Rattle.std.specs.Prelude.{◌≡◌, ◌<◌, ◌^◌, IfOk, codes, length};
-ghost use Rattle.vx_code.specs.Lookups.{entry_of};
+ghost use Rattle.vx_pool.specs.Lookups.{entry_of};
 ghost use Rattle.vx_link.specs.Names.{utf8};
 ghost use Rattle.vx_link.specs.Parts.{class_at};
 ghost use Rattle.vx_locals.specs.Constants.{constant_of};
 
 use std::alloc::{AllocError, Global};
-use vx_code::{entry_of, text};
+use vx_pool::{Entry, Pool, entry_of, text};
 use vx_families::{CONSTANT_WORD, FLOAT_WORD};
 use vx_link::Program;
-use vx_pool::{Entry, Pool};
 use vx_value::{ClassId, Name, Slot};
 
 /// What an entry of a pool is to a load of a constant.

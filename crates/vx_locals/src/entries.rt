@@ -1,7 +1,7 @@
 //! Constants of the pool that are pushed (JVMS 6.5 ldc, ldc_w, ldc2_w).
 
 ghost use Rattle.std.specs.Prelude.{◌≡◌, ◌<◌, IfOk, Some, length};
-ghost use Rattle.vx_code.specs.Lookups.{entry_of};
+ghost use Rattle.vx_pool.specs.Lookups.{entry_of};
 ghost use Rattle.vx_pool.specs.declared.pool.Entry.{Entry};
 ghost use Rattle.vx_pool.specs.declared.pool.Entry.TheVariants.{Class as ClassEntry};
 ghost use Rattle.vx_link.specs.Parts.{class_at, method_at};

@@ -56,34 +56,13 @@ pub fn attempt<S: Space>(
             let passed = pass(alloc, site, space, group)?;
             Ok(passed)
         }
-        Operation::PushNull => {
-            let pushed = push_constant(alloc, site, space, group, Slot::Null)?;
-            Ok(pushed)
-        }
-        Operation::PushInt(n) => {
-            let pushed = push_constant(alloc, site, space, group, Slot::Int(n))?;
-            Ok(pushed)
-        }
-        Operation::PushLong(n) => {
-            let pushed = push_constant(alloc, site, space, group, Slot::Long(n))?;
-            Ok(pushed)
-        }
-        Operation::PushEntry(index) => {
-            let pushed = push_entry(alloc, site, space, heap, group, index)?;
-            Ok(pushed)
-        }
-        Operation::Load(sort, place) => {
-            let loaded = load(alloc, site, space, group, sort, place)?;
-            Ok(loaded)
-        }
-        Operation::Store(sort, place) => {
-            let stored = store(alloc, site, space, group, sort, place)?;
-            Ok(stored)
-        }
-        Operation::Increase(place, by) => {
-            let increased = increase(alloc, site, space, group, place, by)?;
-            Ok(increased)
-        }
+        Operation::PushNull => push_constant(alloc, site, space, group, Slot::Null),
+        Operation::PushInt(n) => push_constant(alloc, site, space, group, Slot::Int(n)),
+        Operation::PushLong(n) => push_constant(alloc, site, space, group, Slot::Long(n)),
+        Operation::PushEntry(index) => push_entry(alloc, site, space, heap, group, index),
+        Operation::Load(sort, place) => load(alloc, site, space, group, sort, place),
+        Operation::Store(sort, place) => store(alloc, site, space, group, sort, place),
+        Operation::Increase(place, by) => increase(alloc, site, space, group, place, by),
         _ => unreachable!(),
     }
 }

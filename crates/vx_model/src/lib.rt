@@ -16,5 +16,5 @@ pub use expr::{Expr, Form};
 pub use fault::ModelFault;
 pub use law::rules_are_the_grammar;
 pub use model::{FieldPlace, Model, OptionField};
-pub use statement::{Refusal, is_taken, slashed};
+pub use statement::{Refusal, begins_comment, is_taken, slashed};
 pub use text::{fault_at, read_model};

@@ -72,7 +72,8 @@ const OPTION: &[u8] = b"option";
 
 const RULE: &[u8] = b"rule";
 
-fn begins_comment(word: &[u8]) -> bool
+/// Whether a word is the first of a comment.
+pub fn begins_comment(word: &[u8]) -> bool
     ensures { result ≡ begins_comment word.now }
 {
     match word {

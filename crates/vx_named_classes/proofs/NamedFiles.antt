@@ -6,7 +6,7 @@ use Rattle.vx_class.specs.File.{CodeHolds, CodeIs, EachBehind, Holds, MethodHold
 use Rattle.vx_class.specs.declared.class_file.ClassFile.{ClassFile}
 use Rattle.vx_class.specs.declared.class_file.Code.{Code}
 use Rattle.vx_class.specs.declared.class_file.Method.{Method}
-use Rattle.vx_code.specs.Instructions.{OperandHolds}
+use Rattle.vx_pool.specs.Instructions.{OperandHolds}
 use Rattle.vx_jump_targets.proofs.Lists.{each_passes}
 use Rattle.vx_jump_targets.proofs.PlacedFiles.{starts_are}
 use Rattle.vx_jump_targets.specs.Placed.{starts_in}

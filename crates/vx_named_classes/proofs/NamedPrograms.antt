@@ -7,7 +7,7 @@ use Rattle.std.specs.List.{list_all}
 use Rattle.vx_class.specs.File.{Holds}
 use Rattle.vx_class.specs.declared.class_file.ClassFile.{ClassFile}
 use Rattle.vx_class.specs.declared.class_file.Method.{Method}
-use Rattle.vx_code.specs.Holding.{and_true}
+use Rattle.vx_pool.specs.Holding.{and_true}
 use Rattle.vx_jump_targets.proofs.Lists.{all_pass}
 use Rattle.vx_jump_targets.proofs.WellPlaced.{made_is}
 use Rattle.vx_link.specs.Faults.{link_fault}

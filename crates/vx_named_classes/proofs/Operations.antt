@@ -2,11 +2,11 @@
 use Rattle.std.proofs.Common.{Bool, List, Some, [], false, is_some, refl, true, ℕ, ◌&&◌, ◌∷◌, ◌≡◌}
 use Rattle.std.specs.List.{AllByRecursion, list_all}
 use Rattle.std.specs.Prelude.{nat_le, not, ◌==◌, ◌||◌}
-use Rattle.vx_code.specs.Checks.{all_hold}
-use Rattle.vx_code.specs.Entries.{usable}
-use Rattle.vx_code.specs.Holding.{and_true}
-use Rattle.vx_code.specs.Instructions.{is_kind_for, is_start, operand_checks}
-use Rattle.vx_code.specs.Lookups.{class, entry_of, is_field, is_interface_method, is_method}
+use Rattle.vx_pool.specs.Checks.{all_hold}
+use Rattle.vx_pool.specs.Entries.{usable}
+use Rattle.vx_pool.specs.Holding.{and_true}
+use Rattle.vx_pool.specs.Instructions.{is_kind_for, is_start, operand_checks}
+use Rattle.vx_pool.specs.Lookups.{class, entry_of, is_field, is_interface_method, is_method}
 use Rattle.vx_java.specs.Operation.{entry_of as entry_named, operation_of, rules}
 use Rattle.vx_java.specs.declared.operation.Operation.{Operation}
 use Rattle.vx_java.specs.declared.operation.Operation.TheVariants.{CheckCast, GetField, GetStatic, InstanceOf, Invoke, New, NewGrid, NewReferences, PushEntry, PutField, PutStatic, Refuse}

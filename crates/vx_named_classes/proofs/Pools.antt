@@ -3,10 +3,10 @@ use Rattle.std.proofs.Common.{Bool, List, None, Option, Some, [], false, is_some
 use Rattle.std.proofs.lemmas.Option.{same_Some}
 use Rattle.std.specs.List.{AllByRecursion}
 use Rattle.std.specs.Prelude.{IsTrue, option_and_then, unwrap_or, ◌||◌}
-use Rattle.vx_code.specs.Checks.{all_hold}
-use Rattle.vx_code.specs.Entries.{checks_of, member_checks, usable, where_read}
-use Rattle.vx_code.specs.Holding.{and_true}
-use Rattle.vx_code.specs.Lookups.{class, entry_of, is_class_text, is_field, is_interface_method, is_method, member_descriptor, member_name, name_and_type, text}
+use Rattle.vx_pool.specs.Checks.{all_hold}
+use Rattle.vx_pool.specs.Entries.{checks_of, member_checks, usable, where_read}
+use Rattle.vx_pool.specs.Holding.{and_true}
+use Rattle.vx_pool.specs.Lookups.{class, entry_of, is_class_text, is_field, is_interface_method, is_method, member_descriptor, member_name, name_and_type, text}
 use Rattle.vx_desc.specs.Descriptors.{is_field_descriptor, is_method_descriptor}
 use Rattle.vx_desc.specs.Names.{is_class_name, is_field_name, is_method_name}
 use Rattle.vx_link.specs.Names.{class_name, member, member_named, utf8}

@@ -3,8 +3,8 @@ use Rattle.std.proofs.Common.{Bool, List, [], arith, false, refl, subst, suc, tr
 use Rattle.std.proofs.lemmas.Bool.Decides.{nat_tests}
 use Rattle.std.specs.List.{AllByRecursion, list_all}
 use Rattle.std.specs.Prelude.{slice_get, unwrap_or, ◌==◌, ◌||◌}
-use Rattle.vx_code.specs.Holding.{and_true}
-use Rattle.vx_code.specs.Instructions.{is_start}
+use Rattle.vx_pool.specs.Holding.{and_true}
+use Rattle.vx_pool.specs.Instructions.{is_start}
 use Rattle.vx_java.specs.Operation.{Rule, does, operation_of, rules}
 use Rattle.vx_java.specs.declared.operation.Operation.{Operation}
 use Rattle.vx_java.specs.declared.operation.Operation.TheVariants.{Nop}

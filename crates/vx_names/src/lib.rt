@@ -7,11 +7,12 @@ ghost use Rattle.vx_names.specs.Names.{has_name, place_of, with_name};
 use indexmap::IndexSet;
 use std::alloc::{AllocError, Global};
 use std::marker::Model;
+use vx_list::Keyed;
 
 /// Names in order, each once. Contracts see the list of them.
 #[derive(Drop)]
 pub struct NameTable {
-    names: IndexSet<Vec<u8>>,
+    names: IndexSet<Vec<u8>, Keyed>,
 }
 
 impl Model for NameTable {
@@ -23,12 +24,19 @@ impl Model for NameTable {
 }
 
 impl NameTable {
-    /// No names.
+    /// No names. What is put there is to be few, as the classes of a program are: their hashes have a key that everybody knows.
     pub fn new(alloc: Global) -> NameTable
         ensures { result ≡ [] }
     {
+        NameTable::keyed(alloc, Keyed::by(&[]))
+    }
+
+    /// No names. Hashes begin with a key that is made of all the names that may come.
+    pub fn keyed(alloc: Global, key: Keyed) -> NameTable
+        ensures { result ≡ [] }
+    {
         NameTable {
-            names: IndexSet::new(alloc),
+            names: IndexSet::with_hasher(alloc, key),
         }
     }
 

@@ -15,8 +15,8 @@ use Rattle.vx_group_states.specs.Sites.{GivesAt, here}
 use Rattle.vx_group_states.specs.Stands.{state_at}
 use Rattle.vx_group_states.specs.declared.answer.Answer.{Answer}
 use Rattle.vx_group_states.specs.declared.site.Site.{Site}
-use Rattle.vx_growth.proofs.ChangeLaws.{attempts_follow}
-use Rattle.vx_growth.specs.Changing.{changed_in, with_globals}
+use Rattle.vx_families.proofs.ChangeLaws.{attempts_follow}
+use Rattle.vx_families.specs.Changing.{changed_in, with_globals}
 use Rattle.vx_heap.specs.Heap.{Globals, HeapView, globals_at, value_of}
 use Rattle.vx_java.specs.Machine.{Here, Outcome, State}
 use Rattle.vx_java.specs.Natives.{native, native_of}

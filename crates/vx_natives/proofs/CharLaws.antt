@@ -15,7 +15,7 @@ use Rattle.vx_group_states.proofs.StateLaws.{both_first, both_second}
 use Rattle.vx_group_states.specs.Answers.{answer_cmp}
 use Rattle.vx_group_states.specs.declared.answer.Answer.{Answer}
 use Rattle.vx_group_states.specs.declared.answer.Answer.TheVariants as answer
-use Rattle.vx_growth.proofs.NameLaws.{name_stays}
+use Rattle.vx_families.proofs.NameLaws.{name_stays}
 use Rattle.vx_heap.proofs.Cells.{is_object_in, named, object_there}
 use Rattle.vx_group_states.proofs.GrownStates.{all_kept}
 use Rattle.vx_heap.proofs.Growing.{is_held-grown, text_there, value_of-grown}

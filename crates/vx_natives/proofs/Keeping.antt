@@ -11,7 +11,7 @@ use Rattle.vx_group_states.specs.Answering.{answer_at, answered, is_answer_held,
 use Rattle.vx_group_states.specs.Stands.{is_object, message_of, object_named}
 use Rattle.vx_group_states.specs.declared.answer.Answer.{Answer}
 use Rattle.vx_group_states.specs.declared.answer.Answer.TheVariants as answer
-use Rattle.vx_growth.specs.Changing.{IsChangedIn}
+use Rattle.vx_families.specs.Changing.{IsChangedIn}
 use Rattle.vx_heap.proofs.HeapLaws.{IsHeap-extends, globals_at-extends}
 use Rattle.vx_heap.specs.Changing.{Grows}
 use Rattle.vx_heap.specs.Heap.{Globals, HeapView, IsHeap, globals_at, is_held, value_of}

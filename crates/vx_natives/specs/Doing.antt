@@ -4,7 +4,7 @@ use Rattle.vx_cond.specs.Cond.{Conditional, IsCond, cond_at}
 use Rattle.vx_group_states.specs.Answering.{answer_at, answered, is_answer_held}
 use Rattle.vx_group_states.specs.Answers.{answer_cmp}
 use Rattle.vx_group_states.specs.declared.answer.Answer.{Answer}
-use Rattle.vx_growth.specs.Changing.{with_globals}
+use Rattle.vx_families.specs.Changing.{with_globals}
 use Rattle.vx_heap.specs.Changing.{Grows}
 use Rattle.vx_heap.specs.Heap.{Globals, HeapView, IsHeap, IsHeapFor, globals_at}
 use Rattle.vx_java.specs.Machine.{Here, Outcome, Value}

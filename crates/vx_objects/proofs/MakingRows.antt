@@ -31,8 +31,8 @@ use Rattle.vx_group_states.specs.Sites.{Gives, GivesAt, here}
 use Rattle.vx_group_states.specs.Stands.{CameTo, state_at}
 use Rattle.vx_group_states.specs.Widths.{slots_size}
 use Rattle.vx_group_states.specs.declared.site.Site.{Site}
-use Rattle.vx_growth.proofs.ChangeLaws.{attempts_follow, changes_follow, statics_change_in}
-use Rattle.vx_growth.proofs.NameLaws.{new_name_is_next}
+use Rattle.vx_families.proofs.ChangeLaws.{attempts_follow, changes_follow, statics_change_in}
+use Rattle.vx_families.proofs.NameLaws.{new_name_is_next}
 use Rattle.vx_heap.proofs.Growing.{Grows-refl}
 use Rattle.vx_heap.proofs.HeapLaws.{is_held-extends}
 use Rattle.vx_heap.specs.Changing.{IsChangedIn, changed_in, with_object}

@@ -30,8 +30,8 @@ use Rattle.vx_group_states.specs.declared.answer.Answer.{Answer}
 use Rattle.vx_group_states.specs.declared.site.Site.{Site}
 use Rattle.vx_group_states.proofs.GrownStates.{StandsIn-grown}
 use Rattle.vx_group_states.proofs.Operands.{length-operands}
-use Rattle.vx_growth.specs.Changing.{IsChangedIn, changed_in, with_globals}
-use Rattle.vx_growth.proofs.ChangeLaws.{attempts_follow}
+use Rattle.vx_families.specs.Changing.{IsChangedIn, changed_in, with_globals}
+use Rattle.vx_families.proofs.ChangeLaws.{attempts_follow}
 use Rattle.vx_heap.specs.Heap.{Globals, HeapView, IsHeap, globals_at, name_at, objects_at, value_of}
 use Rattle.vx_heap.proofs.Growing.{Grows-trans}
 use Rattle.vx_heap.proofs.HeapLaws.{IsHeap-extends, globals_at-extends, is_held-extends, name_at-extends, value_of-extends}

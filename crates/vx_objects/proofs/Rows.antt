@@ -9,7 +9,7 @@ use Rattle.vx_cells.proofs.ObjectClasses.{class_there}
 use Rattle.vx_group_states.specs.Answering.{answered, is_answer_held}
 use Rattle.vx_group_states.specs.declared.answer.Answer.TheVariants as answer
 use Rattle.vx_group_states.proofs.Operands.{item_held}
-use Rattle.vx_growth.proofs.NameLaws.{names_tell}
+use Rattle.vx_families.proofs.NameLaws.{names_tell}
 use Rattle.vx_heap.specs.Heap.{HeapView, are_held, is_held, name_at, objects_at, value_of}
 use Rattle.vx_java.specs.Checks.{is_of, same_bool, same_reference}
 use Rattle.vx_java.specs.Jumps.{branch, if_same}

@@ -33,33 +33,14 @@ pub fn attempt<S: Space>(
     ensures ok { IfOk result (λ r. IsAttemptBy site.now operation (S.sets space.old) (S.sets space.new) heap.old heap.new group r.items.items) }
 {
     match operation {
-        Operation::New(index) => {
-            let made = new_instance(alloc, site, space, heap, index, group)?;
-            Ok(made)
-        }
-        Operation::GetField(index) => {
-            let got = get_field(alloc, site, space, heap, index, group)?;
-            Ok(got)
-        }
-        Operation::PutField(index) => {
-            let put = put_field(alloc, site, space, heap, index, group)?;
-            Ok(put)
-        }
-        Operation::CheckCast(index) => {
-            let cast = check_cast(alloc, site, space, heap, index, group)?;
-            Ok(cast)
-        }
-        Operation::InstanceOf(index) => {
-            let told = instance_of(alloc, site, space, heap, index, group)?;
-            Ok(told)
-        }
-        Operation::Monitor => {
-            let passed = monitor(alloc, site, space, heap, group)?;
-            Ok(passed)
-        }
+        Operation::New(index) => new_instance(alloc, site, space, heap, index, group),
+        Operation::GetField(index) => get_field(alloc, site, space, heap, index, group),
+        Operation::PutField(index) => put_field(alloc, site, space, heap, index, group),
+        Operation::CheckCast(index) => check_cast(alloc, site, space, heap, index, group),
+        Operation::InstanceOf(index) => instance_of(alloc, site, space, heap, index, group),
+        Operation::Monitor => monitor(alloc, site, space, heap, group),
         Operation::IfSame(wanted, offset) => {
-            let compared = if_same(alloc, site, space, heap, wanted, offset, group)?;
-            Ok(compared)
+            if_same(alloc, site, space, heap, wanted, offset, group)
         }
         _ => unreachable!(),
     }

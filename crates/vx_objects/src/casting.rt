@@ -11,7 +11,7 @@ ghost use Rattle.vx_java.specs.Machine.{unsupported as unsupported_of};
 ghost use Rattle.vx_java.specs.Operation.{class_word};
 ghost use Rattle.vx_link.specs.Names.{class_name};
 ghost use Rattle.vx_objects.specs.Answers.{cast, cast_top, int_of, is_null, names_nothing, told, told_top, without_class};
-ghost use Rattle.vx_space.specs.Sets.{Extends, IsSet};
+ghost use Rattle.vx_space.specs.Sets.{Extends, IsKnown, IsSet, Sets};
 
 use crate::instances::is_instance;
 use std::alloc::Global;
@@ -99,8 +99,7 @@ fn answered_part<S: Space>(
     ensures gives { IfOk result (λ r. (heap : HeapView S S.Id) → GivesAt site.now.program.now (λ heap c s. answered (S.sets space.old) heap c (here site.now s) (drop 1 s.top.operands) answer) (S.sets space.old) (S.sets space.new) group r.items.items heap) }
 {
     let answers = Cond::one(alloc, space, answer, group.path())?;
-    let outcomes = carry_out(alloc, site, space, group, 1, &answers)?;
-    Ok(outcomes)
+    carry_out(alloc, site, space, group, 1, &answers)
 }
 
 /// Runs that need a class that isn't there. No runs come to no outcome.
@@ -117,8 +116,33 @@ fn missing_part<S: Space>(
     if space.is_never(group.path()) {
         return Ok(Outcomes::new(alloc));
     }
-    let ended = no_class(alloc, site, &group, index)?;
-    Ok(ended)
+    no_class(alloc, site, &group, index)
+}
+
+/// The class isn't there: runs inside the set of those with null on top do what is answered, and the others end. What comes of them is
+/// told over each space that the set was told of.
+fn null_or_missing<S: Space>(
+    alloc: Global,
+    site: &Site,
+    space: &mut S,
+    index: u16,
+    answer: Answer,
+    null: S::Id,
+    group: Group<S>,
+) -> Result<Outcomes<S>, SpaceFault>
+    requires group { IsGroup (S.sets space.old) group }
+    requires past { HasPast site.now group }
+    requires known { IsKnown (S.sets space.old) null }
+    requires operand { 0 < length group.top.stack.conds }
+    requires names { names_nothing answer ≡ true }
+    ensures extends { Extends (S.sets space.old) (S.sets space.new) }
+    ensures gives { IfOk result (λ r. (sets : Sets S.Id) → Extends sets (S.sets space.old) → IsSet (S.sets space.old) null (λ c. sets.test (path_of group) c && is_null (top_of (operands_at sets group.top.stack c))) → (heap : HeapView S S.Id) → GivesAt site.now.program.now (λ heap c s. without_class (here site.now s) index (answered sets heap c (here site.now s) (drop 1 s.top.operands) answer) s.top.operands) sets (S.sets space.new) group r.items.items heap) }
+{
+    let (passing, others) = group.split(space, null)?;
+    let missing = missing_part(alloc, site, space, index, others)?;
+    let mut outcomes = answered_part(alloc, site, space, answer, passing)?;
+    outcomes.append(missing)?;
+    Ok(outcomes)
 }
 
 /// The class isn't there: runs with null on top do what is answered, and the others end.
@@ -137,15 +161,10 @@ fn without_class<S: Space>(
     ensures gives { IfOk result (λ r. (heap : HeapView S S.Id) → GivesAt site.now.program.now (λ heap c s. without_class (here site.now s) index (answered (S.sets space.old) heap c (here site.now s) (drop 1 s.top.operands) answer) s.top.operands) (S.sets space.old) (S.sets space.new) group r.items.items heap) }
 {
     if group.top_frame().stack.len() == 0 {
-        let ended = no_class(alloc, site, &group, index)?;
-        return Ok(ended);
+        return no_class(alloc, site, &group, index);
     }
     let null = where_null(space, &group)?;
-    let (passing, others) = group.split(space, null)?;
-    let missing = missing_part(alloc, site, space, index, others)?;
-    let mut outcomes = answered_part(alloc, site, space, answer, passing)?;
-    outcomes.append(missing)?;
-    Ok(outcomes)
+    null_or_missing(alloc, site, space, index, answer, null, group)
 }
 
 /// checkcast of a class that is there: the stack stays as it is.
@@ -188,14 +207,10 @@ pub(crate) fn check_cast<S: Space>(
 {
     let class = class_of_method(site.program, group.top_frame().method);
     match heap.resolved(site.program, class, index) {
-        Some(wanted) => {
-            let cast = cast_top(alloc, site, space, heap, wanted, group)?;
-            Ok(cast)
-        }
+        Some(wanted) => cast_top(alloc, site, space, heap, wanted, group),
         None => {
             let answer = Answer::Give(Slot::Null);
-            let passed = without_class(alloc, site, space, index, answer, group)?;
-            Ok(passed)
+            without_class(alloc, site, space, index, answer, group)
         }
     }
 }
@@ -215,15 +230,13 @@ fn told_top<S: Space>(
 {
     let program = site.program;
     if group.top_frame().stack.len() == 0 {
-        let ended = illegal(alloc, program, &group)?;
-        return Ok(ended);
+        return illegal(alloc, program, &group);
     }
     let answer = |slot: Slot| -> Answer
         ensures { result ≡ told program.entry.now heap.entry.now wanted.0 slot }
     { told(program, heap, wanted, slot) };
     let answers = top_operand(&group).map(space, answer)?;
-    let outcomes = carry_out(alloc, site, space, group, 1, &answers)?;
-    Ok(outcomes)
+    carry_out(alloc, site, space, group, 1, &answers)
 }
 
 /// instanceof. Null is 0 before the class is looked for.
@@ -241,14 +254,10 @@ pub(crate) fn instance_of<S: Space>(
 {
     let class = class_of_method(site.program, group.top_frame().method);
     match heap.resolved(site.program, class, index) {
-        Some(wanted) => {
-            let told = told_top(alloc, site, space, heap, wanted, group)?;
-            Ok(told)
-        }
+        Some(wanted) => told_top(alloc, site, space, heap, wanted, group),
         None => {
             let answer = Answer::Push(int_of(false));
-            let untold = without_class(alloc, site, space, index, answer, group)?;
-            Ok(untold)
+            without_class(alloc, site, space, index, answer, group)
         }
     }
 }

@@ -58,16 +58,14 @@ pub(crate) fn if_same<S: Space>(
     ensures ok { IfOk result (λ r. IsAttemptBy site.now (Operation.IfSame wanted offset) (S.sets space.old) (S.sets space.new) heap.now heap.now group r.items.items) }
 {
     if group.top_frame().stack.len() < 2 {
-        let ended = illegal(alloc, site.program, &group)?;
-        return Ok(ended);
+        return illegal(alloc, site.program, &group);
     }
     let spot = spot_at(site, group.top_frame().position);
     let answer = |upper: Slot, lower: Slot| -> Answer
         ensures { result ≡ compared spot.entry wanted offset upper lower }
     { compared(&spot, wanted, offset, upper, lower) };
     let answers = top_operand(&group).zip(space, second_operand(&group), answer)?;
-    let outcomes = carry_out(alloc, site, space, group, 2, &answers)?;
-    Ok(outcomes)
+    carry_out(alloc, site, space, group, 2, &answers)
 }
 
 fn monitored(null: ClassId, slot: Slot) -> Answer

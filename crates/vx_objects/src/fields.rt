@@ -174,8 +174,7 @@ fn values_written<S: Space>(
     let as_stored = |slot: Slot| -> Slot
         ensures { result ≡ narrowed_slot (narrow_of_type field_type) slot }
     { narrowed(field_type, slot) };
-    let values = top_operand(group).map(space, as_stored)?;
-    Ok(values)
+    top_operand(group).map(space, as_stored)
 }
 
 /// Writes what a putfield writes, at each configuration of a group that has two operands, and says where.
@@ -243,14 +242,10 @@ pub(crate) fn get_field<S: Space>(
             named,
             field,
             field_type,
-        } => {
-            let got = get_found(alloc, site, space, heap, group, named, field, field_type)?;
-            Ok(got)
-        }
+        } => get_found(alloc, site, space, heap, group, named, field, field_type),
         missing => {
             let named = named_member(program, class, index);
-            let outcomes = unresolved(alloc, site, group, missing, &named)?;
-            Ok(outcomes)
+            unresolved(alloc, site, group, missing, &named)
         }
     }
 }
@@ -275,14 +270,10 @@ pub(crate) fn put_field<S: Space>(
             named,
             field,
             field_type,
-        } => {
-            let put = put_found(alloc, site, space, heap, group, named, field, field_type)?;
-            Ok(put)
-        }
+        } => put_found(alloc, site, space, heap, group, named, field, field_type),
         missing => {
             let named = named_member(program, class, index);
-            let outcomes = unresolved(alloc, site, group, missing, &named)?;
-            Ok(outcomes)
+            unresolved(alloc, site, group, missing, &named)
         }
     }
 }

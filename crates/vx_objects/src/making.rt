@@ -20,7 +20,7 @@ ghost use Rattle.vx_space.specs.Sets.{Extends, IsKnown, IsSet};
 ghost use Rattle.vx_value.specs.declared.slot.Slot.TheVariants.{Ref};
 
 use bitflags::Flags;
-use std::alloc::{AllocError, Global};
+use std::alloc::Global;
 use vx_cells::where_room;
 use vx_cond::Cond;
 use vx_families::{no_class, raise};
@@ -67,7 +67,8 @@ fn where_fitting<S: Space>(
     Ok(where_yes(space, &rooms))
 }
 
-/// Makes an object of a class in the configurations of a path, and none where there is no configuration.
+/// Makes an object of a class in the configurations of a path, and none where there is no configuration. After want of memory the heap is
+/// given up.
 fn made_inside<S: Space>(
     alloc: Global,
     program: &Program,
@@ -75,7 +76,7 @@ fn made_inside<S: Space>(
     heap: &mut Heap<S>,
     class: ClassId,
     path: S::Id,
-) -> Result<u64, AllocError>
+) -> Result<u64, SpaceFault>
     requires heap { IsHeap (S.sets space.now) heap.old }
     requires known { IsKnown (S.sets space.now) path }
     ensures changed { IfOk result (λ _. IsChangedIn (S.sets space.now) (S.sets space.now) heap.old heap.new ((S.sets space.now).test path) (λ _. with_object (new_object program.now class.0))) }
@@ -159,10 +160,9 @@ fn new_fitting<S: Space>(
     let needs = where_fitting(alloc, space, &group, site.code.max_stack)?;
     let readiness = make_ready(alloc, site.program, space, heap, class, needs)?;
     let reference = made_inside(alloc, site.program, space, heap, class, readiness.proceeds)?;
-    let outcomes = given_where_ready(
+    given_where_ready(
         alloc, site, space, class, needs, &readiness, reference, group,
-    )?;
-    Ok(outcomes)
+    )
 }
 
 /// new of a class that is there. An operand takes a word at least, so where there are as many operands as the method's
@@ -185,11 +185,9 @@ fn new_of_class<S: Space>(
         return Ok(raised);
     }
     if group.top_frame().stack.len() >= usize::from(site.code.max_stack) {
-        let ended = illegal(alloc, program, &group)?;
-        return Ok(ended);
+        return illegal(alloc, program, &group);
     }
-    let outcomes = new_fitting(alloc, site, space, heap, class, group)?;
-    Ok(outcomes)
+    new_fitting(alloc, site, space, heap, class, group)
 }
 
 /// new.
@@ -207,13 +205,7 @@ pub(crate) fn new_instance<S: Space>(
 {
     let class = class_of_method(site.program, group.top_frame().method);
     match heap.resolved(site.program, class, index) {
-        Some(made) => {
-            let outcomes = new_of_class(alloc, site, space, heap, made, group)?;
-            Ok(outcomes)
-        }
-        None => {
-            let ended = no_class(alloc, site, &group, index)?;
-            Ok(ended)
-        }
+        Some(made) => new_of_class(alloc, site, space, heap, made, group),
+        None => no_class(alloc, site, &group, index),
     }
 }

@@ -1,6 +1,6 @@
 //! The plain state of a run (JVMS 2.5).
 
-ghost use Rattle.std.specs.Prelude.{◌≡◌, ◌+◌, ◌∷◌, [], IfOk, IfSome, MatchOption, OnOk, drop, length, map, option_map, slice_get, slice_set};
+ghost use Rattle.std.specs.Prelude.{◌≡◌, ◌+◌, ◌∷◌, [], IfOk, IfSome, MatchOption, OnErr, OnOk, drop, length, map, option_map, slice_get, slice_set};
 ghost use Rattle.vx_java.specs.Initialisation.{quiet_chain};
 ghost use Rattle.vx_java.specs.Library.{number_in};
 ghost use Rattle.vx_java.specs.Locals.{with_locals};
@@ -143,11 +143,12 @@ impl State {
         self.heap[number].write_text(units);
     }
 
-    /// Puts an object at the end of the heap, and gives its place.
+    /// Puts an object at the end of the heap, and gives its place. After want of memory the state is as it was.
     #[tactic(auto, using(crate::proofs::Heaps::object_added), unfolding(crate::specs::Views::state_of))]
     pub fn add(&mut self, object: Object) -> Result<u64, AllocError>
         ensures place { IfOk result (λ place. place ≡ length (state_of self.old).heap) }
         ensures added { OnOk result (state_of self.new ≡ with_objects (state_of self.old) (object_of object ∷ [])) }
+        ensures err { OnErr result (state_of self.new ≡ state_of self.old) }
     {
         let place = self.heap.len() as u64;
         self.heap.push(object)?;

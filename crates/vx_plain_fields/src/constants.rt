@@ -1,7 +1,7 @@
 //! Constants of the pool (JVMS 6.5 ldc, ldc_w, ldc2_w).
 
 ghost use Rattle.std.specs.Prelude.{◌≡◌, IfOk, Some, option_map};
-ghost use Rattle.vx_code.specs.Lookups.{entry_of};
+ghost use Rattle.vx_pool.specs.Lookups.{entry_of};
 ghost use Rattle.vx_java.specs.Checks.{with_class};
 ghost use Rattle.vx_java.specs.Constants.{push_entry};
 ghost use Rattle.vx_java.specs.FirstObjects.{literal_object};
@@ -14,12 +14,11 @@ ghost use Rattle.vx_plain_here.specs.Rows.{ComesTo, here_in};
 ghost use Rattle.vx_plain_tables.specs.Tables.{literal_in};
 ghost use Rattle.vx_pool.specs.declared.pool.Entry.TheVariants.{Class};
 
-use vx_code::entry_of;
+use vx_pool::{Entry, entry_of};
 use vx_link::class_name;
 use vx_plain::{State, Value};
 use vx_plain_here::Made;
 use vx_plain_tables::Seen;
-use vx_pool::Entry;
 
 /// The numbers of the words for what ends a run as unsupported.
 const FLOAT: u8 = 1;

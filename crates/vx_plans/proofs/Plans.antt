@@ -5,7 +5,7 @@ use Rattle.vx_io.specs.Held.{Held, FilesState, contents}
 use Rattle.vx_plans.specs.declared.status.Status.{Status}
 use Rattle.vx_plans.specs.declared.status.Status.TheVariants.{ReadFault, TooLarge, NoMemory}
 use Rattle.vx_plans.specs.Plan.{Plan, Refuse, Say, Write, Read, List_below, If_allowed, As_report, Choose, Leads, MayGive, MayStop, unless, attempt, Outcome, done_with}
-use Rattle.vx_cursor.specs.Place.{IsBytes}
+use Rattle.vx_pool.specs.Place.{IsBytes}
 use Rattle.vx_plans.specs.Job.{Exactly, IsTextOf, Product}
 use Rattle.vx_plans.specs.KeepsFiles.{KeepsFiles}
 use Rattle.vx_plans.specs.Sized.{read_sized, too_large}

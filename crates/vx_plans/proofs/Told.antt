@@ -1,6 +1,6 @@
 -- What plans that read one file within a room gave, in terms of the files.
 use Rattle.std.proofs.Common.{◌≡◌, ◌≤◌, ◌<◌, ◌+◌, ℕ, Bool, true, false, List, take, length, IfSome, Option, None, Some, Result, Ok, Err, inl, inr, ◌⊎◌, refl, ap, sym, ◌∙◌, arith, ltb, ltb-true, ltb-false, length-take, take_all, min}
-use Rattle.vx_cursor.specs.Place.{IsBytes}
+use Rattle.vx_pool.specs.Place.{IsBytes}
 use Rattle.vx_io.specs.Call.{Call, Reading}
 use Rattle.vx_io.specs.Held.{Held, FilesState, contents}
 use Rattle.vx_plans.specs.declared.status.Status.{Status}

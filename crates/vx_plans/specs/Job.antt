@@ -4,6 +4,9 @@ use Rattle.std.specs.declared.result.Result.{Result}
 use Rattle.std.specs.List.{ends_with}
 use Rattle.vx_agree.specs.Text.{IsAgreementText}
 use Rattle.vx_class.specs.declared.class_file.ClassFile.{ClassFile}
+use Rattle.vx_check.specs.Text.{IsCheckText}
+use Rattle.vx_check.specs.declared.expected.Expectation.{Expectation}
+use Rattle.vx_compare.specs.Text.{IsComparisonText}
 use Rattle.vx_cut.specs.Cuts.{IsCutText}
 use Rattle.vx_model.specs.declared.model.Model.{Model}
 use Rattle.vx_model.specs.Models.{HasOptionNames, IsModel, is_allowed}
@@ -74,7 +77,7 @@ program_in main model classes = or_bad_link (linked_program classes model.option
 abbrev pub IsNoProgram : (main : List ℕ) → Model → List ClassFile → Status → Type 0
 IsNoProgram main model classes status = (status ≡ NoMemory) ⊎ (program_in main model classes ≡ Err status)
 
--- what a command makes: the report of a program's runs, of a version, with a model's options and the limit on attempts; what is told of a report; where two reports agree; the join of several reports; the summary of the workload of a seed and a number of options; the verdict over a program; the parts of a model's text by chosen options; or these bytes
+-- what a command makes: the report of a program's runs, of a version, with a model's options and the limit on attempts; what is told of a report; where two reports agree; the join of several reports; the summary of the workload of a seed and a number of options; the verdict over a program; the parts of a model's text by chosen options; whether the configurations of a report end as is expected; where two reports differ; or these bytes
 pub data Product : Type 0 where
   Report : (version : ℕ) (model : Model) (limit : ℕ) (program : Program) → Product
   Told : (telling : Telling) (report : read.Report) → Product
@@ -83,6 +86,8 @@ pub data Product : Type 0 where
   Summary : (seed options : ℕ) → Product
   Judged : (program : Program) → Product
   Parts : (dimacs : Bool) (text : List ℕ) (model : Model) (chosen : List Bool) → Product
+  Check : (report : read.Report) (expected : List Expectation) → Product
+  Comparison : (one other : read.Report) → Product
   Exactly : List ℕ → Product
 
 -- a text is that of a product; a report speaks of the configurations that its model allows
@@ -94,6 +99,8 @@ IsTextOf (Join reports) bytes = IsJoinedText reports bytes
 IsTextOf (Summary seed options) bytes = IsSummary seed options bytes
 IsTextOf (Judged program) bytes = IsVerdictText program bytes
 IsTextOf (Parts dimacs text model chosen) bytes = IsCutText dimacs text model chosen bytes
+IsTextOf (Check report expected) bytes = IsCheckText report expected bytes
+IsTextOf (Comparison one other) bytes = IsComparisonText one other bytes
 IsTextOf (Exactly given) bytes = bytes ≡ given
 
 -- a text is the report of the program of these class files under a model

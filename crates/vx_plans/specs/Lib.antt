@@ -3,6 +3,7 @@ pub mod Line
 pub mod Verdicts
 pub mod Job
 pub mod Plan
+pub mod Answers
 pub mod Sized
 pub mod KeepsFiles
 pub mod Load

@@ -2,7 +2,7 @@
 use Rattle.std.specs.Prelude.{◌≡◌, ◌≤◌, ◌<◌, ℕ, Bool, true, false, List, take, length, IfSome, None, Some, Ok, Err}
 use Rattle.std.specs.declared.option.Option.{Option}
 use Rattle.std.specs.declared.result.Result.{Result}
-use Rattle.vx_cursor.specs.Place.{IsBytes}
+use Rattle.vx_pool.specs.Place.{IsBytes}
 use Rattle.vx_io.specs.Call.{Call, Listing, Reading}
 use Rattle.vx_io.specs.Held.{Held, FilesState, contents, IsListing}
 use Rattle.vx_plans.specs.declared.status.Status.{Status}

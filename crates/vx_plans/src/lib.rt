@@ -2,8 +2,10 @@
 //! of the answers.
 #![tactic(auto)]
 
+mod answer;
 mod line;
 mod status;
 
+pub use answer::{Answer, done};
 pub use line::put_line;
 pub use status::Status;

@@ -149,5 +149,17 @@ pub fn put_line<E: Sink>(sink: &mut E, status: &Status) -> Result<(), SinkFault>
         ),
         Status::Unlike => put_all(sink, b"unlike\n"),
         Status::NotJoinable => put_all(sink, b"not joinable\n"),
+        Status::Failing => put_all(sink, b"failing\n"),
+        Status::Differing => put_all(sink, b"differing\n"),
+        Status::BadExpected { line, reason } => put_pieces(
+            sink,
+            &[
+                Piece::Text(b"bad expected line "),
+                Piece::Number(*line),
+                Piece::Text(b" reason "),
+                Piece::Number(u64::from(*reason)),
+                Piece::Text(b"\n"),
+            ],
+        ),
     }
 }

@@ -41,6 +41,12 @@ pub enum Status {
     Unlike,
     /// No report says what several reports say: their rounds pass 128 bits, or there would be no number of attempts.
     NotJoinable,
+    /// A configuration ends otherwise than it should. The text that tells so was written to `out`.
+    Failing,
+    /// A configuration is told differently by two reports. The text that tells so was written to `out`.
+    Differing,
+    /// What is expected has no reading: its first bad line, with the least reason.
+    BadExpected { line: u64, reason: u8 },
 }
 
 impl From<AllocError> for Status {
@@ -97,6 +103,9 @@ impl Status {
             Status::TooLarge { .. } => 13,
             Status::Unlike => 14,
             Status::NotJoinable => 18,
+            Status::Failing => 15,
+            Status::Differing => 16,
+            Status::BadExpected { .. } => 17,
         }
     }
 }

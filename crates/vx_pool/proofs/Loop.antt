@@ -1,12 +1,12 @@
 -- Reading entries one after the other, as a loop does.
 use Rattle.std.proofs.Common.{◌≡◌, ℕ, suc, List, [], ◌∷◌, ◌++◌, Ok, Err, Bool, true, false, refl, sym, ap, subst, ◌∙◌, append_assoc}
 use Rattle.std.proofs.lemmas.List.{append-nil}
-use Rattle.vx_cursor.specs.declared.fault.ClassFault.{ClassFault}
-use Rattle.vx_cursor.specs.declared.fault.ClassFault.TheVariants as fault
+use Rattle.vx_pool.specs.declared.fault.ClassFault.{ClassFault}
+use Rattle.vx_pool.specs.declared.fault.ClassFault.TheVariants as fault
 use Rattle.vx_pool.specs.declared.pool.Entry.{Entry}
 use Rattle.vx_pool.specs.declared.pool.Entry.TheVariants.{Unusable}
-use Rattle.vx_cursor.specs.Place.{Place}
-use Rattle.vx_cursor.specs.Reading.{Read, with_front, Fails}
+use Rattle.vx_pool.specs.Place.{Place}
+use Rattle.vx_pool.specs.Reading.{Read, with_front, Fails}
 use Rattle.vx_pool.specs.Pool.{entry_at, is_wide, entries_at}
 
 -- what was read before the front of what is read

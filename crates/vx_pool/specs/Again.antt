@@ -7,13 +7,13 @@ use Rattle.std.proofs.lemmas.List.Concat.{flat_map-cons}
 use Rattle.std.specs.List.{flat_map}
 use Rattle.std.specs.Int.{w32, w64, cast_signed, cast_unsigned}
 use Rattle.byteorder.specs.Endian.{big_bytes}
-use Rattle.vx_cursor.specs.declared.fault.ClassFault.{ClassFault}
+use Rattle.vx_pool.specs.declared.fault.ClassFault.{ClassFault}
 use Rattle.vx_pool.specs.declared.pool.Entry.{Entry}
 use Rattle.vx_pool.specs.declared.pool.Entry.TheVariants as entry
 use Rattle.vx_pool.specs.declared.pool.Pool.{Pool}
-use Rattle.vx_cursor.specs.Again.{number_again, bytes_again, read_as, Reads, number_reads, reads_then}
-use Rattle.vx_cursor.specs.Place.{Place, place}
-use Rattle.vx_cursor.specs.Reading.{Read, ◌>>=◌, with_front, check, number, Gives, IsReadAs}
+use Rattle.vx_pool.specs.ReadingAgain.{number_again, bytes_again, read_as, Reads, number_reads, reads_then}
+use Rattle.vx_pool.specs.Place.{Place, place}
+use Rattle.vx_pool.specs.Reading.{Read, ◌>>=◌, with_front, check, number, Gives, IsReadAs}
 use Rattle.vx_pool.specs.Text.{is_text}
 use Rattle.vx_pool.specs.Pool.{text_at, one_at, two_at, wide_at, body_at, entry_at, is_wide, entries_at, pool_at}
 use Rattle.vx_pool.specs.Spelling.{entry_bytes, pool_of, pool_bytes, Fits, ArePlaced, IsPool}

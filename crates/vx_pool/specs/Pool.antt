@@ -4,8 +4,8 @@ use Rattle.std.specs.Int.{w32, w64, cast_signed}
 use Rattle.vx_pool.specs.declared.pool.Entry.{Entry}
 use Rattle.vx_pool.specs.declared.pool.Entry.TheVariants as entry
 use Rattle.vx_pool.specs.declared.pool.Pool.{Pool}
-use Rattle.vx_cursor.specs.Place.{Place}
-use Rattle.vx_cursor.specs.Reading.{Read, ◌>>=◌, with_front, check, refuse, number, bytes}
+use Rattle.vx_pool.specs.Place.{Place}
+use Rattle.vx_pool.specs.Reading.{Read, ◌>>=◌, with_front, check, refuse, number, bytes}
 use Rattle.vx_pool.specs.Text.{is_text}
 
 -- ---- what stands behind each tag

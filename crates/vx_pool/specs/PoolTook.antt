@@ -12,13 +12,13 @@ use Rattle.byteorder.specs.Endian.{big_bytes}
 use Rattle.vx_pool.specs.declared.pool.Entry.{Entry}
 use Rattle.vx_pool.specs.declared.pool.Entry.TheVariants as entry
 use Rattle.vx_pool.specs.declared.pool.Pool.{Pool}
-use Rattle.vx_cursor.specs.Place.{Place}
-use Rattle.vx_cursor.specs.Reading.{Read, ◌>>=◌, with_front, check, number, bytes}
+use Rattle.vx_pool.specs.Place.{Place}
+use Rattle.vx_pool.specs.Reading.{Read, ◌>>=◌, with_front, check, number, bytes}
 use Rattle.vx_pool.specs.Text.{is_text}
 use Rattle.vx_pool.specs.Pool.{Shape, Bytes, One, Wide, Two, shapes, shape_in, text_at, one_at, two_at, wide_at, shaped_at, body_at, entry_at, is_wide, entries_at, pool_at}
-use Rattle.vx_cursor.specs.Place.{IsBytes}
+use Rattle.vx_pool.specs.Place.{IsBytes}
 use Rattle.vx_pool.specs.Spelling.{entry_bytes, pool_of, pool_bytes, Fits, ArePlaced, IsPool}
-use Rattle.vx_cursor.specs.Took.{bind_ok, check_ok, ok_is, Took, Took-then, IsWidth, width1, width2, width4, width8, number_took, bytes_took}
+use Rattle.vx_pool.specs.Took.{bind_ok, check_ok, ok_is, Took, Took-then, IsWidth, width1, width2, width4, width8, number_took, bytes_took}
 
 -- an entry that is made behind a tag: it is spelled so, and a file can hold it
 abbrev pub IsMade : ℕ → List ℕ → Entry → Type 0

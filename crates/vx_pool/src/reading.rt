@@ -1,19 +1,19 @@
 //! Reading the constant pool (JVMS 4.4): a count, and behind it the entries from index 1 on, each behind its tag.
 
 ghost use Rattle.std.specs.Prelude.{◌≡◌, ◌+◌, ◌-◌, ◌<◌, ℕ, List, [], ◌∷◌, ◌++◌, false, sum_by, IfOk, OnErr};
-ghost use Rattle.vx_cursor.specs.Reading.{Gives, with_front, IsReadAs};
-ghost use Rattle.vx_cursor.specs.Place.{IsBytes};
+ghost use Rattle.vx_pool.specs.Reading.{Gives, with_front, IsReadAs};
+ghost use Rattle.vx_pool.specs.Place.{IsBytes};
 ghost use Rattle.vx_pool.specs.Spelling.{pool_bytes, IsPool};
-ghost use Rattle.vx_cursor.specs.Took.{Took};
+ghost use Rattle.vx_pool.specs.Took.{Took};
 ghost use Rattle.vx_pool.specs.declared.pool.Pool.{Pool};
 ghost use Rattle.vx_pool.specs.declared.pool.Entry.TheVariants.{Unusable};
 ghost use Rattle.vx_pool.specs.Pool.{size, text_at, one_at, two_at, wide_at, body_at, entry_at, is_wide, entries_at, pool_at};
 
+use crate::modified_utf8::is_text;
 use crate::pool::{Entry, Pool};
-use crate::text::is_text;
 use crate::utf8::Utf8;
+use crate::{ClassFault, Cursor, refusal};
 use std::alloc::Global;
-use vx_cursor::{ClassFault, Cursor, refusal};
 use vx_list::Items;
 
 #[tactic(auto, unfolding(crate::specs::Pool::text_at))]

@@ -9,7 +9,7 @@ use Rattle.vx_class.specs.Members.{STATIC, has as has_flag, is_given, is_same, s
 use Rattle.vx_class.specs.declared.class_file.ClassFile.{ClassFile}
 use Rattle.vx_class.specs.declared.class_file.Code.{Code}
 use Rattle.vx_class.specs.declared.class_file.Method.{Method}
-use Rattle.vx_code.specs.Lookups.{text}
+use Rattle.vx_pool.specs.Lookups.{text}
 use Rattle.vx_desc.specs.Descriptors.{element_at, field_of, method_of, method_slots, result_at, type_at, types_at}
 use Rattle.vx_desc.specs.Names.{is_class_name}
 use Rattle.vx_java.specs.Initialisation.{max_locals}

@@ -9,7 +9,7 @@ use Rattle.vx_class.specs.Members.{ABSTRACT, NATIVE, STATIC, has as has_flag, is
 use Rattle.vx_class.specs.declared.class_file.ClassFile.{ClassFile}
 use Rattle.vx_class.specs.declared.class_file.Code.{Code}
 use Rattle.vx_class.specs.declared.class_file.Method.{Method}
-use Rattle.vx_code.specs.Lookups.{utf8 as utf8_of}
+use Rattle.vx_pool.specs.Lookups.{utf8 as utf8_of}
 use Rattle.vx_desc.specs.Descriptors.{method_of, method_slots, slots_of as type_slots}
 use Rattle.vx_desc.specs.Names.{is_clinit}
 use Rattle.vx_desc.specs.declared.java_type.Descriptor.{Descriptor}

@@ -72,8 +72,7 @@ pub fn states_inside<S: Space>(
         let done = Cond::one(alloc, space, InitState::Done, path)?;
         return Ok(done);
     }
-    let states = heap.init_state(class).restrict(space, path)?;
-    Ok(states)
+    heap.init_state(class).restrict(space, path)
 }
 
 fn is_not(state: InitState) -> bool

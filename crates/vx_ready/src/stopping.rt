@@ -33,13 +33,12 @@ fn failed_part<S: Space>(
     if space.is_never(group.path()) {
         return Ok(Outcomes::new(alloc));
     }
-    let raised = raise(
+    raise(
         alloc,
         site.program,
         group,
         b"java/lang/NoClassDefFoundError",
-    )?;
-    Ok(raised)
+    )
 }
 
 /// Runs that begin the initialisation of a class. No runs come to no outcome.
@@ -74,8 +73,7 @@ pub fn ended_part<S: Space>(
     if space.is_never(group.path()) {
         return Ok(Outcomes::new(alloc));
     }
-    let ended = illegal(alloc, site.program, &group)?;
-    Ok(ended)
+    illegal(alloc, site.program, &group)
 }
 
 /// Runs that need a class that isn't ready: it has failed, or its initialisation begins.

@@ -4,7 +4,7 @@ use Rattle.std.proofs.Math.Seq.{take-suc}
 use Rattle.std.proofs.lemmas.List.{map-append}
 use Rattle.std.proofs.lemmas.Option.{slice_get-map}
 use Rattle.std.specs.Prelude.{option_and_then, option_map, slice_get, unwrap_or}
-use Rattle.vx_code.specs.Lookups.{class, entry_of, text}
+use Rattle.vx_pool.specs.Lookups.{class, entry_of, text}
 use Rattle.vx_java.specs.Ids.{as_class}
 use Rattle.vx_link.specs.ClassNames.{class_named}
 use Rattle.vx_link.specs.Parts.{class_at, no_class}

@@ -1,6 +1,6 @@
 -- The classes that the entries of pools name in a program (JVMS 4.4.1, 5.4.3.1).
 use Rattle.std.specs.Prelude.{List, Option, Some, [], map, option_and_then, option_map, slice_get, unwrap_or}
-use Rattle.vx_code.specs.Lookups.{class, text, utf8}
+use Rattle.vx_pool.specs.Lookups.{class, text, utf8}
 use Rattle.vx_java.specs.Ids.{as_class}
 use Rattle.vx_link.specs.ClassNames.{class_named}
 use Rattle.vx_link.specs.declared.program.Program.{Program}

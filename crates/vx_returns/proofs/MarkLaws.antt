@@ -21,8 +21,8 @@ use Rattle.vx_group_states.specs.Answering.{operands_at}
 use Rattle.vx_group_states.specs.Sites.{Gives, here}
 use Rattle.vx_group_states.specs.Stands.{StandsIn, state_at}
 use Rattle.vx_group_states.specs.declared.site.Site.{Site}
-use Rattle.vx_growth.proofs.ChangeLaws.{attempts_follow, statics_change_in, unchanged}
-use Rattle.vx_growth.specs.Changing.{IsChangedIn, changed_in, with_globals}
+use Rattle.vx_families.proofs.ChangeLaws.{attempts_follow, statics_change_in, unchanged}
+use Rattle.vx_families.specs.Changing.{IsChangedIn, changed_in, with_globals}
 use Rattle.vx_heap.proofs.HeapLaws.{globals_at-extends}
 use Rattle.vx_heap.specs.Heap.{Globals, HeapView, IsHeap, globals_at, value_of}
 use Rattle.vx_java.specs.Machine.{Outcome as PlainOutcome, State, illegal, illegal_in, when}

@@ -13,7 +13,7 @@ use Rattle.vx_frames.specs.Entering.{with_frame}
 use Rattle.vx_frames.specs.Waking.{state_awake}
 use Rattle.vx_group_states.specs.Sites.{here}
 use Rattle.vx_group_states.specs.declared.site.Site.{Site}
-use Rattle.vx_growth.specs.Changing.{with_globals}
+use Rattle.vx_families.specs.Changing.{with_globals}
 use Rattle.vx_heap.specs.Heap.{Globals, HeapView, value_of}
 use Rattle.vx_java.specs.Checks.{is_of}
 use Rattle.vx_java.specs.Machine.{Ended, Frame, Go, Here, State, Value, current_class, illegal, place_at, when}

@@ -132,8 +132,7 @@ fn going_part<S: Space>(
     if space.is_never(group.path()) {
         return Ok(Outcomes::new(alloc));
     }
-    let outcomes = Outcomes::go(alloc, group)?;
-    Ok(outcomes)
+    Outcomes::go(alloc, group)
 }
 
 /// The group with a value more on its operands.

@@ -11,7 +11,7 @@ ghost use Rattle.vx_fields.specs.Statics.{top_of};
 ghost use Rattle.vx_group_states.specs.Answering.{operands_at};
 ghost use Rattle.vx_group_states.specs.Sites.{here};
 ghost use Rattle.vx_group_states.specs.Stands.{StandsIn};
-ghost use Rattle.vx_growth.specs.Changing.{IsChangedIn};
+ghost use Rattle.vx_families.specs.Changing.{IsChangedIn};
 ghost use Rattle.vx_heap.specs.Heap.{HeapView, IsHeap, IsHeapFor};
 ghost use Rattle.vx_java.specs.Returns.{return_value, values_returned};
 ghost use Rattle.vx_space.specs.Sets.{Extends, IsKnown, IsSet};
@@ -121,8 +121,7 @@ fn return_value<S: Space>(
     ensures ok { IfOk result (λ r. AttemptsIn site.now (λ s. return_value (here site.now s) (values_returned (Some sort) s.top.operands)) (S.sets space.old) (S.sets space.new) heap.old heap.new callers.old callers.new group r.items.items) }
 {
     if group.top_frame().stack.len() == 0 {
-        let ended = illegal(alloc, site.program, &group)?;
-        return Ok(ended);
+        return illegal(alloc, site.program, &group);
     }
     let fits = where_of_sort(space, &group, sort)?;
     mark_initialised(alloc, site.program, space, heap, &group, fits)?;
@@ -172,8 +171,7 @@ pub fn attempt<S: Space>(
     let method = group.top_frame().method;
     let declared = signature(alloc, descriptor_of_method(site.program, method))?;
     if !agrees(sort, declared.result) {
-        let ended = illegal(alloc, site.program, &group)?;
-        return Ok(ended);
+        return illegal(alloc, site.program, &group);
     }
     match sort {
         None => return_nothing(alloc, site, space, heap, callers, group),

@@ -1,6 +1,6 @@
 //! The groups that wait for their next attempt.
 
-ghost use Rattle.std.specs.Prelude.{◌≡◌, ◌<◌, ◌++◌, ◌∷◌, [], List, IfOk, OnOk, get_or, length, map, ℕ};
+ghost use Rattle.std.specs.Prelude.{◌≡◌, ◌<◌, ◌++◌, ◌∷◌, [], List, IfOk, OnErr, OnOk, get_or, length, map, ℕ};
 ghost use Rattle.std.specs.List.{remove};
 ghost use Rattle.vx_group.specs.Group.{key_of};
 ghost use Rattle.vx_sched.specs.Keys.{AreFirstKeys};
@@ -94,9 +94,10 @@ impl<S: Space> Waiting<S> {
         self.groups.as_slice()
     }
 
-    /// Appends a group. After want of memory the groups are given up.
+    /// Appends a group. After want of memory the groups are as they were.
     pub fn push(&mut self, group: Group<S>) -> Result<(), AllocError>
-        ensures { OnOk result (self.new ≡ self.old ++ group ∷ []) }
+        ensures ok { OnOk result (self.new ≡ self.old ++ group ∷ []) }
+        ensures err { OnErr result (self.new ≡ self.old) }
     {
         self.groups.push(group)?;
         Ok(())

@@ -9,7 +9,7 @@ use Rattle.std.specs.Cmp.Derive.{both_true}
 use Rattle.std.specs.List.{list_all, take_while}
 use Rattle.std.specs.Prelude.{nat_lt, take}
 use Rattle.vx_class.specs.declared.class_file.Code.{Code}
-use Rattle.vx_code.specs.Holding.{and_true}
+use Rattle.vx_pool.specs.Holding.{and_true}
 use Rattle.vx_java.specs.Initialisation.{begin, begin_chain, chain_blocked, init_chain, init_frame, is_below_failed, is_not, max_locals, new_frame, pushed_chain, with_frames}
 use Rattle.vx_java.specs.Machine.{Frame, Go, Object, Outcome, Raise, State, Top, Value, depth, frame_bound, init_at, when, with_inits}
 use Rattle.vx_kept_facts.proofs.Claims.{is_raised}

@@ -3,7 +3,7 @@ use Rattle.std.proofs.Common.{Bool, None, Option, Some, ap, arith, false, refl, 
 use Rattle.std.proofs.lemmas.Bool.{leb-true, ltb-false, ltb-true}
 use Rattle.std.proofs.lemmas.Bool.Decides.{Decides-eqb, nat_tests}
 use Rattle.std.specs.Prelude.{if◌then◌else◌, nat_le, nat_lt, option_and_then, option_map, ◌==◌, ◌||◌}
-use Rattle.vx_code.specs.Lookups.{is_array as is_array_text}
+use Rattle.vx_pool.specs.Lookups.{is_array as is_array_text}
 use Rattle.vx_desc.specs.Descriptors.{field_type}
 use Rattle.vx_desc.specs.declared.java_type.Base.{Base}
 use Rattle.vx_desc.specs.declared.java_type.Base.TheVariants as base

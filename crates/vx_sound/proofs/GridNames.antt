@@ -3,8 +3,8 @@ use Rattle.std.proofs.Common.{Bool, List, None, Option, Some, [], ap, arith, dro
 use Rattle.std.proofs.lemmas.Bool.Decides.{Decides-eqb}
 use Rattle.std.proofs.lemmas.List.Sums.{take_while-cons}
 use Rattle.std.specs.Prelude.{if◌then◌else◌, nat_le, option_and_then, option_map, position, slice_index, take, take_while, ◌==◌}
-use Rattle.vx_code.specs.Instructions.{dimensions}
-use Rattle.vx_code.specs.Lookups.{is_array as is_array_text}
+use Rattle.vx_pool.specs.Instructions.{dimensions}
+use Rattle.vx_pool.specs.Lookups.{is_array as is_array_text}
 use Rattle.vx_desc.specs.Descriptors.{base_of, element_at, field_of, field_type, only_if, type_at}
 use Rattle.vx_desc.specs.Names.{is_class_name}
 use Rattle.vx_desc.specs.declared.java_type.Base.{Base}

@@ -5,7 +5,7 @@ use Rattle.std.proofs.lemmas.List.{length-append, length-map}
 use Rattle.std.specs.List.{list_any}
 use Rattle.std.specs.Prelude.{if◌then◌else◌, nat_lt, replicate, ◌||◌}
 use Rattle.vx_class.specs.declared.class_file.Code.{Code}
-use Rattle.vx_code.specs.Instructions.{dimensions}
+use Rattle.vx_pool.specs.Instructions.{dimensions}
 use Rattle.vx_java.specs.Arrays.{grid, grid_cells, lengths_off, new_grid, new_grid_of, push_grid}
 use Rattle.vx_java.specs.Checks.{if_there}
 use Rattle.vx_java.specs.Machine.{Here, Object, Ref, Value, current_class, length_bound, no_object, raise, when}

@@ -3,7 +3,7 @@ use Rattle.std.proofs.Common.{Bool, List, None, Option, Some, ap, arith, codes, 
 use Prim.Native.String.{String}
 use Rattle.std.proofs.lemmas.Bool.{lt-ltb}
 use Rattle.std.specs.Prelude.{if◌then◌else◌, option_and_then}
-use Rattle.vx_code.specs.Lookups.{is_array as is_array_text}
+use Rattle.vx_pool.specs.Lookups.{is_array as is_array_text}
 use Rattle.vx_desc.specs.Descriptors.{field_type}
 use Rattle.vx_desc.specs.declared.java_type.JavaType.{JavaType}
 use Rattle.vx_java.specs.Ids.{as_class}

@@ -2,7 +2,7 @@
 use Rattle.std.proofs.Common.{Bool, List, None, Option, Some, [], false, inl, inr, length, refl, subst, sym, true, ℕ, ◌∙◌, ◌∷◌, ◌≡◌, ◌⊎◌}
 use Prim.Native.String.{String}
 use Rattle.std.specs.Prelude.{if◌then◌else◌, nat_lt}
-use Rattle.vx_code.specs.Lookups.{entry_of}
+use Rattle.vx_pool.specs.Lookups.{entry_of}
 use Rattle.vx_java.specs.Checks.{if_there, is_instance_of, non_null}
 use Rattle.vx_java.specs.Constants.{push_entry}
 use Rattle.vx_java.specs.FirstObjects.{literal_object}

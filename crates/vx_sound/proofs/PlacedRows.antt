@@ -3,7 +3,7 @@ use Rattle.std.proofs.Common.{None, Option, Some, ap, arith, inl, inr, length, r
 use Rattle.std.proofs.lemmas.Bool.Decides.{Decides-eqb}
 use Rattle.std.specs.Prelude.{◌==◌, ◌||◌}
 use Rattle.vx_class.specs.declared.class_file.Code.{Code}
-use Rattle.vx_code.specs.Instructions.{is_start}
+use Rattle.vx_pool.specs.Instructions.{is_start}
 use Rattle.vx_java.specs.Operation.{operation_of}
 use Rattle.vx_java.specs.Row.{row}
 use Rattle.vx_java.specs.declared.operation.Operation.{Operation}

@@ -1,7 +1,7 @@
 -- What a verdict of yes says of runs, and the steps that lead to it: rows, what is carried out, what follows an outcome, and the start.
 use Rattle.std.specs.Prelude.{Bool, Some, false, true, ℕ, ◌≡◌}
 use Rattle.vx_class.specs.declared.class_file.Code.{Code}
-use Rattle.vx_code.specs.Instructions.{is_start}
+use Rattle.vx_pool.specs.Instructions.{is_start}
 use Rattle.vx_java.specs.Initialisation.{begin}
 use Rattle.vx_java.specs.Machine.{Outcome, State}
 use Rattle.vx_java.specs.Natives.{native}

@@ -3,8 +3,8 @@ use Rattle.std.specs.List.{list_all}
 use Rattle.std.specs.Prelude.{Bool, List, None, Option, Some, [], codes, false, find, int_le, is_some, length, nat_le, nat_lt, negsuc, not, option_map, pos, true, ℕ, ℤ, ◌&&◌, ◌<◌, ◌==◌, ◌∷◌, ◌≡◌, ◌≤◌}
 use Prim.Native.String.{String}
 use Rattle.vx_class.specs.declared.class_file.Code.{Code}
-use Rattle.vx_code.specs.Instructions.{dimensions, is_start}
-use Rattle.vx_code.specs.Lookups.{entry_of}
+use Rattle.vx_pool.specs.Instructions.{dimensions, is_start}
+use Rattle.vx_pool.specs.Lookups.{entry_of}
 use Rattle.vx_java.specs.FirstObjects.{core_object, field_default, first_boolean, first_integer, first_words, literal_object, new_cells, string_object}
 use Rattle.vx_java.specs.Machine.{Int, Object, Top, no_object}
 use Rattle.vx_java.specs.NativeForms.{form_of, has_form}

@@ -7,7 +7,7 @@ use Rattle.std.specs.Prelude.{nat_lt, not}
 use Rattle.vx_class.specs.File.{Holds}
 use Rattle.vx_class.specs.Members.{STATIC, has as has_flag}
 use Rattle.vx_class.specs.declared.class_file.ClassFile.{ClassFile}
-use Rattle.vx_code.specs.Holding.{and_true}
+use Rattle.vx_pool.specs.Holding.{and_true}
 use Rattle.vx_desc.specs.Descriptors.{element_at, field_of, method_of, result_at, type_at, types_at}
 use Rattle.vx_desc.specs.Names.{is_class_name}
 use Rattle.vx_jump_targets.proofs.Lists.{all_pass}

@@ -5,7 +5,7 @@ use Rattle.std.proofs.lemmas.List.Folds.{list_any-append}
 use Rattle.std.specs.List.{flat_map, list_all, list_any}
 use Rattle.std.specs.Prelude.{nat_eq, not}
 use Rattle.vx_class.specs.declared.class_file.ClassFile.{ClassFile}
-use Rattle.vx_code.specs.Holding.{and_true}
+use Rattle.vx_pool.specs.Holding.{and_true}
 use Rattle.vx_link.specs.ClassNames.{class_of_name, object_class}
 use Rattle.vx_link.specs.Faults.{is_interface_file, name_of}
 use Rattle.vx_link.specs.Hierarchy.{chain_within, interfaces_below, interfaces_of, interfaces_within, is_among, superclass_of, superclasses, superinterfaces}

@@ -10,7 +10,7 @@ use Rattle.vx_class.specs.File.{EachBehind, Holds, MethodHolds}
 use Rattle.vx_class.specs.Members.{ABSTRACT, NATIVE, STATIC, has as has_flag}
 use Rattle.vx_class.specs.declared.class_file.ClassFile.{ClassFile}
 use Rattle.vx_class.specs.declared.class_file.Method.{Method}
-use Rattle.vx_code.specs.Holding.{and_true}
+use Rattle.vx_pool.specs.Holding.{and_true}
 use Rattle.vx_desc.specs.Names.{is_clinit}
 use Rattle.vx_link.specs.CoreFiles.{core_files}
 use Rattle.vx_link.specs.Linked.{empty_clinit, is_clinit_file, linked_class, linked_classes, linked_method, linked_methods, method_count, method_flags, methods_from, methods_of_class, own_clinit}

@@ -6,7 +6,7 @@ use Rattle.std.specs.Cmp.Derive.{both_true}
 use Rattle.std.specs.List.{list_all, position}
 use Rattle.std.specs.Prelude.{not}
 use Rattle.vx_class.specs.declared.class_file.ClassFile.{ClassFile}
-use Rattle.vx_code.specs.Holding.{and_true}
+use Rattle.vx_pool.specs.Holding.{and_true}
 use Rattle.vx_link.specs.ClassNames.{class_of_name, object_class}
 use Rattle.vx_link.specs.Faults.{file_named, interface_names, is_interface_file, name_of, passes, super_fits, super_name}
 use Rattle.vx_link.specs.Hierarchy.{interfaces_of, superclass_of}

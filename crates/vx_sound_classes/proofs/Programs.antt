@@ -10,8 +10,8 @@ use Rattle.std.specs.Option.{option_and_then, option_or}
 use Rattle.std.specs.Prelude.{nat_eq, ◌==◌}
 use Rattle.vx_class.specs.File.{Holds}
 use Rattle.vx_class.specs.declared.class_file.ClassFile.{ClassFile}
-use Rattle.vx_code.specs.Holding.{and_true}
-use Rattle.vx_code.specs.Lookups.{class, entry_of}
+use Rattle.vx_pool.specs.Holding.{and_true}
+use Rattle.vx_pool.specs.Lookups.{class, entry_of}
 use Rattle.vx_jump_targets.proofs.Lists.{All-head, All-tail}
 use Rattle.vx_jump_targets.proofs.WellPlaced.{made_is}
 use Rattle.vx_link.specs.CoreFiles.{core_files, native_numbers}

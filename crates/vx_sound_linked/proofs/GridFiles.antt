@@ -7,11 +7,11 @@ use Rattle.vx_class.specs.File.{CodeHolds, CodeIs, EachBehind, Holds, MethodHold
 use Rattle.vx_class.specs.declared.class_file.ClassFile.{ClassFile}
 use Rattle.vx_class.specs.declared.class_file.Code.{Code}
 use Rattle.vx_class.specs.declared.class_file.Method.{Method}
-use Rattle.vx_code.specs.Checks.{all_hold}
-use Rattle.vx_code.specs.Entries.{usable, where_read}
-use Rattle.vx_code.specs.Holding.{and_true}
-use Rattle.vx_code.specs.Instructions.{OperandHolds, dimensions, is_kind_for, is_start, operand_checks}
-use Rattle.vx_code.specs.Lookups.{class_text, entry_of}
+use Rattle.vx_pool.specs.Checks.{all_hold}
+use Rattle.vx_pool.specs.Entries.{usable, where_read}
+use Rattle.vx_pool.specs.Holding.{and_true}
+use Rattle.vx_pool.specs.Instructions.{OperandHolds, dimensions, is_kind_for, is_start, operand_checks}
+use Rattle.vx_pool.specs.Lookups.{class_text, entry_of}
 use Rattle.vx_java.specs.Operation.{operation_of, rules}
 use Rattle.vx_java.specs.declared.operation.Operation.{Operation}
 use Rattle.vx_java.specs.declared.operation.Operation.TheVariants.{NewGrid}

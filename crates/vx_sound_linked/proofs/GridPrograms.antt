@@ -7,8 +7,8 @@ use Rattle.vx_class.specs.File.{Holds}
 use Rattle.vx_class.specs.declared.class_file.ClassFile.{ClassFile}
 use Rattle.vx_class.specs.declared.class_file.Code.{Code}
 use Rattle.vx_class.specs.declared.class_file.Method.{Method}
-use Rattle.vx_code.specs.Holding.{and_true}
-use Rattle.vx_code.specs.Instructions.{dimensions}
+use Rattle.vx_pool.specs.Holding.{and_true}
+use Rattle.vx_pool.specs.Instructions.{dimensions}
 use Rattle.vx_java.specs.declared.operation.Operation.{Operation}
 use Rattle.vx_jump_targets.proofs.Lists.{all_pass}
 use Rattle.vx_jump_targets.proofs.WellPlaced.{made_is}

@@ -3,7 +3,7 @@ use Rattle.std.proofs.Common.{Bool, List, None, Option, Some, [], ap, arith, fal
 use Rattle.std.specs.List.{list_all}
 use Rattle.vx_class.specs.declared.class_file.ClassFile.{ClassFile}
 use Rattle.vx_class.specs.declared.class_file.Method.{Method}
-use Rattle.vx_code.specs.Holding.{and_true}
+use Rattle.vx_pool.specs.Holding.{and_true}
 use Rattle.vx_link.specs.Linked.{empty_clinit, linked_class, linked_classes, linked_method, linked_methods, method_count, methods_from, methods_of_class, own_clinit}
 use Rattle.vx_link.specs.Parts.{no_class}
 use Rattle.vx_link.specs.declared.program.LinkedClass.{LinkedClass}

@@ -4,7 +4,7 @@ use Rattle.std.proofs.lemmas.Slice.Eq.{bytes_eq-Decides}
 use Rattle.std.specs.List.{list_all, position}
 use Rattle.std.specs.Option.{option_map}
 use Rattle.vx_class.specs.declared.class_file.ClassFile.{ClassFile}
-use Rattle.vx_code.specs.Holding.{and_true}
+use Rattle.vx_pool.specs.Holding.{and_true}
 use Rattle.vx_kept_states.proofs.Throwables.{AreRows, new_names, place_in}
 use Rattle.vx_kept_states.proofs.WholePrograms.{first_none}
 use Rattle.vx_link.specs.CoreTable.{core_table}

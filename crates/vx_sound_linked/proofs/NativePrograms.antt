@@ -7,7 +7,7 @@ use Rattle.std.specs.List.{list_all}
 use Rattle.std.specs.Prelude.{◌==◌, ◌||◌}
 use Rattle.vx_class.specs.Members.{INTERFACE, has}
 use Rattle.vx_class.specs.declared.class_file.ClassFile.{ClassFile}
-use Rattle.vx_code.specs.Holding.{and_true}
+use Rattle.vx_pool.specs.Holding.{and_true}
 use Rattle.vx_java.specs.NativeForms.{form_of, has_form}
 use Rattle.vx_kept_states.proofs.Throwables.{AreRows, climbs, core_is, place_in, reaches_by}
 use Rattle.vx_link.specs.ClassNames.{core_class}

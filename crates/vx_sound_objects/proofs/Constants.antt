@@ -8,7 +8,7 @@ use Rattle.vx_class.specs.File.{EachBehind, FieldHolds, Holds}
 use Rattle.vx_class.specs.Members.{fits_type, is_constant_for, is_literal, is_number_for}
 use Rattle.vx_class.specs.declared.class_file.ClassFile.{ClassFile}
 use Rattle.vx_class.specs.declared.class_file.Field.{Field}
-use Rattle.vx_code.specs.Lookups.{entry_of}
+use Rattle.vx_pool.specs.Lookups.{entry_of}
 use Rattle.vx_desc.specs.Descriptors.{field_type}
 use Rattle.vx_desc.specs.declared.java_type.Base.{Base}
 use Rattle.vx_desc.specs.declared.java_type.Base.TheVariants as base

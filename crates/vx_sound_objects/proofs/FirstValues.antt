@@ -10,7 +10,7 @@ use Rattle.vx_class.specs.File.{Holds}
 use Rattle.vx_class.specs.Members.{STATIC, is_constant_for}
 use Rattle.vx_class.specs.declared.class_file.ClassFile.{ClassFile}
 use Rattle.vx_class.specs.declared.class_file.Field.{Field}
-use Rattle.vx_code.specs.Lookups.{entry_of}
+use Rattle.vx_pool.specs.Lookups.{entry_of}
 use Rattle.vx_java.specs.FirstObjects.{First, constant_of, field_default, first_boolean, first_objects, first_stream, for_boolean, for_class, for_main, for_stream, for_text, literal_object, object_of_first, plain_static, units_of}
 use Rattle.vx_java.specs.Machine.{Object, Ref, Top, no_object}
 use Rattle.vx_java.specs.Objects.{int_of_bool}

@@ -9,7 +9,7 @@ use Rattle.std.proofs.lemmas.Slice.Eq.{bytes_eq-Decides}
 use Rattle.std.specs.List.{cons_option, filter_map, flat_map, list_any}
 use Rattle.std.specs.Option.{option_map}
 use Rattle.std.specs.Prelude.{int_le, negsuc, pos, ◌&&◌, ◌-ℤ◌, ◌≤ℤ◌}
-use Rattle.vx_code.specs.Lookups.{entry_of}
+use Rattle.vx_pool.specs.Lookups.{entry_of}
 use Rattle.vx_java.specs.FirstObjects.{First, each_once, first_boolean, first_integer, first_literal, first_objects, first_of_entry, first_words, for_boolean, for_class, for_integer, for_main, for_stream, for_text, integers_from, literals, object_of_first, same_first}
 use Rattle.vx_java.specs.Machine.{no_object}
 use Rattle.vx_kept_states.proofs.Throwables.{behind}

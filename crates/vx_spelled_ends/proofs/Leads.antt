@@ -5,9 +5,9 @@ use Rattle.std.proofs.lemmas.Int.{ints}
 use Rattle.std.specs.List.{AllByRecursion}
 use Rattle.std.specs.Prelude.{int_le, nat_abs, ◌-ℤ◌, ◌==◌, ◌||◌}
 use Rattle.vx_class.specs.declared.class_file.Code.{Code}
-use Rattle.vx_code.specs.Checks.{all_hold}
-use Rattle.vx_code.specs.Holding.{and_true}
-use Rattle.vx_code.specs.Instructions.{all_below, is_start, is_target, jump_checks}
+use Rattle.vx_pool.specs.Checks.{all_hold}
+use Rattle.vx_pool.specs.Holding.{and_true}
+use Rattle.vx_pool.specs.Instructions.{all_below, is_start, is_target, jump_checks}
 use Rattle.vx_java.specs.Jumps.{offset_at, pair_of}
 use Rattle.vx_java.specs.Machine.{Here}
 use Rattle.vx_java.specs.Operation.{number_of, operation_of, rules}

@@ -5,8 +5,8 @@ use Rattle.std.specs.List.{list_all}
 use Rattle.std.specs.Prelude.{nat_lt, ◌+ℤ◌, ◌==◌, ◌||◌}
 use Rattle.vx_class.specs.declared.class_file.Catch.{Catch}
 use Rattle.vx_class.specs.declared.class_file.Code.{Code}
-use Rattle.vx_code.specs.Holding.{and_true}
-use Rattle.vx_code.specs.Instructions.{is_start, is_target}
+use Rattle.vx_pool.specs.Holding.{and_true}
+use Rattle.vx_pool.specs.Instructions.{is_start, is_target}
 use Rattle.vx_java.specs.Returns.{bytes_of, instruction_size}
 use Rattle.vx_java.specs.Selection.{catches_of, handler_in, takes, covers}
 use Rattle.vx_jump_targets.specs.Placed.{behind, has_placed_code, jumps_lead, starts_from, starts_in}

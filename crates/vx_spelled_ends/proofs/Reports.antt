@@ -7,7 +7,7 @@ use Rattle.std.specs.Ordering.{nat_cmp}
 use Rattle.std.specs.Prelude.{nat_le, ◌==◌}
 use Rattle.std.specs.declared.cmp.Ordering.{Ordering}
 use Rattle.std.specs.declared.cmp.Ordering.TheVariants.{Equal, Greater, Less}
-use Rattle.vx_code.specs.Holding.{and_true}
+use Rattle.vx_pool.specs.Holding.{and_true}
 use Rattle.vx_java.proofs.Members.{Moves, stays, stepped_moves, steps_on}
 use Rattle.vx_java.specs.Lockstep.{ConfigRun, Lockstep, Piece, Shared, all_pieces_appended, begun, compare_pieces, first_key, groups_of, groups_with, if_first, lockstep, member_after_round, member_at_start, output_of, piece_of, pieces_appended, round, rounds_from}
 use Rattle.vx_java.specs.Report.{attempts_in, lock_report}

@@ -6,9 +6,9 @@ use Rattle.std.specs.Int.{int_wrapping_add, w32, w64}
 use Rattle.std.specs.List.{list_all, list_any}
 use Rattle.std.specs.Prelude.{int_le, is_some, map, nat_abs, nat_lt, not, slice_set, ◌-ℤ◌, ◌-◌, ◌==◌, ◌||◌}
 use Rattle.vx_class.specs.Members.{ABSTRACT, STATIC}
-use Rattle.vx_code.specs.Holding.{and_true}
-use Rattle.vx_code.specs.Instructions.{is_target}
-use Rattle.vx_code.specs.Lookups.{entry_of}
+use Rattle.vx_pool.specs.Holding.{and_true}
+use Rattle.vx_pool.specs.Instructions.{is_target}
+use Rattle.vx_pool.specs.Lookups.{entry_of}
 use Rattle.vx_desc.specs.Descriptors.{field_type}
 use Rattle.vx_desc.specs.declared.java_type.JavaType.{JavaType}
 use Rattle.vx_java.specs.Arrays.{array_length, array_of, at_index, element_sort, elements_of_numbers, grid_cells, is_array_of, lengths_off, load_element, may_store, new_array, new_grid_of, new_primitives, push_grid, store_element, value_kept}

@@ -4,7 +4,7 @@ use Rattle.std.specs.Cmp.Derive.{both_true}
 use Rattle.std.specs.List.{list_all}
 use Rattle.std.specs.Prelude.{length, map, nat_lt, reverse, unwrap_or}
 use Rattle.vx_class.specs.declared.class_file.Code.{Code}
-use Rattle.vx_code.specs.Holding.{and_true}
+use Rattle.vx_pool.specs.Holding.{and_true}
 use Rattle.vx_java.specs.Initialisation.{begin, begin_chain, begin_free, chain_blocked, init_chain, init_frame, is_below_failed, pushed_chain, quiet_chain, with_frames}
 use Rattle.vx_java.specs.Machine.{Begin, Ended, Ends, Go, Goes, Here, Native, Next, Outcome, Raise, State, Throw, Write, current_class, depth, frame_bound, place, when, with_inits}
 use Rattle.vx_java.specs.Natives.{native, no_code}

@@ -5,7 +5,7 @@ use Rattle.std.proofs.lemmas.List.Folds.{list_all-append}
 use Rattle.std.specs.Cmp.Derive.{both_true}
 use Rattle.std.specs.List.{list_all}
 use Rattle.std.specs.Prelude.{nat_le, ◌==◌, ◌||◌}
-use Rattle.vx_code.specs.Holding.{and_true}
+use Rattle.vx_pool.specs.Holding.{and_true}
 use Rattle.vx_list.specs.Places.{item_or}
 use Rattle.vx_named_classes.specs.Named.{is_given}
 

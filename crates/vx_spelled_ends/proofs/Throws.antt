@@ -5,7 +5,7 @@ use Rattle.std.specs.Cmp.Derive.{both_true}
 use Rattle.std.specs.List.{list_all}
 use Rattle.std.specs.Prelude.{nat_lt, not, replicate}
 use Rattle.std.specs.Str.{byte}
-use Rattle.vx_code.specs.Holding.{and_true}
+use Rattle.vx_pool.specs.Holding.{and_true}
 use Rattle.vx_java.specs.Machine.{Ends, Frame, Goes, Next, State, next_object, object_at, with_objects}
 use Rattle.vx_java.specs.Throwing.{exception_objects, handler_of, next_after_raise, next_after_throw, next_in_handler, passed_object, passed_state, uncaught, unwind}
 use Rattle.vx_jump_targets.specs.Placed.{are_well_placed, has_placed_code}

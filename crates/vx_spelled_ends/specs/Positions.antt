@@ -2,7 +2,7 @@
 use Rattle.std.specs.Prelude.{Bool, None, Option, Some, length, true, ℕ, ◌&&◌, ◌==◌, ◌||◌}
 use Rattle.std.specs.List.{list_all}
 use Rattle.vx_class.specs.declared.class_file.Code.{Code}
-use Rattle.vx_code.specs.Instructions.{is_start}
+use Rattle.vx_pool.specs.Instructions.{is_start}
 use Rattle.vx_java.specs.Machine.{Frame, State}
 use Rattle.vx_jump_targets.specs.Placed.{starts_in}
 use Rattle.vx_link.specs.Parts.{method_at}

@@ -45,8 +45,7 @@ fn counted_part<S: Space>(
     ensures gives { IfOk result (λ r. Gives site.now.program.now (formed_by site.now order upper lower) (S.sets space.old) (S.sets space.new) part r.items.items) }
 {
     let group = with_form(alloc, space, part, order, upper, lower)?;
-    let outcomes = settle(alloc, site, space, group)?;
-    Ok(outcomes)
+    settle(alloc, site, space, group)
 }
 
 /// The part of a group in which the operands are cut in this way. A form takes off fewer than five operands, and each takes
@@ -66,15 +65,12 @@ fn cut_part<S: Space>(
     ensures gives { IfOk result (λ r. Gives site.now.program.now (formed_as site.now order (counts_of cut)) (S.sets space.old) (S.sets space.new) part r.items.items) }
 {
     let Some((upper, lower)) = counts(cut) else {
-        let ended = illegal(alloc, site.program, &part)?;
-        return Ok(ended);
+        return illegal(alloc, site.program, &part);
     };
     if part.top_frame().stack.len() > usize::from(site.code.max_stack) + MOST_TAKEN {
-        let ended = illegal(alloc, site.program, &part)?;
-        return Ok(ended);
+        return illegal(alloc, site.program, &part);
     }
-    let outcomes = counted_part(alloc, site, space, part, order, upper, lower)?;
-    Ok(outcomes)
+    counted_part(alloc, site, space, part, order, upper, lower)
 }
 
 /// The parts of a group by where the operands are cut.
@@ -124,6 +120,5 @@ pub fn attempt<S: Space>(
         unreachable!()
     };
     let found = cuts(alloc, space, &group.top_frame().stack, form)?;
-    let outcomes = cut_parts(alloc, site, space, group, order_of(form), found.leaves())?;
-    Ok(outcomes)
+    cut_parts(alloc, site, space, group, order_of(form), found.leaves())
 }

@@ -1,8 +1,10 @@
 //! The state of all runs.
 
-ghost use Rattle.std.specs.Prelude.{◌≡◌, ◌<◌, ◌++◌, IfOk, List, OnOk, length, map, ℕ};
+ghost use Rattle.std.specs.Prelude.{◌≡◌, ◌<◌, ◌++◌, IfOk, List, OnErr, OnOk, length, map, ℕ};
 ghost use Rattle.std.specs.List.{flat_map};
+ghost use Rattle.vx_group.specs.Callers.{tree_ids};
 ghost use Rattle.vx_group.specs.Group.{group_ids, key_of};
+ghost use Rattle.vx_heap.specs.Heap.{heap_ids};
 ghost use Rattle.vx_sched.specs.Picks.{IsFirstKey};
 ghost use Rattle.vx_value.specs.declared.key.KeyPart.{KeyPart};
 ghost use Rattle.vx_standing.specs.State.{shared_ids, state_ids};
@@ -12,6 +14,7 @@ use std::marker::Model;
 use vx_findings::{Piece, Shared};
 use vx_group::{Callers, Group};
 use vx_heap::Heap;
+use vx_list::{or_cut_back, put_one};
 use vx_sched::{Picker, Waiting};
 use vx_space::Space;
 use vx_value::End;
@@ -86,35 +89,64 @@ impl<S: Space> State<S> {
         (self.found, self.ends, self.spent)
     }
 
-    /// Appends just the ids that the state holds.
+    /// Appends just the ids that the state holds. Want of memory leaves the list as it was.
+    #[tactic(auto, using(std::proofs::lemmas::List::append_assoc, std::proofs::lemmas::List::take_at))]
     pub fn ids_out(&self, ids: &mut Vec<S::Id>) -> Result<(), AllocError>
-        ensures { OnOk result (ids.new.items ≡ ids.old.items ++ state_ids self.now) }
+        ensures ok { OnOk result (ids.new.items ≡ ids.old.items ++ state_ids self.now) }
+        ensures err { OnErr result (ids.new.items ≡ ids.old.items) }
     {
+        let held = ids.len();
+        self.run_ids_out(ids)?;
+        or_cut_back(self.found_ids_out(ids), ids, held)
+    }
+
+    /// Appends the ids of heap, groups and callers. Want of memory leaves the list as it was.
+    #[tactic(auto, using(std::proofs::lemmas::List::append_assoc, std::proofs::lemmas::List::take_at))]
+    fn run_ids_out(&self, ids: &mut Vec<S::Id>) -> Result<(), AllocError>
+        ensures ok { OnOk result (ids.new.items ≡ ids.old.items ++ (heap_ids self.now.heap ++ (flat_map group_ids self.now.groups ++ tree_ids self.now.tree))) }
+        ensures err { OnErr result (ids.new.items ≡ ids.old.items) }
+    {
+        let held = ids.len();
         self.heap.ids_out(ids)?;
-        groups_out(self.groups.as_slice(), ids)?;
-        self.callers.ids_out(ids)?;
+        or_cut_back(groups_out(self.groups.as_slice(), ids), ids, held)?;
+        or_cut_back(self.callers.ids_out(ids), ids, held)
+    }
+
+    /// Appends the ids of what was found. Want of memory leaves the list as it was.
+    #[tactic(auto, using(std::proofs::lemmas::List::append_assoc, std::proofs::lemmas::List::take_at))]
+    fn found_ids_out(&self, ids: &mut Vec<S::Id>) -> Result<(), AllocError>
+        ensures ok { OnOk result (ids.new.items ≡ ids.old.items ++ (shared_ids self.now.found ++ (shared_ids self.now.ends ++ shared_ids self.now.spent))) }
+        ensures err { OnErr result (ids.new.items ≡ ids.old.items) }
+    {
+        let held = ids.len();
         sets_out(self.found.as_slice(), ids)?;
-        sets_out(self.ends.as_slice(), ids)?;
-        sets_out(self.spent.as_slice(), ids)
+        or_cut_back(sets_out(self.ends.as_slice(), ids), ids, held)?;
+        or_cut_back(sets_out(self.spent.as_slice(), ids), ids, held)
     }
 }
 
-/// Appends the ids that groups hold by themselves.
+/// Appends the ids that groups hold by themselves. Want of memory leaves the list as it was.
+#[tactic(auto, using(std::proofs::lemmas::List::append_assoc, std::proofs::lemmas::List::take_at))]
 fn groups_out<S: Space>(groups: &[Group<S>], ids: &mut Vec<S::Id>) -> Result<(), AllocError>
-    ensures { OnOk result (ids.new.items ≡ ids.old.items ++ flat_map group_ids groups.now) }
+    ensures ok { OnOk result (ids.new.items ≡ ids.old.items ++ flat_map group_ids groups.now) }
+    ensures err { OnErr result (ids.new.items ≡ ids.old.items) }
 {
+    let held = ids.len();
     for group in groups {
-        group.ids_out(ids)?;
+        or_cut_back(group.ids_out(ids), ids, held)?;
     }
     Ok(())
 }
 
-/// Appends the sets of values.
+/// Appends the sets of values. Want of memory leaves the list as it was.
+#[tactic(auto, using(std::proofs::lemmas::List::append_assoc, std::proofs::lemmas::List::take_at))]
 pub fn sets_out<V, S: Space>(list: &[Shared<V, S>], ids: &mut Vec<S::Id>) -> Result<(), AllocError>
-    ensures { OnOk result (ids.new.items ≡ ids.old.items ++ shared_ids list.now) }
+    ensures ok { OnOk result (ids.new.items ≡ ids.old.items ++ shared_ids list.now) }
+    ensures err { OnErr result (ids.new.items ≡ ids.old.items) }
 {
+    let held = ids.len();
     for shared in list {
-        ids.push(shared.condition)?;
+        or_cut_back(put_one(ids, shared.condition), ids, held)?;
     }
     Ok(())
 }

@@ -8,7 +8,7 @@ use Rattle.vx_group.proofs.GroupLaws.{IsGroup-path_known, IsGroupIn-group}
 use Rattle.vx_group.specs.declared.callers.Caller.{Caller}
 use Rattle.vx_group.specs.Group.{path_of}
 use Rattle.vx_group_states.specs.Stands.{is_object, object_named}
-use Rattle.vx_growth.proofs.ChangeLaws.{changed_as, changes_in_one, statics_change_in, unchanged}
+use Rattle.vx_families.proofs.ChangeLaws.{changed_as, changes_in_one, statics_change_in, unchanged}
 use Rattle.vx_heap.proofs.Growing.{is_held-grown}
 use Rattle.vx_heap.specs.Changing.{IsChangedIn}
 use Rattle.vx_heap.specs.Heap.{Globals, HeapView, globals_at, is_held}

@@ -3,7 +3,7 @@ use Rattle.std.proofs.Common.{◌≡◌, ℕ, ◌∷◌, Bool, true, false, [], 
 use Rattle.std.specs.Prelude.{if◌then◌else◌}
 use Rattle.vx_java.specs.Machine.{State, current_class, with_inits}
 use Rattle.vx_java.specs.Throwing.{is_error, passed_object, passed_state, with_wrapper}
-use Rattle.vx_growth.specs.Changing.{with_globals}
+use Rattle.vx_families.specs.Changing.{with_globals}
 use Rattle.vx_heap.specs.Changing.{with_object}
 use Rattle.vx_heap.specs.Heap.{Globals}
 use Rattle.vx_link.specs.declared.program.Program.{Program}

@@ -6,8 +6,8 @@ use Rattle.vx_cond.specs.Cond.{Conditional, IsCondOf}
 use Rattle.vx_cond.specs.Leaves.{value_within}
 use Rattle.vx_cond.specs.Slots.{or_top, slot_at}
 use Rattle.vx_cond.proofs.CondLaws.{cond_at-of}
-use Rattle.vx_growth.proofs.ChangeLaws.{changed_as, changes_in_one, unchanged}
-use Rattle.vx_growth.proofs.NameLaws.{new_name_is_next}
+use Rattle.vx_families.proofs.ChangeLaws.{changed_as, changes_in_one, unchanged}
+use Rattle.vx_families.proofs.NameLaws.{new_name_is_next}
 use Rattle.vx_heap.specs.Changing.{IsMade, IsValueHeld, of_text, with_object}
 use Rattle.vx_heap.specs.Heap.{Globals, HeapView, IsHeap, globals_at, is_held, name_at, objects_at, value_of}
 use Rattle.vx_java.specs.Machine.{Object, Value}

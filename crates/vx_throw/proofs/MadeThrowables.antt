@@ -6,8 +6,8 @@ use Rattle.vx_cond.specs.Cond.{Conditional, IsCond, IsInside}
 use Rattle.vx_cond.specs.Slots.{slot_at}
 use Rattle.vx_cond.proofs.CondLaws.{IsCond-extends}
 use Rattle.vx_group_states.specs.Sites.{IsSomewhere}
-use Rattle.vx_growth.proofs.ChangeLaws.{changed_as, changes_in_one}
-use Rattle.vx_growth.proofs.NameLaws.{name_stays, new_name_is_next}
+use Rattle.vx_families.proofs.ChangeLaws.{changed_as, changes_in_one}
+use Rattle.vx_families.proofs.NameLaws.{name_stays, new_name_is_next}
 use Rattle.vx_heap.proofs.Growing.{Grows-trans, is_held-grown, value_of-grown}
 use Rattle.vx_heap.specs.Changing.{Grows, IsCellWritten, IsChangedIn, IsMade, IsValueHeld, with_cell_of, with_object}
 use Rattle.vx_heap.specs.Heap.{Globals, HeapView, IsHeap, globals_at, is_held, name_at, object_in, objects_at, value_of}

@@ -10,7 +10,7 @@ use Rattle.vx_group.specs.Group.{GroupView, IsGroup, IsPartOf, path_of}
 use Rattle.vx_group.proofs.GroupLaws.{IsGroup-path_known}
 use Rattle.vx_group_states.proofs.OutcomeStates.{AreOutcomes-through, object_named-extends}
 use Rattle.vx_group_states.specs.Stands.{CameTo, Continues, Grows, is_object, object_named}
-use Rattle.vx_growth.proofs.NameLaws.{name_stays}
+use Rattle.vx_families.proofs.NameLaws.{name_stays}
 use Rattle.vx_heap.proofs.HeapLaws.{is_held-extends}
 use Rattle.vx_heap.specs.Heap.{HeapView, IsHeap, is_held, value_of}
 use Rattle.vx_java.specs.Machine.{Ref as RefValue}

@@ -13,7 +13,7 @@ use Rattle.vx_frames.proofs.ClassLaws.{class_there}
 use Rattle.vx_group_states.proofs.AnswerLaws.{values_scope}
 use Rattle.vx_group_states.proofs.StateLaws.{both_first}
 use Rattle.vx_group_states.specs.Stands.{is_object, object_named}
-use Rattle.vx_growth.proofs.ChangeLaws.{changed_later}
+use Rattle.vx_families.proofs.ChangeLaws.{changed_later}
 use Rattle.vx_heap.proofs.Growing.{Grows-refl, is_held-grown}
 use Rattle.vx_heap.proofs.HeapLaws.{IsHeap-extends, globals_at-extends, is_held-extends, name_at-extends, value_of-extends}
 use Rattle.vx_heap.proofs.Written.{either_scope, some_within, within_there}

@@ -31,14 +31,14 @@ fn copy_of<S: Space>(alloc: Global, heap: &Heap<S>, text: u64) -> Result<Vec<u16
     Ok(units)
 }
 
-/// A string with a text of the heap, in the configurations of a path.
+/// A string with a text of the heap, in the configurations of a path. After want of memory the heap is given up.
 fn text_object<S: Space>(
     alloc: Global,
     program: &Program,
     heap: &mut Heap<S>,
     text: u64,
     path: S::Id,
-) -> Result<Slot, AllocError>
+) -> Result<Slot, SpaceFault>
     requires classes { HasClassNumbers program.now }
     requires text { text < length heap.old.texts }
     ensures { IfOk result (MakesMessage program.now heap.old path (Some (text_at heap.old.texts text)) heap.new) }
@@ -56,7 +56,7 @@ fn message_object<S: Space>(
     heap: &mut Heap<S>,
     message: Option<u64>,
     path: S::Id,
-) -> Result<Slot, AllocError>
+) -> Result<Slot, SpaceFault>
     requires classes { HasClassNumbers program.now }
     requires message { IsMessage heap.old message }
     ensures { IfOk result (MakesMessage program.now heap.old path (message_of heap.old message) heap.new) }

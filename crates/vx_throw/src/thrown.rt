@@ -51,8 +51,7 @@ pub fn attempt<S: Space>(
 {
     let program = site.program;
     if group.top_frame().stack.len() == 0 {
-        let ended = illegal(alloc, program, &group)?;
-        return Ok(ended);
+        return illegal(alloc, program, &group);
     }
     let throwable = core_class(program, b"java/lang/Throwable");
     let null = core_class(program, b"java/lang/NullPointerException");
@@ -60,6 +59,5 @@ pub fn attempt<S: Space>(
         ensures { result ≡ thrown program.entry.now heap.entry.now throwable.0 null slot }
     { thrown(program, heap, throwable, null, slot) };
     let answers = top_operand(&group).map(space, answer)?;
-    let outcomes = carry_out(alloc, site, space, group, 1, &answers)?;
-    Ok(outcomes)
+    carry_out(alloc, site, space, group, 1, &answers)
 }

@@ -420,7 +420,7 @@ pub const CUT_CASES: [(&str, u8, &str, &str); 18] = [
 ];
 
 /// Words, the calls of the files, of `out` and of `err` that fail, and what has to come.
-pub const FAULTS: [(&str, u64, u64, u64, u8, &str, &str); 17] = [
+pub const FAULTS: [(&str, u64, u64, u64, u8, &str, &str); 20] = [
     (
         "run n e Main 100 1",
         0,
@@ -445,11 +445,30 @@ pub const FAULTS: [(&str, u64, u64, u64, u8, &str, &str); 17] = [
     ("agree report report", 2, 0, 0, 3, "", "read fault report\n"),
     ("count absent", 0, 0, 0, 3, "", "read fault absent\n"),
     ("page absent", 0, 0, 0, 3, "", "read fault absent\n"),
+    ("cut absent A", 0, 0, 0, 3, "", "read fault absent\n"),
+    ("cut two C absent", 0, 0, 0, 3, "", "read fault absent\n"),
+    (
+        "check absent returns",
+        0,
+        0,
+        0,
+        3,
+        "",
+        "read fault absent\n",
+    ),
+    ("check report absent", 0, 0, 0, 3, "", "read fault absent\n"),
+    (
+        "compare report absent",
+        0,
+        0,
+        0,
+        3,
+        "",
+        "read fault absent\n",
+    ),
     ("page report", 0, 2, 0, 4, "<!doctype ", "write fault\n"),
     ("output report A", 1, 0, 0, 3, "", "read fault report\n"),
     ("agree absent cut", 0, 0, 0, 3, "", "read fault absent\n"),
-    ("cut absent A", 0, 0, 0, 3, "", "read fault absent\n"),
-    ("cut two C absent", 0, 0, 0, 3, "", "read fault absent\n"),
     ("join report part", 2, 0, 0, 3, "", "read fault part\n"),
     ("agree report absent", 0, 0, 0, 3, "", "read fault absent\n"),
     (
@@ -528,4 +547,100 @@ pub const REFUSED: [(&str, u8); 11] = [
     ("project part -", 11),
     ("asm word", 12),
     ("agree report plain", 14),
+];
+
+/// The same of checks.
+pub const CHECK_CASES: [(&str, u8, &str, &str); 12] = [
+    (
+        "check report",
+        0,
+        "varexj check 1\nof 2\nfailing 0\ndone\n",
+        "",
+    ),
+    (
+        "check report returns",
+        0,
+        "varexj check 1\nof 2\nfailing 0\ndone\n",
+        "",
+    ),
+    (
+        "check report exits",
+        15,
+        "varexj check 1\nof 2\nfailing 1\n1 A 2 return when A\ndone\n",
+        "failing\n",
+    ),
+    (
+        "check report formless",
+        17,
+        "",
+        "bad expected line 1 reason 1\n",
+    ),
+    (
+        "check report endless",
+        17,
+        "",
+        "bad expected line 2 reason 2\n",
+    ),
+    (
+        "check report ruleless",
+        17,
+        "",
+        "bad expected line 1 reason 4\n",
+    ),
+    (
+        "check report strange",
+        17,
+        "",
+        "bad expected line 1 reason 5\n",
+    ),
+    ("check cut returns", 10, "", "bad report line 6\n"),
+    // A path that nothing is held under is an empty file here.
+    ("check absent returns", 10, "", "bad report line 1\n"),
+    (
+        "check report absent",
+        0,
+        "varexj check 1\nof 2\nfailing 0\ndone\n",
+        "",
+    ),
+    ("check", 2, "", "usage\n"),
+    ("check report returns exits", 2, "", "usage\n"),
+];
+
+/// The same of comparisons of reports.
+pub const COMPARE_CASES: [(&str, u8, &str, &str); 9] = [
+    (
+        "compare report report",
+        0,
+        "varexj compare 1\nof 2\ndiffer 0\ndone\n",
+        "",
+    ),
+    (
+        "compare report part",
+        16,
+        "varexj compare 1\nof 2\ndiffer 1\nwhen !A\nway return\nother -\ncount 1\nwhen !A\nexample -\ndone\n",
+        "differing\n",
+    ),
+    (
+        "compare part report",
+        16,
+        "varexj compare 1\nof 2\ndiffer 1\nwhen !A\nway -\nother return\ncount 1\nwhen !A\nexample -\ndone\n",
+        "differing\n",
+    ),
+    (
+        "compare report plain",
+        16,
+        "varexj compare 1\nof 2\ndiffer 2\nwhen true\nway return\nother return\ncount 2\nwhen true\nexample -\nline out 1\none 0\\0a\nother 2\\0a\ndone\n",
+        "differing\n",
+    ),
+    (
+        "compare plain report",
+        16,
+        "varexj compare 1\nof 2\ndiffer 2\nwhen true\nway return\nother return\ncount 2\nwhen true\nexample -\nline out 1\none 2\\0a\nother 0\\0a\ndone\n",
+        "differing\n",
+    ),
+    ("compare report cut", 10, "", "bad report line 6\n"),
+    ("compare cut absent", 10, "", "bad report line 6\n"),
+    // A path that nothing is held under is an empty file here.
+    ("compare report absent", 10, "", "bad report line 1\n"),
+    ("compare report", 2, "", "usage\n"),
 ];

@@ -91,7 +91,7 @@ const SOURCES: [(&str, &str); 8] = [
     ),
 ];
 
-const FILES: [(&str, &[u8]); 43] = [
+const FILES: [(&str, &[u8]); 49] = [
     ("m", b"option A Main A\n"),
     ("e", b""),
     ("r", b"option A Main A\nrule true\n"),
@@ -122,6 +122,12 @@ const FILES: [(&str, &[u8]); 43] = [
         "many",
         b"varexj report 1\noptions 1\noption A\nlimit 100\nrounds 340282366920938463463374607431768211455\nend 1 return\ndone\n",
     ),
+    ("returns", b"return when A\n\nreturn when !A"),
+    ("exits", b"#\nexit 3 when A\n"),
+    ("formless", b"return A\n"),
+    ("endless", b"return when A\nreturns when A\n"),
+    ("ruleless", b"return when\n"),
+    ("strange", b"return when B\n"),
     ("word", b"klass 0021 Main java/lang/Object\n"),
     ("source", b"class 0021 Main java/lang/Object\n"),
     ("e.cnf", b""),

@@ -9,8 +9,8 @@ mod files;
 #[cfg(test)]
 mod tests {
     use crate::cases::{
-        CLASS_CASES, CUT_CASES, FAULTS, JOIN_CASES, READS, REFUSAL_CASES, REFUSED, REPORT_CASES,
-        RUN_CASES, TRACE_CASES, WRITES,
+        CHECK_CASES, CLASS_CASES, COMPARE_CASES, CUT_CASES, FAULTS, JOIN_CASES, READS,
+        REFUSAL_CASES, REFUSED, REPORT_CASES, RUN_CASES, TRACE_CASES, WRITES,
     };
     use crate::files::{PRINTS_NUMBER, SMALLEST_CLASS, kept, one_file, put_file, steady_files};
     use std::alloc::{AllocError, Global};
@@ -98,6 +98,12 @@ mod tests {
     }
 
     #[test]
+    fn comparisons_of_reports(rt: HostRuntime) {
+        let mut files = steady_files(&rt, rt.alloc());
+        all_come(&rt, rt.alloc(), &mut files, &COMPARE_CASES);
+    }
+
+    #[test]
     fn commands_on_classes(rt: HostRuntime) {
         let mut files = steady_files(&rt, rt.alloc());
         all_come(&rt, rt.alloc(), &mut files, &CLASS_CASES);
@@ -113,6 +119,12 @@ mod tests {
     fn cuts_of_models(rt: HostRuntime) {
         let mut files = steady_files(&rt, rt.alloc());
         all_come(&rt, rt.alloc(), &mut files, &CUT_CASES);
+    }
+
+    #[test]
+    fn checks_of_reports(rt: HostRuntime) {
+        let mut files = steady_files(&rt, rt.alloc());
+        all_come(&rt, rt.alloc(), &mut files, &CHECK_CASES);
     }
 
     /// The files of which the call of this number fails.

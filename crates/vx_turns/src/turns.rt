@@ -1,7 +1,7 @@
 //! The steps of a round around its attempt: the group that is taken out, its attempt that is counted, and what changed that is
 //! put back.
 
-ghost use Rattle.std.specs.Prelude.{◌≡◌, ◌<◌, ◌+◌, ◌^◌, IfOk, List, OnOk, length, suc, true, Bool};
+ghost use Rattle.std.specs.Prelude.{◌≡◌, ◌<◌, ◌+◌, ◌^◌, IfOk, List, OnErr, OnOk, length, suc, true, Bool};
 ghost use Rattle.vx_space.specs.Sets.{Extends};
 ghost use Rattle.vx_group.specs.Group.{IsGroup, attempts_at, path_of};
 ghost use Rattle.vx_turns.specs.Turns.{IsBegun, IsSpent, put_back};
@@ -52,10 +52,11 @@ pub fn spend<S: Space>(
     Ok((spent, attempts))
 }
 
-/// Puts what changed in a round back into its state.
+/// Puts what changed in a round back into its state. After want of memory the state is as it was before.
 pub fn end_round<S: Space>(state: &mut State<S>, round: Round<S>) -> Result<(), AllocError>
     requires { state.old.rounds + 1 < 2 ^ 128 }
-    ensures { OnOk result (state.new ≡ put_back state.old round) }
+    ensures ok { OnOk result (state.new ≡ put_back state.old round) }
+    ensures err { OnErr result (state.new ≡ state.old) }
 {
     let Round {
         callers,

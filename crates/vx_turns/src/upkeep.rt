@@ -2,7 +2,7 @@
 //! state doesn't name, and the tree drops the callers that no group has. Either walks over all that there is, so it waits until so
 //! much is new that it costs little beside what made that (own).
 
-ghost use Rattle.std.specs.Prelude.{◌≡◌, IfOk, OnOk, length, map, true};
+ghost use Rattle.std.specs.Prelude.{◌≡◌, IfOk, OnErr, OnOk, length, map, true};
 ghost use Rattle.vx_space.specs.Sets.{AreKnown, IsCompacted};
 ghost use Rattle.vx_space.specs.Under.{IsNumberUnder};
 ghost use Rattle.vx_group.specs.Sweep.{StandIn};
@@ -75,12 +75,13 @@ pub fn sweep<S: Space>(alloc: Global, state: &mut State<S>) -> Result<(), AllocE
     state.callers.sweep(alloc, state.groups.as_slice())
 }
 
-/// Compacts the space on the ids of a state, and says how many these are.
+/// Compacts the space on the ids of a state, and says how many these are. After want of memory the space is as it was.
 pub fn compact<S: Space>(alloc: Global, space: &mut S, state: &State<S>) -> Result<u64, AllocError>
     requires { AreKnown (S.sets space.old) (state_ids state.now) }
     ensures number { IfOk result (λ n. n ≡ length (state_ids state.now)) }
     ensures compacted { OnOk result (IsCompacted (S.sets space.old) (S.sets space.new) (state_ids state.now)) }
     ensures based { OnOk result ((S.sets space.new).counts ≡ true → IsNumberUnder (map (S.sets space.old).test (state_ids state.now)) (S.sets space.new).base) }
+    ensures err { OnErr result (S.sets space.new ≡ S.sets space.old) }
 {
     let mut ids = Vec::new(alloc);
     state.ids_out(&mut ids)?;

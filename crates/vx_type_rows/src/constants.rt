@@ -1,7 +1,7 @@
 //! Constants of the pool (JVMS 6.5 ldc, ldc_w, ldc2_w).
 
 ghost use Rattle.std.specs.Prelude.{◌≡◌, ◌<◌, ◌^◌, IfOk, codes, length};
-ghost use Rattle.vx_code.specs.Lookups.{entry_of};
+ghost use Rattle.vx_pool.specs.Lookups.{entry_of};
 ghost use Rattle.vx_java.specs.Ids.{HasClassNumbers};
 ghost use Rattle.vx_types.specs.Plain.{gives};
 ghost use Rattle.vx_types.specs.Rows.{pool_of, push_entry, with_class};

@@ -2,7 +2,7 @@
 -- or raise, before an operand is looked at, nothing is needed and nothing follows.
 use Rattle.std.specs.Prelude.{Bool, List, None, Option, Some, [], false, if◌then◌else◌, map, replicate, reverse, true, ℕ, ◌++◌, ◌-◌, ◌||◌, ◌∷◌}
 use Rattle.vx_class.specs.Members.{ABSTRACT, STATIC}
-use Rattle.vx_code.specs.Lookups.{entry_of}
+use Rattle.vx_pool.specs.Lookups.{entry_of}
 use Rattle.vx_desc.specs.Descriptors.{field_type}
 use Rattle.vx_desc.specs.Names.{is_init}
 use Rattle.vx_desc.specs.declared.java_type.Base.{Base}

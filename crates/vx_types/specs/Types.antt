@@ -1,7 +1,7 @@
 -- The types of local variables and operands, and which type a name or a descriptor says (JVMS 4.10.1.2).
 use Rattle.std.specs.Prelude.{List, None, Option, Some, codes, false, if◌then◌else◌, option_map, true, ℕ, ◌+◌, ◌-◌}
 use Prim.Native.String.{String}
-use Rattle.vx_code.specs.Lookups.{is_array as is_array_text}
+use Rattle.vx_pool.specs.Lookups.{is_array as is_array_text}
 use Rattle.vx_desc.specs.Descriptors.{field_type}
 use Rattle.vx_desc.specs.declared.java_type.Base.{Base}
 use Rattle.vx_desc.specs.declared.java_type.Base.TheVariants as base

@@ -12,6 +12,6 @@ mod types;
 pub use fitting::fits;
 pub use hierarchy::object_class;
 pub use law::{flow_is_monotone, ranks_are_ranked};
-pub use merging::{common, element_copy};
+pub use merging::{common, element_copy, type_copy};
 pub use naming::{arrays_over, class_type, object_type, ref_of, type_of};
 pub use types::{ElementType, Row, VerType, Want};

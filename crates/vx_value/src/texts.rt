@@ -10,6 +10,7 @@ use crate::trie::Trie;
 use indexmap::IndexMap;
 use std::alloc::{AllocError, Global};
 use std::marker::Model;
+use vx_list::Keyed;
 
 /// Texts in order, found by the nodes of a trie at which they end. Contracts see the list of them, each as its UTF-16 code units.
 #[derive(Drop)]
@@ -56,11 +57,11 @@ fn list(listed: &mut IndexMap<u64, Span>, end: u64, span: Span) -> Result<u64, A
 }
 
 impl Texts {
-    fn new(alloc: Global) -> Texts
+    fn new(alloc: Global, key: Keyed) -> Texts
         ensures { result ≡ [] }
     {
         Texts {
-            trie: Trie::new(alloc),
+            trie: Trie::new(alloc, key),
             buffers: Buffers::new(alloc),
             listed: IndexMap::new(alloc),
         }
@@ -133,12 +134,19 @@ pub struct TextTable {
 }
 
 impl TextTable {
-    /// No texts. Takes no memory.
+    /// No texts. Takes no memory. The hashes by which texts are found have a key that everybody knows.
     pub fn new(alloc: Global) -> TextTable
         ensures { result.texts ≡ [] }
     {
+        TextTable::keyed(alloc, Keyed::by(&[]))
+    }
+
+    /// No texts. Takes no memory. The hashes by which texts are found begin with a key that is made of all from which texts may come.
+    pub fn keyed(alloc: Global, key: Keyed) -> TextTable
+        ensures { result.texts ≡ [] }
+    {
         TextTable {
-            texts: Texts::new(alloc),
+            texts: Texts::new(alloc, key),
         }
     }
 

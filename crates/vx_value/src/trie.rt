@@ -7,24 +7,25 @@ ghost use Rattle.vx_value.specs.Trie.{AreSteps, paths};
 
 use indexmap::IndexSet;
 use std::alloc::{AllocError, Global};
+use vx_list::Keyed;
 
 /// A trie of texts. The empty text ends at node 0, and each other node follows an earlier one by one unit. Different nodes end
 /// different texts, so a text that was walked is found again with no comparison of texts.
 #[derive(Drop)]
 pub struct Trie {
     /// The node that each node but the first follows, and the unit between them.
-    pub(crate) steps: IndexSet<(u64, u16)>,
+    pub(crate) steps: IndexSet<(u64, u16), Keyed>,
     pub(crate) ghost are_steps: { AreSteps steps.keys } by { Prim.hlevel props },
     pub(crate) ghost distinct: { AreDistinct (paths steps.keys) } by { Prim.hlevel props },
 }
 
 impl Trie {
     /// The first node alone. Takes no memory.
-    pub(crate) fn new(alloc: Global) -> Trie
+    pub(crate) fn new(alloc: Global, key: Keyed) -> Trie
         ensures { result.steps.keys ≡ [] }
     {
         Trie {
-            steps: IndexSet::new(alloc),
+            steps: IndexSet::with_hasher(alloc, key),
         }
     }
 

@@ -1,9 +1,10 @@
--- The jumps of a switch lie in the code, since its instruction does.
-use Rattle.std.proofs.Common.{List, [], suc, zero, ℕ, ◌∷◌}
-use Rattle.std.specs.Prelude.{slice_get, unwrap_or}
+-- The jumps of a switch lie in the code, since its instruction does; and what decoding tells of the instruction.
+use Rattle.std.proofs.Common.{List, None, Option, Some, [], ap, refl, suc, zero, ℕ, ◌∷◌, ◌≡◌}
+use Rattle.std.specs.Prelude.{Err, Ok, ok_or, slice_get, unwrap_or}
 use Rattle.vx_java.specs.Operation.{Rule, does, operation_of, rules, switch_of}
 use Rattle.vx_java.specs.declared.operation.Operation.TheVariants.{Nop}
 use Rattle.vx_opcode.specs.Decode.{TableFits}
+use Rattle.vx_opcode.specs.declared.instruction.DecodeFault.{DecodeFault}
 use Rattle.vx_opcode.specs.declared.instruction.Instruction.{Instruction}
 use Rattle.vx_opcode.specs.declared.instruction.Operand.{Operand}
 use Rattle.vx_opcode.specs.declared.instruction.Operand.TheVariants.{Dimensions, Increment, Interface, Jump, Local, Lookup, Nothing, Number, Pool, Table}
@@ -46,3 +47,13 @@ fit_at code o (r ∷ rs) (suc n) h = fit_at code o rs n h.1
 
 pub entries_fit : (code : List ℕ) (i : Instruction) → TableFits code i.operand → EntriesFit code (operation_of i)
 entries_fit code i h = fit_at code i.operand rules i.opcode (all_fit code i.operand h)
+
+-- ---- what decoding tells
+
+pub some_decoded : (o : Option Instruction) (fault : DecodeFault) (i : Instruction) → ok_or o fault ≡ Ok i → o ≡ Some i
+some_decoded None fault i e = absurd cc
+some_decoded (Some j) fault i e = let same : j ≡ i = cc in ap Some same
+
+pub none_decoded : (o : Option Instruction) (fault other : DecodeFault) → ok_or o fault ≡ Err other → o ≡ None
+none_decoded None fault other e = refl
+none_decoded (Some j) fault other e = absurd cc

@@ -9,6 +9,7 @@ pub mod TakeLaws
 pub mod MergeLaws
 pub mod Reaching
 pub mod Putting
+pub mod ShortCodes
 pub mod VerdictLaws
 pub mod Following
 pub mod Marks

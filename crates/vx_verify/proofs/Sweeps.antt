@@ -5,7 +5,7 @@ use Rattle.std.specs.BTreeSet.{BTreeSet, IsEmpty, Updates}
 use Rattle.std.specs.Bool.{MatchBool}
 use Rattle.std.specs.List.{AllZip}
 use Rattle.std.specs.Ordering.{nat_cmp}
-use Rattle.std.specs.Prelude.{All, Err, Ok, Result, ok_or, option_map, replicate, slice_set}
+use Rattle.std.specs.Prelude.{All, Ok, Result, ok_or, option_map, replicate, slice_set}
 use Rattle.vx_class.specs.declared.class_file.Catch.{Catch}
 use Rattle.vx_class.specs.declared.class_file.Code.{Code}
 use Rattle.vx_java.specs.Selection.{covers}
@@ -20,7 +20,7 @@ use Rattle.vx_types.specs.Flow.{EntriesFit, flow_of}
 use Rattle.vx_types.proofs.FitLaws.{state_itself}
 use Rattle.vx_types.specs.Ranked.{IsRanked}
 use Rattle.vx_types.specs.Types.{VerState}
-use Rattle.vx_verify.proofs.Entries.{entries_fit}
+use Rattle.vx_verify.proofs.Entries.{entries_fit, some_decoded}
 use Rattle.vx_verify.proofs.Following.{outside_untyped, undecoded_untyped}
 use Rattle.vx_verify.proofs.Forcing.{same_some, start_forced}
 use Rattle.vx_verify.proofs.Inferring.{inferred_typing, leads_raised, raised_itself}
@@ -60,14 +60,6 @@ looked s i j k at before true subject is stands followed handled =
       };
     }
 looked s i j k at before false subject is stands followed handled = handled
-
-some_decoded : (o : Option Instruction) (fault : DecodeFault) (i : Instruction) → ok_or o fault ≡ Ok i → o ≡ Some i
-some_decoded None fault i e = absurd cc
-some_decoded (Some j) fault i e = let same : j ≡ i = cc in ap Some same
-
-pub none_decoded : (o : Option Instruction) (fault other : DecodeFault) → ok_or o fault ≡ Err other → o ≡ None
-none_decoded None fault other e = refl
-none_decoded (Some j) fault other e = absurd cc
 
 pub decoded_is : (s : Subject) (at : ℕ) (bytes : List ℕ) (found : Result Instruction DecodeFault) (fault : DecodeFault) (i : Instruction) (o : Operation) → bytes ≡ s.code.now.bytes
     → found ≡ ok_or (instruction_at bytes at) fault → found ≡ Ok i → at + i.length ≤ length bytes → TableFits bytes i.operand → o ≡ operation_of i → IsDecoded s at i.length o

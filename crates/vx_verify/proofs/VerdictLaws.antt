@@ -1,19 +1,16 @@
--- The verdict over all methods: a number past the last one has no code, and each code is short.
-use Rattle.std.proofs.Common.{Bool, List, None, Option, Some, [], inl, inr, length, refl, subst, suc, sym, true, zero, ℕ, ◌<◌, ◌⊎◌, ◌∷◌, ◌≡◌, ◌≤◌, arith, ◌+◌, ◌∙◌}
-use Rattle.std.proofs.lemmas.Bool.{cases_lt, ltb-true}
+-- The verdict over all methods: a number past the last one has no code.
+use Rattle.std.proofs.Common.{Bool, None, Option, inl, inr, length, subst, sym, ℕ, ◌<◌, ◌⊎◌, ◌≡◌, ◌≤◌, arith, ◌+◌, ◌∙◌}
+use Rattle.std.proofs.lemmas.Bool.{cases_lt}
 use Rattle.std.specs.Bool.{MatchBool}
-use Rattle.std.specs.List.{list_all}
 use Rattle.std.specs.Prelude.{IfOk, Result}
 use Rattle.vx_class.specs.declared.class_file.Code.{Code}
-use Rattle.vx_link.specs.Parts.{method_at, no_method}
+use Rattle.vx_link.specs.Parts.{no_method}
 use Rattle.vx_link.specs.declared.program.LinkedMethod.{LinkedMethod}
 use Rattle.vx_link.specs.declared.program.Program.{Program}
-use Rattle.vx_list.specs.Places.{item_or}
-use Rattle.vx_types.proofs.Tests.{both_first, both_second}
 use Rattle.vx_verify.proofs.LocalLaws.{item_past}
 use Rattle.vx_verify.proofs.Putting.{is_or_not}
 use Rattle.vx_verify.specs.Typing.{IsCodeTyped, IsTyped}
-use Rattle.vx_verify.specs.Verdict.{CanBeTyped, IsFirstUntyped, IsVerified, has_short_code}
+use Rattle.vx_verify.specs.Verdict.{IsFirstUntyped, IsVerified}
 
 -- ---- methods that are not there
 
@@ -26,24 +23,6 @@ all_verified p below m = by (cases_lt m (length p.methods))
     by : (m < length p.methods) ⊎ (length p.methods ≤ m) → IsTyped p m
     by (inl l) = below m l
     by (inr l) = past_typed p m l
-
--- ---- short codes
-
-item_passes : {A : Type 0} (test : A → Bool) (xs : List A) (i : ℕ) (d : A) → list_all test xs ≡ true → test d ≡ true → test (item_or xs i d) ≡ true
-item_passes test [] i d h k = k
-item_passes test (x ∷ xs) zero d h k = both_first (test x) (list_all test xs) h
-item_passes test (x ∷ xs) (suc i) d h k = item_passes test xs i d (both_second (test x) (list_all test xs) h) k
-
-abbrev IsShort : Option Code → Type 0
-IsShort None = Unit {0}
-IsShort (Some k) = length k.bytes < 65536
-
-short_of : (o : Option Code) (code : Code) → has_short_code o ≡ true → o ≡ Some code → length code.bytes < 65536
-short_of None code h e = absurd cc
-short_of (Some c) code h e = subst (λ (k : Option Code). IsShort k) e (ltb-true (length c.bytes) 65536 h)
-
-pub is_short : (p : Program) (m : ℕ) (code : Code) → CanBeTyped p → (method_at p m).code ≡ Some code → length code.bytes < 65536
-is_short p m code can e = short_of (method_at p m).code code (item_passes (λ k. has_short_code k.code) p.methods m no_method can.codes refl) e
 
 -- ---- one method after the other
 

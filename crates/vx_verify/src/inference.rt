@@ -2,6 +2,7 @@
 //! merged into each position to which it leads, until nothing changes (JVMS 4.10.2.2).
 
 ghost use Rattle.std.specs.Bool.{MatchBool};
+ghost use Rattle.std.specs.BTreeSet.{IsEmpty};
 ghost use Rattle.std.specs.List.{list_all};
 ghost use Rattle.std.specs.Prelude.{◌≡◌, ◌<◌, ◌≤◌, ◌^◌, ◌&&◌, ◌==◌, IfOk, None, OnOk, Some, length, nat_le, nat_lt, replicate, true};
 ghost use Rattle.vx_java.specs.Ids.{HasClassNumbers};
@@ -160,22 +161,34 @@ impl Inference {
         requires subject { IsSubject subject.now }
         ensures { IfOk result (IsInference subject.now) }
     {
+        let mut inference = Inference {
+            store: Store::new(alloc)?,
+            states: Vec::new(alloc),
+            marked: BTreeSet::new(alloc),
+            caught: Vec::new(alloc),
+        };
+        inference.begin(alloc, subject)?;
+        Ok(inference)
+    }
+
+    /// Puts the types at the start of the code where nothing is known.
+    fn begin(&mut self, alloc: Global, subject: &Subject) -> Result<(), AllocError>
+        requires subject { IsSubject subject.now }
+        requires store { IsStore self.old.store }
+        requires marked { IsEmpty self.old.marked }
+        ensures { OnOk result (IsInference subject.now self.new) }
+    {
         let program = subject.program;
         let method = subject.method;
-        let mut store = Store::new(alloc)?;
         let rows = subject.code.catches.as_slice();
-        let caught = caught_by_rows(alloc, &mut store, program, method, rows)?;
-        let start = start_state(alloc, &mut store, program, method, subject.frame)?;
-        let mut states = no_states(alloc, subject.code.bytes.len())?;
-        let mut marked = BTreeSet::new(alloc);
-        states[0] = Some(start);
-        marked.insert(0)?;
-        Ok(Inference {
-            store,
-            states,
-            marked,
-            caught,
-        })
+        let caught = caught_by_rows(alloc, &mut self.store, program, method, rows)?;
+        self.caught = caught;
+        let start = start_state(alloc, &mut self.store, program, method, subject.frame)?;
+        let states = no_states(alloc, subject.code.bytes.len())?;
+        self.states = states;
+        self.states[0] = Some(start);
+        self.marked.insert(0)?;
+        Ok(())
     }
 
     /// What types and those of a position of the code come to. Nothing changes but the store.
@@ -539,16 +552,21 @@ impl Inference {
     }
 }
 
-/// Whether a method that is asked has a typing: sweeps follow one another until nothing is marked. What is known rises with each sweep, so
+/// Whether a method has a typing: sweeps follow one another until nothing is marked. What is known rises with each sweep, so
 /// that 2^64 of them are never needed; they would count as memory that lacks.
-fn is_inferred(alloc: Global, subject: &Subject) -> Result<bool, AllocError>
-    requires { IsSubject subject.now }
+fn is_inferred(
+    alloc: Global,
+    subject: &Subject,
+    inference: &mut Inference,
+    rows: &mut KnownRows,
+) -> Result<bool, AllocError>
+    requires subject { IsSubject subject.now }
+    requires inference { IsInference subject.now inference.old }
+    requires rows { AreKnown subject.now.program.now subject.now.method.0 rows.old.rows.items }
     ensures { IfOk result (λ typed. MatchBool typed (IsCodeTyped subject.now.program.now subject.now.method.0 (Some subject.now.code.now)) (¬ IsCodeTyped subject.now.program.now subject.now.method.0 (Some subject.now.code.now))) }
 {
-    let mut inference = Inference::new(alloc, subject)?;
-    let mut rows = KnownRows::new(alloc, subject.program, subject.method);
     for _sweep in 0..u64::MAX {
-        let swept = inference.sweep(alloc, subject, &mut rows)?;
+        let swept = inference.sweep(alloc, subject, rows)?;
         let Some(found) = swept else {
             return Ok(false);
         };
@@ -557,6 +575,16 @@ fn is_inferred(alloc: Global, subject: &Subject) -> Result<bool, AllocError>
         }
     }
     Err(AllocError)
+}
+
+/// Whether a method that is asked has a typing.
+fn has_typing(alloc: Global, subject: &Subject) -> Result<bool, AllocError>
+    requires { IsSubject subject.now }
+    ensures { IfOk result (λ typed. MatchBool typed (IsCodeTyped subject.now.program.now subject.now.method.0 (Some subject.now.code.now)) (¬ IsCodeTyped subject.now.program.now subject.now.method.0 (Some subject.now.code.now))) }
+{
+    let mut inference = Inference::new(alloc, subject)?;
+    let mut rows = KnownRows::new(alloc, subject.program, subject.method);
+    is_inferred(alloc, subject, &mut inference, &mut rows)
 }
 
 /// Whether the code of a method has a typing.
@@ -584,5 +612,5 @@ pub fn is_typed(
         code,
         frame,
     };
-    is_inferred(alloc, &subject)
+    has_typing(alloc, &subject)
 }

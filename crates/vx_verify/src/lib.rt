@@ -4,10 +4,10 @@
 mod inference;
 mod known_rows;
 mod quiet;
-mod rows;
-mod start;
-mod store;
+pub mod rows;
+pub mod start;
+pub mod store;
 mod type_keys;
 mod verdict;
 
-pub use verdict::{Verdict, verify};
+pub use verdict::{Verdict, code_of, verify};

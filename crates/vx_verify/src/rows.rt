@@ -53,7 +53,7 @@ fn taken(store: &Store, program: &Program, wants: &[Want], operands: u32) -> Opt
 }
 
 /// The type of a local variable; one that the method doesn't have cannot be read.
-fn local(store: &Store, frame: Frame, locals: u32, place: u32) -> u32
+pub fn local(store: &Store, frame: Frame, locals: u32, place: u32) -> u32
     requires store { IsStore store.now }
     requires few { frame.levels ≤ 16 }
     requires locals { frame.locals ≤ 2 ^ frame.levels }
@@ -193,7 +193,7 @@ fn lower(form: Shuffle) -> u32
 }
 
 /// Operands, the top first, on others.
-fn on_top(store: &mut Store, tops: &[u32], under: u32) -> Result<u32, AllocError>
+pub fn on_top(store: &mut Store, tops: &[u32], under: u32) -> Result<u32, AllocError>
     requires store { IsStore store.old }
     requires tops { AreTypes store.old tops.now }
     requires under { IsStack store.old under }

@@ -163,7 +163,7 @@ fn given(
 }
 
 /// These in the first local variables, as far as the method has them, and nothing in the others.
-fn filled(store: &mut Store, frame: Frame, numbers: &[u32]) -> Result<u32, AllocError>
+pub fn filled(store: &mut Store, frame: Frame, numbers: &[u32]) -> Result<u32, AllocError>
     requires store { IsStore store.old }
     requires few { frame.levels ≤ 16 }
     requires locals { frame.locals ≤ 2 ^ frame.levels }

@@ -36,7 +36,7 @@ fn is_method_typed(alloc: Global, program: &Program, method: MethodId) -> Result
 }
 
 /// The code of a method, if it has one.
-fn code_of(program: &Program, method: MethodId) -> Option<&Code>
+pub fn code_of(program: &Program, method: MethodId) -> Option<&Code>
     ensures { option_copied result ≡ (method_at program.now method.0).code }
 {
     match program.method(method) {

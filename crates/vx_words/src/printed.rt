@@ -1,13 +1,14 @@
 //! Decimal numbers as they are printed.
 
-ghost use Rattle.std.specs.Prelude.{◌≡◌, ◌≢◌, ◌++◌, ◌<◌, ◌^◌, ℕ, MatchOption, OnOk, decimal};
+ghost use Rattle.std.specs.Prelude.{◌≡◌, ◌≢◌, ◌++◌, ◌<◌, ◌^◌, ℕ, MatchOption, OnErr, OnOk, decimal};
 
 use itoa::{Buffer, Integer};
 use std::alloc::AllocError;
 
-/// Puts a number in decimal digits, behind a `-` where it is below 0.
+/// Puts a number in decimal digits, behind a `-` where it is below 0. Want of memory leaves the text as it was.
 pub fn put_number<I: Integer>(out: &mut Vec<u8>, n: I) -> Result<(), AllocError>
-    ensures { OnOk result (out.new.items ≡ out.old.items ++ I.text n) }
+    ensures ok { OnOk result (out.new.items ≡ out.old.items ++ I.text n) }
+    ensures err { OnErr result (out.new.items ≡ out.old.items) }
 {
     out.extend_from_slice(Buffer::new().format(n).as_bytes())
 }

@@ -4,7 +4,7 @@ use Rattle.std.proofs.Common.{All, List, Some, [], ap, arith, codes, false, leng
 use Rattle.std.proofs.lemmas.List.{length-map}
 use Rattle.std.specs.List.{flat_map, list_all}
 use Rattle.vx_class.specs.File.{CodeHolds, Holds, MethodHolds}
-use Rattle.vx_code.specs.Lookups.{is_array}
+use Rattle.vx_pool.specs.Lookups.{is_array}
 use Rattle.vx_desc.specs.Descriptors.{element_at, field_of, method_of, method_slots, result_at, type_at, types_at}
 use Rattle.vx_desc.specs.Names.{is_class_name, is_field_name, is_method_name}
 use Rattle.vx_work_laws.proofs.MainCode.{main_code_holds, main_names}

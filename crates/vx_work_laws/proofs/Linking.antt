@@ -9,7 +9,7 @@ use Rattle.std.specs.Option.{option_or}
 use Rattle.std.specs.Prelude.{bytes_eq}
 use Rattle.vx_class.specs.declared.class_file.ClassFile.{ClassFile}
 use Rattle.vx_class.specs.declared.class_file.Field.{Field}
-use Rattle.vx_code.specs.Lookups.{text}
+use Rattle.vx_pool.specs.Lookups.{text}
 use Rattle.vx_work_laws.proofs.MainPool.{fields_stand, main_descriptor, main_name, main_pool, named_fields}
 use Rattle.vx_work_laws.proofs.References.{pool_with}
 use Rattle.vx_gen.specs.Workload.{main_class, option_field, work_file, work_files, work_model, work_option, work_program}

@@ -9,9 +9,9 @@ use Rattle.std.specs.List.{flat_map, slice_get}
 use Rattle.std.specs.Prelude.{◌==◌}
 use Rattle.vx_assembled.proofs.Decoded.{Decodes, made}
 use Rattle.vx_class.specs.File.{CodeHolds}
-use Rattle.vx_code.specs.Checks.{all_hold}
-use Rattle.vx_code.specs.Instructions.{is_start, jump_checks, operand_checks}
-use Rattle.vx_code.specs.Lookups.{is_array}
+use Rattle.vx_pool.specs.Checks.{all_hold}
+use Rattle.vx_pool.specs.Instructions.{is_start, jump_checks, operand_checks}
+use Rattle.vx_pool.specs.Lookups.{is_array}
 use Rattle.vx_desc.specs.Descriptors.{element_at, method_of, method_slots, result_at, type_at, types_at}
 use Rattle.vx_work_laws.proofs.MainPool.{main_pool, main_reference, main_references, main_references_at}
 use Rattle.vx_work_laws.proofs.References.{IsMember, is_member, pool_with}

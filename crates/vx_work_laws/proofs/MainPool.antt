@@ -9,8 +9,8 @@ use Rattle.std.specs.Prelude.{bytes_eq, ◌||◌}
 use Rattle.vx_class.specs.File.{EachBehind, FieldHolds}
 use Rattle.vx_class.specs.Members.{is_same}
 use Rattle.vx_class.specs.declared.class_file.Field.{Field}
-use Rattle.vx_code.specs.Holding.{and_true}
-use Rattle.vx_code.specs.Lookups.{text, utf8}
+use Rattle.vx_pool.specs.Holding.{and_true}
+use Rattle.vx_pool.specs.Lookups.{text, utf8}
 use Rattle.vx_desc.specs.Descriptors.{element_at, field_of, method_of, method_slots, result_at, type_at, types_at}
 use Rattle.vx_desc.specs.Names.{is_class_name, is_field_name, is_method_name}
 use Rattle.vx_work_laws.proofs.References.{AreChecked, all_checked, all_plain, are_held, is_good, is_held, is_plain, placed, pool_with, reference_stands, six}

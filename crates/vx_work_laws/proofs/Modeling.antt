@@ -10,7 +10,7 @@ use Rattle.std.proofs.lemmas.Slice.Eq.{bytes_eq-Decides}
 use Rattle.std.specs.List.{list_all, list_any, slice_get, slice_index_or}
 use Rattle.std.specs.Cmp.Derive.{both_true}
 use Rattle.std.specs.Prelude.{bytes_eq}
-use Rattle.vx_code.specs.Holding.{and_true}
+use Rattle.vx_pool.specs.Holding.{and_true}
 use Rattle.vx_work_laws.proofs.MainPool.{AreGood, are_apart}
 use Rattle.vx_gen.specs.Workload.{names_of, option_names, work_model, work_option}
 use Rattle.vx_model.specs.Models.{AllApart, ApartFromAll, HasOptionNames, IsModel}

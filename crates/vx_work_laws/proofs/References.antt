@@ -7,10 +7,10 @@ use Rattle.std.proofs.lemmas.Option.{same_Some}
 use Rattle.std.specs.Cmp.Derive.{both_true}
 use Rattle.std.specs.List.{AllByRecursion, list_all, slice_get}
 use Rattle.std.specs.Prelude.{IsTrue, nat_lt, ◌||◌}
-use Rattle.vx_code.specs.Checks.{all_hold}
-use Rattle.vx_code.specs.Entries.{checks_of, member_checks}
-use Rattle.vx_code.specs.Holding.{and_true}
-use Rattle.vx_code.specs.Lookups.{is_class_text}
+use Rattle.vx_pool.specs.Checks.{all_hold}
+use Rattle.vx_pool.specs.Entries.{checks_of, member_checks}
+use Rattle.vx_pool.specs.Holding.{and_true}
+use Rattle.vx_pool.specs.Lookups.{is_class_text}
 use Rattle.vx_desc.specs.Descriptors.{is_field_descriptor, is_method_descriptor}
 use Rattle.vx_desc.specs.Names.{is_field_name, is_method_name}
 use Rattle.vx_work_laws.proofs.Stands.{Stands, all_append, first_stands, item_there, rest_stands}

@@ -10,8 +10,8 @@ use Rattle.std.specs.Prelude.{IsTrue}
 use Rattle.vx_assembled.proofs.Bytes.{Stands, is_within}
 use Rattle.vx_assembled.proofs.Decoded.{Decodes, after_opcode, by_opcode, interface_decodes, is_whole, made, pair_is, plain_decodes, pool_decodes}
 use Rattle.vx_class.specs.File.{CodeHolds}
-use Rattle.vx_code.specs.Checks.{all_hold}
-use Rattle.vx_code.specs.Instructions.{AreInstructions, JumpsHold, OperandHolds, jump_checks, operand_checks}
+use Rattle.vx_pool.specs.Checks.{all_hold}
+use Rattle.vx_pool.specs.Instructions.{AreInstructions, JumpsHold, OperandHolds, jump_checks, operand_checks}
 use Rattle.vx_link.specs.Written.{Item, item_bytes, two_bytes}
 use Rattle.vx_opcode.specs.Decode.{instruction_at, shaped_at, whole}
 use Rattle.vx_opcode.specs.Numbers.{s2}

@@ -11,7 +11,7 @@ use Rattle.vx_class.specs.declared.class_file.ClassFile.{ClassFile}
 use Rattle.vx_class.specs.declared.class_file.Field.{Field}
 use Rattle.vx_class.specs.declared.class_file.Method.{Method}
 use Rattle.vx_class.specs.declared.class_file.Code.{Code}
-use Rattle.vx_code.specs.Lookups.{text, utf8}
+use Rattle.vx_pool.specs.Lookups.{text, utf8}
 use Rattle.vx_class.specs.declared.class_file.Catch.{Catch}
 use Rattle.vx_class.specs.Members.{has, INTERFACE, STATIC, is_given, is_text_of, slots_of, takes_code}
 use Rattle.vx_class.specs.Spelling.{u2, u4, Attribute, catch_bytes, code_bytes, IsAttribute, AreAttributes, One, IsOneAmong, constant_of, IsConstant, is_constant, IsCode, is_code, FieldSpells, MethodSpells, AllSpell, Spells}

@@ -1,3 +1,4 @@
+use Rattle.std.proofs.lemmas.Result.{IfOk-weaker}
 use Rattle.vx_families.proofs.AttemptLaws.{IsAttemptBy-is, IsGiven-is}
 use Rattle.vx_java.specs.declared.operation.Operation.TheVariants.{Length, LoadElement, NewGrid, NewPrimitives, NewReferences, StoreElement}
 use Rattle.vx_arrays.proofs.attempting.attempt.Goals as goal
@@ -20,20 +21,32 @@ store_element-requires g c = IsGiven-is c.args.site.now c.args.operation (StoreE
 pub array_length-requires : goal.array_length-requires
 array_length-requires g c = IsGiven-is c.args.site.now c.args.operation Length _ c.args.heap.now c.args.group c.in-Length.is c.requires.given
 
-pub returns-in_ok-made-in-NewPrimitives-clause-ok : goal.returns-in_ok-made-in-NewPrimitives-clause-ok
-returns-in_ok-made-in-NewPrimitives-clause-ok g c = IsAttemptBy-is c.args.site.now c.args.operation (NewPrimitives c.in-NewPrimitives.number) _ _ c.args.heap.now c.new_primitives.new.heap c.args.group _ c.in-NewPrimitives.is c.in_ok-made-in-NewPrimitives.ensures.ok
+pub returns-in-NewPrimitives-clause-ok : goal.returns-in-NewPrimitives-clause-ok
+returns-in-NewPrimitives-clause-ok g c =
+    IfOk-weaker c.new_primitives.result _ _ (λ r' h'. IsAttemptBy-is c.args.site.now c.args.operation (NewPrimitives c.in-NewPrimitives.number) _ _ c.args.heap.now c.new_primitives.new.heap c.args.group _ c.in-NewPrimitives.is h')
+    c.new_primitives.ensures.ok
 
-pub returns-in_ok-made-in-NewReferences-clause-ok : goal.returns-in_ok-made-in-NewReferences-clause-ok
-returns-in_ok-made-in-NewReferences-clause-ok g c = IsAttemptBy-is c.args.site.now c.args.operation (NewReferences c.in-NewReferences.index) _ _ c.args.heap.now c.new_references.new.heap c.args.group _ c.in-NewReferences.is c.in_ok-made-in-NewReferences.ensures.ok
+pub returns-in-NewReferences-clause-ok : goal.returns-in-NewReferences-clause-ok
+returns-in-NewReferences-clause-ok g c =
+    IfOk-weaker c.new_references.result _ _ (λ r' h'. IsAttemptBy-is c.args.site.now c.args.operation (NewReferences c.in-NewReferences.index) _ _ c.args.heap.now c.new_references.new.heap c.args.group _ c.in-NewReferences.is h')
+    c.new_references.ensures.ok
 
-pub returns-in_ok-made-in-NewGrid-clause-ok : goal.returns-in_ok-made-in-NewGrid-clause-ok
-returns-in_ok-made-in-NewGrid-clause-ok g c = IsAttemptBy-is c.args.site.now c.args.operation (NewGrid c.in-NewGrid.index c.in-NewGrid.dimensions) _ _ c.args.heap.now c.new_grid.new.heap c.args.group _ c.in-NewGrid.is c.in_ok-made-in-NewGrid.ensures.ok
+pub returns-in-NewGrid-clause-ok : goal.returns-in-NewGrid-clause-ok
+returns-in-NewGrid-clause-ok g c =
+    IfOk-weaker c.new_grid.result _ _ (λ r' h'. IsAttemptBy-is c.args.site.now c.args.operation (NewGrid c.in-NewGrid.index c.in-NewGrid.dimensions) _ _ c.args.heap.now c.new_grid.new.heap c.args.group _ c.in-NewGrid.is h')
+    c.new_grid.ensures.ok
 
-pub returns-in_ok-loaded-in-LoadElement-clause-ok : goal.returns-in_ok-loaded-in-LoadElement-clause-ok
-returns-in_ok-loaded-in-LoadElement-clause-ok g c = IsAttemptBy-is c.args.site.now c.args.operation (LoadElement c.in-LoadElement.element) _ _ c.args.heap.now c.load_element.new.heap c.args.group _ c.in-LoadElement.is c.in_ok-loaded-in-LoadElement.ensures.ok
+pub returns-in-LoadElement-clause-ok : goal.returns-in-LoadElement-clause-ok
+returns-in-LoadElement-clause-ok g c =
+    IfOk-weaker c.load_element.result _ _ (λ r' h'. IsAttemptBy-is c.args.site.now c.args.operation (LoadElement c.in-LoadElement.element) _ _ c.args.heap.now c.load_element.new.heap c.args.group _ c.in-LoadElement.is h')
+    c.load_element.ensures.ok
 
-pub returns-in_ok-stored-in-StoreElement-clause-ok : goal.returns-in_ok-stored-in-StoreElement-clause-ok
-returns-in_ok-stored-in-StoreElement-clause-ok g c = IsAttemptBy-is c.args.site.now c.args.operation (StoreElement c.in-StoreElement.element) _ _ c.args.heap.now c.store_element.new.heap c.args.group _ c.in-StoreElement.is c.in_ok-stored-in-StoreElement.ensures.ok
+pub returns-in-StoreElement-clause-ok : goal.returns-in-StoreElement-clause-ok
+returns-in-StoreElement-clause-ok g c =
+    IfOk-weaker c.store_element.result _ _ (λ r' h'. IsAttemptBy-is c.args.site.now c.args.operation (StoreElement c.in-StoreElement.element) _ _ c.args.heap.now c.store_element.new.heap c.args.group _ c.in-StoreElement.is h')
+    c.store_element.ensures.ok
 
-pub returns-in_ok-measured-in-Length-clause-ok : goal.returns-in_ok-measured-in-Length-clause-ok
-returns-in_ok-measured-in-Length-clause-ok g c = IsAttemptBy-is c.args.site.now c.args.operation Length _ _ c.args.heap.now c.args.heap.now c.args.group _ c.in-Length.is c.in_ok-measured-in-Length.ensures.ok
+pub returns-in-Length-clause-ok : goal.returns-in-Length-clause-ok
+returns-in-Length-clause-ok g c =
+    IfOk-weaker c.array_length.result _ _ (λ r' h'. IsAttemptBy-is c.args.site.now c.args.operation Length _ _ c.args.heap.now c.args.heap.now c.args.group _ c.in-Length.is h')
+    c.array_length.ensures.ok

@@ -1,4 +1,5 @@
 use Rattle.std.proofs.Common.{◌≤◌, ◌<◌, arith, length}
+use Rattle.std.proofs.lemmas.Result.{IfOk-weaker}
 use Rattle.vx_arrays.proofs.Fewer.{few-attempts}
 use Rattle.vx_families.proofs.Given.{IsGiven-extends, given_ready}
 use Rattle.vx_java.specs.Arrays.{array_length}
@@ -9,7 +10,9 @@ use Rattle.vx_arrays.proofs.Loads.{length-attempts, none_to_measure}
 use Rattle.vx_arrays.proofs.loading.array_length.Goals as goal
 
 pub returns-then-len-eq0-clause-ok : goal.returns-then-len-eq0-clause-ok
-returns-then-len-eq0-clause-ok g c = few-attempts c.args.site.now Length array_length c.args.heap.now c.args.group c.top_frame.result.now c.len.result 1 _ c.requires c.top_frame.ensures c.len.ensures (omega arith) none_to_measure (c.in_ok-ended.ensures _)
+returns-then-len-eq0-clause-ok g c =
+    IfOk-weaker c.illegal.result _ _ (λ r' h'. few-attempts c.args.site.now Length array_length c.args.heap.now c.args.group c.top_frame.result.now c.len.result 1 _ c.requires c.top_frame.ensures c.len.ensures (omega arith) none_to_measure (h' _))
+    c.illegal.ensures
 
 pub lengths_at-requires-clause-running : goal.lengths_at-requires-clause-running
 lengths_at-requires-clause-running g c = IsRunning-given c.args.site.now Length _ c.args.heap.now c.args.group c.requires
@@ -30,9 +33,11 @@ pub carry_out-requires-clause-scope : goal.carry_out-requires-clause-scope
 carry_out-requires-clause-scope g c = c.in_ok-answers.ensures.scope
 
 pub returns-clause-extends : goal.returns-clause-extends
-returns-clause-extends g c = Extends-trans c.in_ok-answers.ensures.extends c.in_ok-outcomes.ensures.extends
+returns-clause-extends g c = Extends-trans c.in_ok-answers.ensures.extends c.carry_out.ensures.extends
 
 pub returns-clause-ok : goal.returns-clause-ok
 returns-clause-ok g c =
+    IfOk-weaker c.carry_out.result _ _ (λ r' h'.
     let enough : 0 < length c.args.group.top.stack.conds = rw (← c.top_frame.ensures, ← c.len.ensures) (omega arith) in
-    length-attempts c.args.site.now c.args.heap.now c.args.group c.in_ok-answers.answers _ c.in_ok-answers.ensures.extends c.in_ok-outcomes.ensures.extends c.requires enough c.in_ok-answers.ensures.at c.in_ok-outcomes.ensures.gives
+    length-attempts c.args.site.now c.args.heap.now c.args.group c.in_ok-answers.answers _ c.in_ok-answers.ensures.extends c.carry_out.ensures.extends c.requires enough c.in_ok-answers.ensures.at h')
+    c.carry_out.ensures.gives

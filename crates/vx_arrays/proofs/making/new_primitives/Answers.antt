@@ -1,4 +1,5 @@
 use Rattle.std.proofs.Common.{sym}
+use Rattle.std.proofs.lemmas.Result.{IfOk-weaker}
 use Rattle.vx_java.specs.declared.operation.Operation.TheVariants.{NewPrimitives}
 use Rattle.vx_fields.proofs.Families.{IsRunning-given}
 use Rattle.vx_arrays.proofs.ClassRows.{element_small, float-attempts, primitives-attempts}
@@ -14,7 +15,11 @@ pub new_arrays-requires : goal.new_arrays-requires
 new_arrays-requires g c = record { running = IsRunning-given c.args.site.now (NewPrimitives c.args.number) _ c.args.heap.now c.args.group c.requires }
 
 pub returns-then-is_float-clause-ok : goal.returns-then-is_float-clause-ok
-returns-then-is_float-clause-ok g c = float-attempts c.args.site.now c.args.number c.element_of_number-element.result c.in_ok-what.what c.args.heap.now c.args.group _ c.requires c.element_of_number-element.ensures (sym c.if-is_float.ensures) c.in_ok-what.ensures (c.in_ok-ended.ensures _)
+returns-then-is_float-clause-ok g c =
+    IfOk-weaker c.unsupported.result _ _ (λ r' h'. float-attempts c.args.site.now c.args.number c.element_of_number-element.result c.in_ok-what.what c.args.heap.now c.args.group _ c.requires c.element_of_number-element.ensures (sym c.if-is_float.ensures) c.in_ok-what.ensures (h' _))
+    c.unsupported.ensures
 
 pub returns-clause-ok : goal.returns-clause-ok
-returns-clause-ok g c = primitives-attempts c.args.site.now c.args.number c.element_of_number-element.result c.array_of_primitives-class.result c.args.heap.now c.new_arrays.new.heap c.args.group _ c.element_of_number-element.ensures (sym c.if-is_float.ensures) c.array_of_primitives-class.ensures c.in_ok-outcomes.ensures.ok
+returns-clause-ok g c =
+    IfOk-weaker c.new_arrays.result _ _ (λ r' h'. primitives-attempts c.args.site.now c.args.number c.element_of_number-element.result c.array_of_primitives-class.result c.args.heap.now c.new_arrays.new.heap c.args.group _ c.element_of_number-element.ensures (sym c.if-is_float.ensures) c.array_of_primitives-class.ensures h')
+    c.new_arrays.ensures.ok

@@ -1,4 +1,5 @@
 use Rattle.std.proofs.Common.{◌≤◌, ◌<◌, arith, length}
+use Rattle.std.proofs.lemmas.Result.{IfOk-weaker}
 use Rattle.vx_arrays.proofs.Fewer.{few-attempts}
 use Rattle.vx_families.proofs.Given.{IsGiven-extends, given_ready}
 use Rattle.vx_java.specs.Arrays.{store_element}
@@ -9,7 +10,9 @@ use Rattle.vx_arrays.proofs.Stores.{few_to_store, store-attempts}
 use Rattle.vx_arrays.proofs.storing.store_element.Goals as goal
 
 pub returns-then-len-lt3-clause-ok : goal.returns-then-len-lt3-clause-ok
-returns-then-len-lt3-clause-ok g c = few-attempts c.args.site.now (StoreElement c.args.element) (λ h. store_element h c.args.element) c.args.heap.now c.args.group c.top_frame.result.now c.len.result 3 _ c.requires c.top_frame.ensures c.len.ensures (omega arith) (few_to_store c.args.element) (c.in_ok-ended.ensures _)
+returns-then-len-lt3-clause-ok g c =
+    IfOk-weaker c.illegal.result _ _ (λ r' h'. few-attempts c.args.site.now (StoreElement c.args.element) (λ h. store_element h c.args.element) c.args.heap.now c.args.group c.top_frame.result.now c.len.result 3 _ c.requires c.top_frame.ensures c.len.ensures (omega arith) (few_to_store c.args.element) (h' _))
+    c.illegal.ensures
 
 pub stored-requires-clause-running : goal.stored-requires-clause-running
 stored-requires-clause-running g c = IsRunning-given c.args.site.now (StoreElement c.args.element) _ c.args.heap.now c.args.group c.requires
@@ -28,9 +31,11 @@ pub carry_out-requires-clause-scope : goal.carry_out-requires-clause-scope
 carry_out-requires-clause-scope g c = c.in_ok-answers.ensures.ok.scope
 
 pub returns-clause-extends : goal.returns-clause-extends
-returns-clause-extends g c = Extends-trans c.in_ok-answers.ensures.extends c.in_ok-outcomes.ensures.extends
+returns-clause-extends g c = Extends-trans c.in_ok-answers.ensures.extends c.carry_out.ensures.extends
 
 pub returns-clause-ok : goal.returns-clause-ok
 returns-clause-ok g c =
+    IfOk-weaker c.carry_out.result _ _ (λ r' h'.
     let enough : 2 < length c.args.group.top.stack.conds = rw (← c.top_frame.ensures, ← c.len.ensures) (omega arith) in
-    store-attempts c.args.site.now c.args.element c.args.heap.now c.stored.new.heap c.args.group c.in_ok-answers.answers _ c.in_ok-answers.ensures.extends c.in_ok-outcomes.ensures.extends c.requires enough c.in_ok-answers.ensures.ok c.in_ok-outcomes.ensures.gives
+    store-attempts c.args.site.now c.args.element c.args.heap.now c.stored.new.heap c.args.group c.in_ok-answers.answers _ c.in_ok-answers.ensures.extends c.carry_out.ensures.extends c.requires enough c.in_ok-answers.ensures.ok h')
+    c.carry_out.ensures.gives

@@ -2,7 +2,7 @@ use Rattle.std.proofs.Common.{List, ℕ, get_or, arith}
 use Rattle.std.proofs.lemmas.Result.{err_from_is_err_and}
 use Rattle.vx_class.specs.declared.class_file.Catch.{Catch}
 use Rattle.vx_class.specs.Code.{row_checked, catches_checked}
-use Rattle.vx_code.specs.Loops.{value_first, each-goes_on, each-ends, each-all}
+use Rattle.vx_pool.specs.Loops.{value_first, each-goes_on, each-ends, each-all}
 use Rattle.vx_class.proofs.code.check_catches.Goals as goal
 
 abbrev row_of : List Catch → ℕ → Catch

@@ -1,5 +1,5 @@
 use Rattle.std.proofs.Common.{◌≡◌, ◌+◌, ◌*◌, drop}
-use Rattle.vx_code.specs.Checks.{each}
+use Rattle.vx_pool.specs.Checks.{each}
 use Rattle.vx_class.specs.Code.{row_checked, catches_checked}
 use Rattle.vx_class.proofs.code.check_catches.Given as goal
 

@@ -1,7 +1,7 @@
 use Rattle.std.proofs.Common.{[]}
 use Rattle.std.proofs.lemmas.Result.{err_from_is_err_and}
-use Rattle.vx_cursor.specs.Reading.{steps, behind}
-use Rattle.vx_cursor.specs.Steps.{steps-goes_on, steps-ends, steps-done}
+use Rattle.vx_pool.specs.Reading.{steps, behind}
+use Rattle.vx_pool.specs.Steps.{steps-goes_on, steps-ends, steps-done}
 use Rattle.vx_class.specs.Members.{field_at}
 use Rattle.vx_class.proofs.members.some_fields.Goals as goal
 

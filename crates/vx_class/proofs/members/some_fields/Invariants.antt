@@ -1,5 +1,5 @@
 use Rattle.std.proofs.Common.{◌≡◌, ◌-◌, [], map}
-use Rattle.vx_cursor.specs.Reading.{steps, behind}
+use Rattle.vx_pool.specs.Reading.{steps, behind}
 use Rattle.vx_class.specs.Members.{field_at}
 use Rattle.vx_class.specs.Numbers.{field_key}
 use Rattle.vx_class.proofs.members.some_fields.Given as goal

@@ -1,9 +1,9 @@
 use Rattle.std.proofs.Common.{◌≡◌, ℕ, List, Result, Ok, Err, arith}
 use Rattle.std.specs.Prelude.{IfOk}
-use Rattle.vx_cursor.specs.declared.fault.ClassFault.{ClassFault}
-use Rattle.vx_cursor.specs.declared.fault.ClassFault.TheVariants as fault
-use Rattle.vx_cursor.specs.Place.{IsBytes}
-use Rattle.vx_cursor.specs.Reading.{Fault, Answers, IsReadAs}
+use Rattle.vx_pool.specs.declared.fault.ClassFault.{ClassFault}
+use Rattle.vx_pool.specs.declared.fault.ClassFault.TheVariants as fault
+use Rattle.vx_pool.specs.Place.{IsBytes}
+use Rattle.vx_pool.specs.Reading.{Fault, Answers, IsReadAs}
 use Rattle.vx_class.specs.declared.class_file.ClassFile.{ClassFile}
 use Rattle.vx_class.specs.Class.{class_of}
 use Rattle.vx_class.specs.File.{File}

@@ -1,4 +1,7 @@
 use Rattle.std.proofs.Common.{arith}
+use Rattle.vx_cli.specs.Pages.{page_text}
+use Rattle.vx_plans.specs.Job.{Exactly, Summary}
+use Rattle.vx_cli.proofs.Shown.{answer_given, given_of, product_given}
 use Rattle.vx_cli.proofs.top.outcome_of.Goals as goal
 
 pub run_text-requires-clause-least : goal.run_text-requires-clause-least
@@ -15,3 +18,45 @@ load_text-requires-clause-least g c = let range = rw c.in-Load.is at c.requires 
 
 pub load_text-requires-clause-most : goal.load_text-requires-clause-most
 load_text-requires-clause-most g c = let range = rw c.in-Load.is at c.requires in range.2
+
+pub returns-in-Run : goal.returns-in-Run
+returns-in-Run g c = rw (c.said.ensures, c.in-Run.is) (given_of _ _ _ _ c.run_text.ensures.ok c.run_text.ensures.err)
+
+pub returns-in-Project : goal.returns-in-Project
+returns-in-Project g c = rw (c.said-in-Project.ensures, c.in-Project.is) (given_of _ _ _ _ c.projection.ensures.ok c.projection.ensures.err)
+
+pub returns-in-Output : goal.returns-in-Output
+returns-in-Output g c = rw (c.said-in-Output.ensures, c.in-Output.is) (given_of _ _ _ _ c.output_of.ensures.ok c.output_of.ensures.err)
+
+pub returns-in-Tell : goal.returns-in-Tell
+returns-in-Tell g c = rw (c.said-in-Tell.ensures, c.in-Tell.is) (given_of _ _ _ _ c.tale_of.ensures.ok c.tale_of.ensures.err)
+
+pub returns-in-Agree : goal.returns-in-Agree
+returns-in-Agree g c = rw (c.said-in-Agree.ensures, c.in-Agree.is) (given_of _ _ _ _ c.agreement_of.ensures.ok c.agreement_of.ensures.err)
+
+pub returns-in-Join : goal.returns-in-Join
+returns-in-Join g c = rw (c.said-in-Join.ensures, c.in-Join.is) (given_of _ _ _ _ c.join_of.ensures.ok c.join_of.ensures.err)
+
+pub returns-in-Asm : goal.returns-in-Asm
+returns-in-Asm g c = rw (c.said-in-Asm.ensures, c.in-Asm.is) (given_of _ _ _ _ c.class_file.ensures.ok c.class_file.ensures.err)
+
+pub returns-in-Load : goal.returns-in-Load
+returns-in-Load g c = rw (c.said-in-Load.ensures, c.in-Load.is) (product_given _ _ (Summary c.in-Load.words.seed c.in-Load.words.options) _ c.load_text.ensures)
+
+pub returns-in-Verify : goal.returns-in-Verify
+returns-in-Verify g c = rw (c.said-in-Verify.ensures, c.in-Verify.is) (given_of _ _ _ _ c.verification.ensures.ok c.verification.ensures.err)
+
+pub returns-in-Retell : goal.returns-in-Retell
+returns-in-Retell g c = rw (c.said-in-Retell.ensures, c.in-Retell.is) (given_of _ _ _ _ c.retold.ensures.ok c.retold.ensures.err)
+
+pub returns-in-Cut : goal.returns-in-Cut
+returns-in-Cut g c = rw (c.said-in-Cut.ensures, c.in-Cut.is) (given_of _ _ _ _ c.cutting.ensures.ok c.cutting.ensures.err)
+
+pub returns-in-Show : goal.returns-in-Show
+returns-in-Show g c = rw (c.said-in-Show.ensures, c.in-Show.is) (product_given _ _ (Exactly (page_text c.in-Show.page)) _ c.text_of_page.ensures)
+
+pub returns-in-Check : goal.returns-in-Check
+returns-in-Check g c = rw c.in-Check.is (answer_given _ _ _ _ c.check_of.ensures.ok c.check_of.ensures.err)
+
+pub returns-in-Compare : goal.returns-in-Compare
+returns-in-Compare g c = rw c.in-Compare.is (answer_given _ _ _ _ c.compare_of.ensures.ok c.compare_of.ensures.err)

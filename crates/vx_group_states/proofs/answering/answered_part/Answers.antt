@@ -1,28 +1,47 @@
+use Rattle.std.proofs.lemmas.Result.{IfOk-weaker}
 use Rattle.vx_group_states.proofs.answering.answered_part.Goals as goal
 
-pub returns-in_ok-ended-in-Illegal-clause-gives : goal.returns-in_ok-ended-in-Illegal-clause-gives
-returns-in_ok-ended-in-Illegal-clause-gives g c = rw c.in-Illegal.is (λ heap q. c.in_ok-ended-in-Illegal.ensures _ heap)
+pub returns-in-Illegal-clause-gives : goal.returns-in-Illegal-clause-gives
+returns-in-Illegal-clause-gives g c =
+    IfOk-weaker c.illegal.result _ _ (λ r' h'. rw c.in-Illegal.is (λ heap q. h' _ heap))
+    c.illegal.ensures
 
-pub returns-in_ok-raised-in-Raise-clause-gives : goal.returns-in_ok-raised-in-Raise-clause-gives
-returns-in_ok-raised-in-Raise-clause-gives g c = rw c.in-Raise.is (λ heap q. c.in_ok-raised-in-Raise.ensures _ _ heap q)
+pub returns-in-Raise-clause-gives : goal.returns-in-Raise-clause-gives
+returns-in-Raise-clause-gives g c =
+    IfOk-weaker c.raised_part.result _ _ (λ r' h'. rw c.in-Raise.is (λ heap q. h' _ _ heap q))
+    c.raised_part.ensures
 
-pub returns-in_ok-put-in-Push-clause-gives : goal.returns-in_ok-put-in-Push-clause-gives
-returns-in_ok-put-in-Push-clause-gives g c = rw c.in-Push.is (λ heap q. c.in_ok-put-in-Push.ensures.gives heap q)
+pub returns-in-Push-clause-gives : goal.returns-in-Push-clause-gives
+returns-in-Push-clause-gives g c =
+    IfOk-weaker c.pushed_part.result _ _ (λ r' h'. rw c.in-Push.is (λ heap q. h' heap q))
+    c.pushed_part.ensures.gives
 
-pub returns-in_ok-jumped-in-Jump-clause-gives : goal.returns-in_ok-jumped-in-Jump-clause-gives
-returns-in_ok-jumped-in-Jump-clause-gives g c = rw c.in-Jump.is (λ heap q. c.in_ok-jumped-in-Jump.ensures _ heap)
+pub returns-in-Jump-clause-gives : goal.returns-in-Jump-clause-gives
+returns-in-Jump-clause-gives g c =
+    IfOk-weaker c.jumped_part.result _ _ (λ r' h'. rw c.in-Jump.is (λ heap q. h' _ heap))
+    c.jumped_part.ensures
 
-pub returns-in_ok-passed-in-Pass-clause-gives : goal.returns-in_ok-passed-in-Pass-clause-gives
-returns-in_ok-passed-in-Pass-clause-gives g c = rw c.in-Pass.is (λ heap q. c.in_ok-passed-in-Pass.ensures heap)
+pub returns-in-Pass-clause-gives : goal.returns-in-Pass-clause-gives
+returns-in-Pass-clause-gives g c =
+    IfOk-weaker c.passed_part.result _ _ (λ r' h'. rw c.in-Pass.is (λ heap q. h' heap))
+    c.passed_part.ensures
 
-pub returns-in_ok-given-in-Give-clause-gives : goal.returns-in_ok-given-in-Give-clause-gives
-returns-in_ok-given-in-Give-clause-gives g c = rw c.in-Give.is (λ heap q. c.in_ok-given-in-Give.ensures.gives heap q)
+pub returns-in-Give-clause-gives : goal.returns-in-Give-clause-gives
+returns-in-Give-clause-gives g c =
+    IfOk-weaker c.given_part.result _ _ (λ r' h'. rw c.in-Give.is (λ heap q. h' heap q))
+    c.given_part.ensures.gives
 
-pub returns-in_ok-wrote-in-Write-clause-gives : goal.returns-in_ok-wrote-in-Write-clause-gives
-returns-in_ok-wrote-in-Write-clause-gives g c = rw c.in-Write.is (λ heap q. c.in_ok-wrote-in-Write.ensures heap q)
+pub returns-in-Write-clause-gives : goal.returns-in-Write-clause-gives
+returns-in-Write-clause-gives g c =
+    IfOk-weaker c.written_part.result _ _ (λ r' h'. rw c.in-Write.is (λ heap q. h' heap q))
+    c.written_part.ensures
 
-pub returns-in_ok-exited-in-Exit-clause-gives : goal.returns-in_ok-exited-in-Exit-clause-gives
-returns-in_ok-exited-in-Exit-clause-gives g c = rw c.in-Exit.is (λ heap q. (rw (c.end_of.ensures, c.in-Exit.is) at c.in_ok-exited-in-Exit.ensures) _ _ heap)
+pub returns-in-Exit-clause-gives : goal.returns-in-Exit-clause-gives
+returns-in-Exit-clause-gives g c =
+    IfOk-weaker c.ended_part.result _ _ (λ r' h'. rw c.in-Exit.is (λ heap q. (rw (c.end_of.ensures, c.in-Exit.is) at h') _ _ heap))
+    c.ended_part.ensures
 
-pub returns-in_ok-thrown-in-Throw-clause-gives : goal.returns-in_ok-thrown-in-Throw-clause-gives
-returns-in_ok-thrown-in-Throw-clause-gives g c = rw c.in-Throw.is (λ heap q. c.in_ok-thrown-in-Throw.ensures.gives _ heap q)
+pub returns-in-Throw-clause-gives : goal.returns-in-Throw-clause-gives
+returns-in-Throw-clause-gives g c =
+    IfOk-weaker c.thrown_part.result _ _ (λ r' h'. rw c.in-Throw.is (λ heap q. h' _ heap q))
+    c.thrown_part.ensures.gives

@@ -1,4 +1,5 @@
 use Rattle.std.proofs.Common.{◌≡◌, ◌+◌, ◌∷◌, [], ◌∙◌, ap, refl}
+use Rattle.std.proofs.lemmas.Result.{IfOk-weaker}
 use Rattle.vx_group.proofs.GroupLaws.{IsGroup-one_scope}
 use Rattle.vx_outcome.specs.declared.outcome.Outcome.TheVariants.{Go}
 use Rattle.vx_group_states.proofs.EndingLaws.{moved-gives}
@@ -9,6 +10,8 @@ put_top-requires-clause-scope g c = rw c.take_top-below.ensures (IsGroup-one_sco
 
 pub returns : goal.returns
 returns g c =
+    IfOk-weaker c.go.result _ _ (λ r' h'.
     let group = c.args.group in
     let moved : c.put_top.result ≡ record group { top = record (group.top) { position = group.top.position + c.args.site.now.size } } = rw (c.put_top.ensures, c.take_top-below.ensures) refl in
-    moved-gives c.args.site.now.program.now _ group _ _ (c.in_ok-outcomes.ensures.one ∙ ap (λ r. Go r ∷ []) moved)
+    moved-gives c.args.site.now.program.now _ group _ _ (h' ∙ ap (λ r. Go r ∷ []) moved))
+    c.go.ensures.one

@@ -1,4 +1,5 @@
 use Rattle.std.proofs.Common.{◌+◌, ◌≤◌, ◌∙◌, length}
+use Rattle.std.proofs.lemmas.Result.{IfOk-weaker}
 use Rattle.std.specs.Ordering.{bool_cmp}
 use Rattle.vx_space.proofs.Spaces.{Extends-refl, Extends-trans}
 use Rattle.vx_frame.proofs.FrameLaws.{IsFrame-stack}
@@ -31,7 +32,9 @@ pub pass_where-requires-clause-cover : goal.pass_where-requires-clause-cover
 pass_where-requires-clause-cover g c = rw c.leaves.ensures (Cover-answers bool_cmp _ _ c.in_ok-fits.fits (lifting_cond bool_cmp _ _ _ c.in_ok-fits.fits c.in_ok-fits.ensures.ok) (c.in_ok-fits.ensures.scope ∙ (rw c.top_frame.ensures at c.in_ok-sizes.ensures.scope) ∙ stack_scope _ c.args.group c.requires.group))
 
 pub returns-clause-extends : goal.returns-clause-extends
-returns-clause-extends g c = Extends-trans (Extends-trans c.in_ok-sizes.ensures.extends c.in_ok-fits.ensures.extends) c.in_ok-outcomes.ensures.extends
+returns-clause-extends g c = Extends-trans (Extends-trans c.in_ok-sizes.ensures.extends c.in_ok-fits.ensures.extends) c.pass_where.ensures.extends
 
 pub returns-clause-gives : goal.returns-clause-gives
-returns-clause-gives g c = settle-gives c.args.site.now c.args.group c.in_ok-sizes.sizes c.in_ok-fits.fits _ _ (λ n b h. rw c.from-room.ensures at h) c.in_ok-sizes.ensures.extends c.in_ok-fits.ensures.extends c.requires.group (rw c.top_frame.ensures at c.in_ok-sizes.ensures.at) c.in_ok-fits.ensures.ok (rw c.leaves.ensures at c.in_ok-outcomes.ensures.gives)
+returns-clause-gives g c =
+    IfOk-weaker c.pass_where.result _ _ (λ r' h'. settle-gives c.args.site.now c.args.group c.in_ok-sizes.sizes c.in_ok-fits.fits _ _ (λ n b h. rw c.from-room.ensures at h) c.in_ok-sizes.ensures.extends c.in_ok-fits.ensures.extends c.requires.group (rw c.top_frame.ensures at c.in_ok-sizes.ensures.at) c.in_ok-fits.ensures.ok (rw c.leaves.ensures at h'))
+    c.pass_where.ensures.gives

@@ -1,3 +1,4 @@
+use Rattle.std.proofs.lemmas.Result.{IfOk-weaker}
 use Rattle.vx_init.proofs.PartLaws.{rise_gives}
 use Rattle.vx_init.specs.declared.rise.Rise.TheVariants.{Begins, Blocked, Fails, Open}
 use Rattle.vx_init.proofs.beginning.begun_part.Goals as goal
@@ -11,5 +12,7 @@ returns-in_ok-made-in-Begins-clause-gives g c = λ heap. rise_gives c.args.progr
 pub returns-in_ok-raised-in-Fails-clause-gives : goal.returns-in_ok-raised-in-Fails-clause-gives
 returns-in_ok-raised-in-Fails-clause-gives g c = λ heap. rise_gives c.args.program.now _ _ c.args.callers.now c.args.callers.now c.args.part _ heap c.args.class.0 c.args.rise (Fails c.in-Fails.field-0) c.in-Fails.is (λ h s. c.in_ok-raised-in-Fails.ensures _ heap c.args.callers.now h s)
 
-pub returns-in_ok-ended-in-Blocked-clause-gives : goal.returns-in_ok-ended-in-Blocked-clause-gives
-returns-in_ok-ended-in-Blocked-clause-gives g c = λ heap. rise_gives c.args.program.now _ _ c.args.callers.now c.args.callers.now c.args.part _ heap c.args.class.0 c.args.rise (Blocked c.in-Blocked.interface) c.in-Blocked.is (λ h s. c.in_ok-ended-in-Blocked.ensures _ heap c.args.callers.now h s)
+pub returns-in-Blocked-clause-gives : goal.returns-in-Blocked-clause-gives
+returns-in-Blocked-clause-gives g c =
+    IfOk-weaker c.blocked_part.result _ _ (λ r' h'. λ heap. rise_gives c.args.program.now _ _ c.args.callers.now c.args.callers.now c.args.part _ heap c.args.class.0 c.args.rise (Blocked c.in-Blocked.interface) c.in-Blocked.is (λ h s. h' _ heap c.args.callers.now h s))
+    c.blocked_part.ensures

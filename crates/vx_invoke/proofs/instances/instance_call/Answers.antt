@@ -7,9 +7,12 @@ use Rattle.vx_invoke.proofs.ObjectCalls.{few-gives, matching_inside, object-give
 use Rattle.vx_invoke.proofs.instances.instance_call.Goals as goal
 
 pub returns-then-len-count-clause-gives : goal.returns-then-len-count-clause-gives
-returns-then-len-count-clause-gives g c = λ m member.
+returns-then-len-count-clause-gives g c =
+    IfOk-weaker c.illegal.result _ _ (λ r' h'.
+    λ m member.
     let few : length c.args.group.top.stack.conds < suc (length c.args.types.now) = rw (← c.top_frame.ensures, ← c.len.ensures) (omega arith) in
-    few-gives c.args.site.now c.args.heap.now c.args.callers.now c.args.group c.args.target.now c.args.types.now c.requires m member few _ (c.in_ok-ended.ensures _)
+    few-gives c.args.site.now c.args.heap.now c.args.callers.now c.args.group c.args.target.now c.args.types.now c.requires m member few _ (h' _))
+    c.illegal.ensures
 
 pub where_matching-requires-clause-group : goal.where_matching-requires-clause-group
 where_matching-requires-clause-group g c = IsGroupIn-group _ c.args.callers.now c.args.group c.requires.callable.stands.is_group

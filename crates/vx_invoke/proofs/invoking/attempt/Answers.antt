@@ -58,9 +58,11 @@ returns-in_default-referenced-clause-ok g c =
 pub clone_arrays-requires : goal.clone_arrays-requires
 clone_arrays-requires g c = record { running = IsRunning-given c.args.site.now c.args.operation _ c.args.heap.now c.args.group c.requires.given }
 
-pub returns-in_ok-cloned-in-Clone-clause-ok : goal.returns-in_ok-cloned-in-Clone-clause-ok
-returns-in_ok-cloned-in-Clone-clause-ok g c =
+pub returns-in-Clone-clause-ok : goal.returns-in-Clone-clause-ok
+returns-in-Clone-clause-ok g c =
+    IfOk-weaker c.clone_arrays.result _ _ (λ r' h'.
     let site = c.args.site.now in
     let group = c.args.group in
     let f = reference_at site group c.top_frame.result.now c.class_of_method-class.result c.top_frame.ensures c.class_of_method-class.ensures c.in-Invoke.mode c.in-Invoke.index c.referenced.result c.referenced.ensures in
-    IsAttemptIn-call site c.args.operation c.in-Invoke.mode c.in-Invoke.index _ _ c.args.heap.now c.clone_arrays.new.heap c.args.callers.now c.args.callers.now group _ c.in-Invoke.is (clone-attempts site _ _ c.args.heap.now c.clone_arrays.new.heap c.args.callers.now group c.in-Invoke.mode c.in-Invoke.index c.referenced.result c.in-Clone.field-0 _ c.requires.stands f c.in-Clone.is (λ m sound. c.in_ok-cloned-in-Clone.ensures.ok c.in-Invoke.mode m c.in-Clone.field-0 sound))
+    IsAttemptIn-call site c.args.operation c.in-Invoke.mode c.in-Invoke.index _ _ c.args.heap.now c.clone_arrays.new.heap c.args.callers.now c.args.callers.now group _ c.in-Invoke.is (clone-attempts site _ _ c.args.heap.now c.clone_arrays.new.heap c.args.callers.now group c.in-Invoke.mode c.in-Invoke.index c.referenced.result c.in-Clone.field-0 _ c.requires.stands f c.in-Clone.is (λ m sound. h' c.in-Invoke.mode m c.in-Clone.field-0 sound)))
+    c.clone_arrays.ensures.ok

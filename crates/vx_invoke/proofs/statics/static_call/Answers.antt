@@ -8,9 +8,12 @@ use Rattle.vx_invoke.proofs.StaticCalls.{few-attempts, needs_run, static-attempt
 use Rattle.vx_invoke.proofs.statics.static_call.Goals as goal
 
 pub returns-then-len-count-clause-ok : goal.returns-then-len-count-clause-ok
-returns-then-len-count-clause-ok g c = λ m d.
+returns-then-len-count-clause-ok g c =
+    IfOk-weaker c.illegal.result _ _ (λ r' h'.
+    λ m d.
     let few : length c.args.group.top.stack.conds < length c.args.types.now = rw (← c.top_frame.ensures, ← c.len.ensures) (omega arith) in
-    few-attempts c.args.site.now c.args.heap.now c.args.callers.now c.args.group c.args.method c.args.types.now c.requires m d few _ (c.in_ok-ended.ensures _)
+    few-attempts c.args.site.now c.args.heap.now c.args.callers.now c.args.group c.args.method c.args.types.now c.requires m d few _ (h' _))
+    c.illegal.ensures
 
 pub where_matching-requires-clause-group : goal.where_matching-requires-clause-group
 where_matching-requires-clause-group g c = IsGroupIn-group _ c.args.callers.now c.args.group c.requires.stands.is_group

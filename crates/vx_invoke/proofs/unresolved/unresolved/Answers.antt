@@ -7,5 +7,5 @@ returns-in_ok-name-in-NoClass g c = rw c.in-NoClass.is (IfOk-weaker c.unsupporte
 pub returns-in_ok-name-in-NoMethod : goal.returns-in_ok-name-in-NoMethod
 returns-in_ok-name-in-NoMethod g c = rw c.in-NoMethod.is (IfOk-weaker c.unsupported-in-NoMethod.result _ _ (λ r gives mode sets. rw c.in_ok-name-in-NoMethod.ensures at (gives sets)) c.unsupported-in-NoMethod.ensures)
 
-pub returns-in_ok-raised-in-WrongKind : goal.returns-in_ok-raised-in-WrongKind
-returns-in_ok-raised-in-WrongKind g c = rw c.in-WrongKind.is (λ mode sets. c.in_ok-raised-in-WrongKind.ensures sets)
+pub returns-in-WrongKind : goal.returns-in-WrongKind
+returns-in-WrongKind g c = rw c.in-WrongKind.is (IfOk-weaker c.raised.result _ _ (λ r gives mode sets. gives sets) c.raised.ensures)

@@ -1,6 +1,6 @@
 use Rattle.std.proofs.lemmas.Result.{err_from_is_err_and}
-use Rattle.vx_cursor.specs.Reading.{items, item_step}
-use Rattle.vx_cursor.specs.Steps.{steps-done, items-goes_on, items-ends}
+use Rattle.vx_pool.specs.Reading.{items, item_step}
+use Rattle.vx_pool.specs.Steps.{steps-done, items-goes_on, items-ends}
 use Rattle.vx_lines.specs.Tables.{method_at}
 use Rattle.vx_lines.proofs.reading.methods.Goals as goal
 

@@ -1,5 +1,5 @@
 use Rattle.std.proofs.Common.{◌≡◌, ◌-◌}
-use Rattle.vx_cursor.specs.Reading.{steps, items, item_step}
+use Rattle.vx_pool.specs.Reading.{steps, items, item_step}
 use Rattle.vx_lines.specs.Tables.{method_at}
 use Rattle.vx_lines.proofs.reading.methods.Given as goal
 

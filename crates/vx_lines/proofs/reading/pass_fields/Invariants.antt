@@ -1,5 +1,5 @@
 use Rattle.std.proofs.Common.{◌≡◌, ◌-◌}
-use Rattle.vx_cursor.specs.Reading.{steps}
+use Rattle.vx_pool.specs.Reading.{steps}
 use Rattle.vx_lines.specs.Tables.{field_step}
 use Rattle.vx_lines.proofs.reading.pass_fields.Given as goal
 

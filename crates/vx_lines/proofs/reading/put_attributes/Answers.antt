@@ -1,6 +1,6 @@
 use Rattle.std.proofs.lemmas.Result.{err_from_is_err_and}
-use Rattle.vx_cursor.specs.Reading.{steps}
-use Rattle.vx_cursor.specs.Steps.{steps-goes_on, steps-ends, steps-done}
+use Rattle.vx_pool.specs.Reading.{steps}
+use Rattle.vx_pool.specs.Steps.{steps-goes_on, steps-ends, steps-done}
 use Rattle.vx_lines.specs.Tables.{table_step}
 use Rattle.vx_lines.proofs.reading.put_attributes.Goals as goal
 

@@ -1,4 +1,5 @@
 use Rattle.std.proofs.Common.{◌^◌, ◌<◌, ◌∙◌, ap, arith, length}
+use Rattle.std.proofs.lemmas.Result.{IfOk-weaker}
 use Rattle.vx_cond.proofs.CondLaws.{IsCond-of}
 use Rattle.vx_group.proofs.GroupLaws.{IsGroup-path_known}
 use Rattle.vx_group_states.specs.Answers.{answer_cmp}
@@ -24,4 +25,6 @@ pub carry_out-requires-clause-scope : goal.carry_out-requires-clause-scope
 carry_out-requires-clause-scope g c = c.in_ok-answers.ensures.scope ∙ c.path.ensures
 
 pub returns-clause-gives : goal.returns-clause-gives
-returns-clause-gives g c = answered-gives c.args.site.now _ c.args.group c.in_ok-answers.answers c.args.answer _ c.requires.names (rw c.path.ensures at c.in_ok-answers.ensures.ok) c.in_ok-outcomes.ensures.gives
+returns-clause-gives g c =
+    IfOk-weaker c.carry_out.result _ _ (λ r' h'. answered-gives c.args.site.now _ c.args.group c.in_ok-answers.answers c.args.answer _ c.requires.names (rw c.path.ensures at c.in_ok-answers.ensures.ok) h')
+    c.carry_out.ensures.gives

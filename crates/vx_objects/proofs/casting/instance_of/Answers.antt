@@ -1,4 +1,5 @@
 use Rattle.std.proofs.Common.{◌≡◌, ◌∙◌, ap, drop}
+use Rattle.std.proofs.lemmas.Result.{IfOk-weaker}
 use Rattle.std.specs.Prelude.{Some, None, false}
 use Rattle.vx_families.specs.Attempts.{row_by}
 use Rattle.vx_families.proofs.AttemptLaws.{AttemptsBy-as}
@@ -27,8 +28,9 @@ resolved-requires-clause-for_program g c = c.requires.is_for
 pub told_top-requires : goal.told_top-requires
 told_top-requires g c = (InstanceOf c.args.index, c.requires)
 
-pub returns-in_ok-told-in-Some-clause-ok : goal.returns-in_ok-told-in-Some-clause-ok
-returns-in_ok-told-in-Some-clause-ok g c =
+pub returns-in-Some-clause-ok : goal.returns-in-Some-clause-ok
+returns-in-Some-clause-ok g c =
+    IfOk-weaker c.told_top.result _ _ (λ r' h'.
     let s0 = g.S.Space.sets c.args.space.now in
     let site = c.args.site.now in
     let p = site.program.now in
@@ -37,7 +39,8 @@ returns-in_ok-told-in-Some-clause-ok g c =
     let named : class_named p (class_name (class_at p (pool_class site group)).pool c.args.index) ≡ Some c.in-Some.wanted.0 = named_there site group c.top_frame.result.now c.class_of_method-class.result c.args.index c.resolved.result c.top_frame.ensures c.class_of_method-class.ensures c.resolved.ensures ∙ ap number_of c.in-Some.is in
     AttemptsBy-same site (λ s. told_top (here site s) c.in-Some.wanted.0 s.top.operands) (row_by site (InstanceOf c.args.index)) s0 _ heap heap group _ (λ tree d.
     let h = here site (state_at s0 heap tree group d) in
-    told_named h (class_name h.pool c.args.index) c.in-Some.wanted.0 h.state.top.operands named) c.in_ok-told-in-Some.ensures.ok
+    told_named h (class_name h.pool c.args.index) c.in-Some.wanted.0 h.state.top.operands named) h')
+    c.told_top.ensures.ok
 
 pub without_class-requires-clause-group : goal.without_class-requires-clause-group
 without_class-requires-clause-group g c = c.requires.is_group
@@ -45,8 +48,9 @@ without_class-requires-clause-group g c = c.requires.is_group
 pub without_class-requires-clause-past : goal.without_class-requires-clause-past
 without_class-requires-clause-past g c = given_past c.args.site.now (InstanceOf c.args.index) _ c.args.heap.now c.args.group c.requires
 
-pub returns-in_ok-untold-in-None-clause-ok : goal.returns-in_ok-untold-in-None-clause-ok
-returns-in_ok-untold-in-None-clause-ok g c =
+pub returns-in-None-clause-ok : goal.returns-in-None-clause-ok
+returns-in-None-clause-ok g c =
+    IfOk-weaker c.without_class.result _ _ (λ r' h'.
     let s0 = g.S.Space.sets c.args.space.now in
     let site = c.args.site.now in
     let p = site.program.now in
@@ -54,6 +58,7 @@ returns-in_ok-untold-in-None-clause-ok g c =
     let group = c.args.group in
     let index = c.args.index in
     let none : class_named p (class_name (class_at p (pool_class site group)).pool index) ≡ None = named_there site group c.top_frame.result.now c.class_of_method-class.result index c.resolved.result c.top_frame.ensures c.class_of_method-class.ensures c.resolved.ensures ∙ ap number_of c.in-None.is in
-    AttemptsBy-as site (InstanceOf index) (row_by site (InstanceOf index)) heap group (λ heap d s. without_class (here site s) index (answered s0 heap d (here site s) (drop 1 s.top.operands) (Push (int_of false))) s.top.operands) _ (Extends-refl s0) c.in_ok-untold-in-None.ensures.extends c.requires (λ tree s d t.
+    AttemptsBy-as site (InstanceOf index) (row_by site (InstanceOf index)) heap group (λ heap d s. without_class (here site s) index (answered s0 heap d (here site s) (drop 1 s.top.operands) (Push (int_of false))) s.top.operands) _ (Extends-refl s0) c.without_class.ensures.extends c.requires (λ tree s d t.
     let h = here site (state_at s0 heap tree group d) in
-    told_lacking h index h.state.top.operands none) ((rw c.int_of.ensures at c.in_ok-untold-in-None.ensures.gives) heap)
+    told_lacking h index h.state.top.operands none) ((rw c.int_of.ensures at h') heap))
+    c.without_class.ensures.gives

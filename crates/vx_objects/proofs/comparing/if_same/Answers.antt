@@ -1,4 +1,5 @@
 use Rattle.std.proofs.Common.{◌≡◌, ◌-◌, ◌<◌, ◌≤◌, ◌∙◌, ap, arith, length, sym}
+use Rattle.std.proofs.lemmas.Result.{IfOk-weaker}
 use Rattle.std.proofs.lemmas.Int.{to_z-of_z}
 use Rattle.std.specs.Int.{w32}
 use mir.Val.{of_z, to_z}
@@ -22,8 +23,10 @@ use Rattle.vx_objects.proofs.comparing.if_same.Goals as goal
 
 pub returns-then-len-lt2-clause-ok : goal.returns-then-len-lt2-clause-ok
 returns-then-len-lt2-clause-ok g c =
+    IfOk-weaker c.illegal.result _ _ (λ r' h'.
     let few : length c.args.group.top.stack.conds < 2 = rw (← c.top_frame.ensures, ← c.len.ensures) (omega arith) in
-    few-attempts c.args.site.now (IfSame c.args.wanted c.args.offset) (λ h. if_same h c.args.wanted c.args.offset) c.args.heap.now c.args.group c.requires 2 _ few (λ h operands l. compared_none h c.args.wanted c.args.offset operands l) (c.in_ok-ended.ensures _)
+    few-attempts c.args.site.now (IfSame c.args.wanted c.args.offset) (λ h. if_same h c.args.wanted c.args.offset) c.args.heap.now c.args.group c.requires 2 _ few (λ h operands l. compared_none h c.args.wanted c.args.offset operands l) (h' _))
+    c.illegal.ensures
 
 pub spot_at-spot-requires : goal.spot_at-spot-requires
 spot_at-spot-requires g c = rw c.top_frame-2.ensures (given_short c.args.site.now (IfSame c.args.wanted c.args.offset) _ c.args.heap.now c.args.group c.requires)
@@ -54,10 +57,11 @@ pub carry_out-requires-clause-scope : goal.carry_out-requires-clause-scope
 carry_out-requires-clause-scope g c = c.in_ok-answers.ensures.scope ∙ operand_scope _ c.args.group _ c.top_operand.result.now c.requires.is_group c.top_operand.ensures
 
 pub returns-clause-extends : goal.returns-clause-extends
-returns-clause-extends g c = Extends-trans c.in_ok-answers.ensures.extends c.in_ok-outcomes.ensures.extends
+returns-clause-extends g c = Extends-trans c.in_ok-answers.ensures.extends c.carry_out.ensures.extends
 
 pub returns-clause-ok : goal.returns-clause-ok
 returns-clause-ok g c =
+    IfOk-weaker c.carry_out.result _ _ (λ r' h'.
     let s0 = g.S.Space.sets c.args.space.now in
     let site = c.args.site.now in
     let heap = c.args.heap.now in
@@ -68,8 +72,9 @@ returns-clause-ok g c =
     let same : to_z w32 (of_z w32 offset) ≡ offset = to_z-of_z w32 offset c.ranges.offset in
     let some : 2 ≤ length group.top.stack.conds = rw (← c.top_frame.ensures, ← c.len.ensures) (omega arith) in
     let position = c.spot_at-spot.ensures.position ∙ ap (λ (t : Frame _ _). t.position) c.top_frame-2.ensures in
-    made-attempts site (IfSame wanted offset) (λ h. if_same h wanted offset) heap group c.requires 2 _ c.in_ok-answers.answers (λ slots. compared spot wanted offset (item_or slots 0 Top) (item_or slots 1 Top)) some c.in_ok-answers.ensures.extends c.in_ok-outcomes.ensures.extends
+    made-attempts site (IfSame wanted offset) (λ h. if_same h wanted offset) heap group c.requires 2 _ c.in_ok-answers.answers (λ slots. compared spot wanted offset (item_or slots 0 Top) (item_or slots 1 Top)) some c.in_ok-answers.ensures.extends c.carry_out.ensures.extends
     (two_made Illegal answer_cmp s0 _ group (length group.top.stack.conds - 1) (length group.top.stack.conds - 2) 0 1 c.top_operand.result.now c.second_operand.result.now (compared spot wanted offset) _ c.in_ok-answers.answers (λ s r a h. h ∙ ap (λ n. compared spot wanted n s r) same) c.requires.is_group c.top_operand.ensures c.second_operand.ensures (omega (arith, some)) (omega (arith, some)) c.in_ok-answers.ensures.ok)
     (λ sets d slots h. compared_held sets heap d spot wanted offset (item_or slots 0 Top) (item_or slots 1 Top))
     (λ tree d slots l h. compared_row s0 heap d (here site (state_at s0 heap tree group d)) spot wanted offset slots (record { code = c.spot_at-spot.ensures.code; position = position; size = c.spot_at-spot.ensures.size }) l h)
-    c.in_ok-outcomes.ensures.gives
+    h')
+    c.carry_out.ensures.gives

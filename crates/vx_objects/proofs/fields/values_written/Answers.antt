@@ -1,4 +1,5 @@
 use Rattle.std.proofs.Common.{◌-◌, ◌∙◌, arith, length}
+use Rattle.std.proofs.lemmas.Result.{IfOk-weaker}
 use Rattle.vx_fields.specs.Statics.{narrowed_slot}
 use Rattle.vx_group_states.proofs.SettleLaws.{lifting_cond}
 use Rattle.vx_java.specs.FirstObjects.{narrow_of_type}
@@ -11,10 +12,16 @@ pub map-requires-clause-valid : goal.map-requires-clause-valid
 map-requires-clause-valid g c = operand_cond _ c.args.group.now _ c.top_operand.result.now c.requires.group c.top_operand.ensures
 
 pub returns-clause-cond : goal.returns-clause-cond
-returns-clause-cond g c = lifting_cond slot_cmp _ _ _ c.in_ok-values.values c.in_ok-values.ensures.ok
+returns-clause-cond g c =
+    IfOk-weaker c.map.result _ _ (λ r' h'. lifting_cond slot_cmp _ _ _ r' h')
+    c.map.ensures.ok
 
 pub returns-clause-scope : goal.returns-clause-scope
-returns-clause-scope g c = c.in_ok-values.ensures.scope ∙ operand_scope _ c.args.group.now _ c.top_operand.result.now c.requires.group c.top_operand.ensures
+returns-clause-scope g c =
+    IfOk-weaker c.map.result _ _ (λ r' h'. h' ∙ operand_scope _ c.args.group.now _ c.top_operand.result.now c.requires.group c.top_operand.ensures)
+    c.map.ensures.scope
 
 pub returns-clause-at : goal.returns-clause-at
-returns-clause-at g c = one_made Top slot_cmp (g.S.Space.sets c.args.space.now) _ c.args.group.now (length c.args.group.now.top.stack.conds - 1) 0 c.top_operand.result.now (narrowed_slot (narrow_of_type c.args.field_type)) _ c.in_ok-values.values (λ s a h. h) c.requires.group c.top_operand.ensures (omega (arith, c.requires.operand)) c.in_ok-values.ensures.ok
+returns-clause-at g c =
+    IfOk-weaker c.map.result _ _ (λ r' h'. one_made Top slot_cmp (g.S.Space.sets c.args.space.now) _ c.args.group.now (length c.args.group.now.top.stack.conds - 1) 0 c.top_operand.result.now (narrowed_slot (narrow_of_type c.args.field_type)) _ r' (λ s a h. h) c.requires.group c.top_operand.ensures (omega (arith, c.requires.operand)) h')
+    c.map.ensures.ok

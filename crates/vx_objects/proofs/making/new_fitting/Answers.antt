@@ -1,4 +1,5 @@
 use Rattle.std.proofs.Common.{arith}
+use Rattle.std.proofs.lemmas.Result.{IfOk-weaker}
 use Rattle.vx_group.proofs.GroupLaws.{IsGroup-extends}
 use Rattle.vx_heap.proofs.HeapLaws.{IsHeap-extends}
 use Rattle.vx_ready.proofs.Running.{needs_inside}
@@ -56,7 +57,8 @@ given_where_ready-requires-clause-fails g c = c.in_ok-readiness.ensures.ok.fails
 
 pub returns-clause-ok : goal.returns-clause-ok
 returns-clause-ok g c =
-    new-attempts c.args.site.now (g.S.Space.sets c.args.space.now) (g.S.Space.sets c.where_fitting.new.space) (g.S.Space.sets c.make_ready.new.space) (g.S.Space.sets c.given_where_ready.new.space) c.args.heap.now c.make_ready.new.heap c.made_inside.new.heap c.args.group c.args.class c.in_ok-needs.needs c.in_ok-readiness.readiness c.in_ok-reference.reference c.in_ok-outcomes.outcomes.items.items c.requires.running c.requires.objects c.in_ok-needs.ensures.extends c.in_ok-needs.ensures.set c.in_ok-readiness.ensures.extends c.in_ok-readiness.ensures.ok c.in_ok-reference.ensures.changed c.in_ok-reference.ensures.number c.in_ok-outcomes.ensures.extends (c.in_ok-outcomes.ensures.gives c.made_inside.new.heap c.in_ok-reference.ensures.changed.is_heap c.in_ok-reference.ensures.held)
+    IfOk-weaker c.given_where_ready.result _ _ (λ r' h'. new-attempts c.args.site.now (g.S.Space.sets c.args.space.now) (g.S.Space.sets c.where_fitting.new.space) (g.S.Space.sets c.make_ready.new.space) (g.S.Space.sets c.given_where_ready.new.space) c.args.heap.now c.make_ready.new.heap c.made_inside.new.heap c.args.group c.args.class c.in_ok-needs.needs c.in_ok-readiness.readiness c.in_ok-reference.reference r'.items.items c.requires.running c.requires.objects c.in_ok-needs.ensures.extends c.in_ok-needs.ensures.set c.in_ok-readiness.ensures.extends c.in_ok-readiness.ensures.ok c.in_ok-reference.ensures.changed c.in_ok-reference.ensures.number c.given_where_ready.ensures.extends (h' c.made_inside.new.heap c.in_ok-reference.ensures.changed.is_heap c.in_ok-reference.ensures.held))
+    c.given_where_ready.ensures.gives
 
 pub returns-clause-extends : goal.returns-clause-extends
-returns-clause-extends g c = Extends-trans c.in_ok-needs.ensures.extends (Extends-trans c.in_ok-readiness.ensures.extends c.in_ok-outcomes.ensures.extends)
+returns-clause-extends g c = Extends-trans c.in_ok-needs.ensures.extends (Extends-trans c.in_ok-readiness.ensures.extends c.given_where_ready.ensures.extends)

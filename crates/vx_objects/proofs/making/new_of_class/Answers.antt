@@ -1,4 +1,5 @@
 use Rattle.std.proofs.Common.{◌≤◌, ◌∙◌, arith, length, sym}
+use Rattle.std.proofs.lemmas.Result.{IfOk-weaker}
 use Rattle.vx_objects.proofs.MakingRows.{full-attempts, refused-attempts}
 use Rattle.vx_objects.proofs.making.new_of_class.Goals as goal
 
@@ -10,8 +11,10 @@ returns-then-has_no_objects-clause-ok g c = refused-attempts c.args.site.now c.a
 
 pub returns-then-len-from-clause-ok : goal.returns-then-len-from-clause-ok
 returns-then-len-from-clause-ok g c =
+    IfOk-weaker c.illegal.result _ _ (λ r' h'.
     let full : c.args.site.now.code.now.max_stack ≤ length c.args.group.top.stack.conds = rw (← c.from.ensures, ← c.top_frame.ensures, ← c.len.ensures) (omega (arith, c.if-len-from.true)) in
-    full-attempts c.args.site.now c.args.heap.now c.args.group c.args.class _ c.requires (sym c.has_no_objects.ensures ∙ c.if-has_no_objects.false) full (c.in_ok-ended.ensures _)
+    full-attempts c.args.site.now c.args.heap.now c.args.group c.args.class _ c.requires (sym c.has_no_objects.ensures ∙ c.if-has_no_objects.false) full (h' _))
+    c.illegal.ensures
 
 pub new_fitting-requires-clause-few : goal.new_fitting-requires-clause-few
 new_fitting-requires-clause-few g c = rw (← c.from.ensures, ← c.top_frame.ensures, ← c.len.ensures) (omega (arith, c.if-len-from.false))

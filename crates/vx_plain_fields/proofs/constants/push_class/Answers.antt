@@ -1,5 +1,5 @@
 use Rattle.std.proofs.Common.{ap, ◌∙◌}
-use Rattle.vx_code.specs.Lookups.{entry_of}
+use Rattle.vx_pool.specs.Lookups.{entry_of}
 use Rattle.vx_java.specs.Machine.{Ref, push, unsupported}
 use Rattle.vx_java.specs.Operation.{class_word}
 use Rattle.vx_link.specs.Names.{class_name}

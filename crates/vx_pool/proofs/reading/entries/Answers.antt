@@ -2,7 +2,7 @@ use Rattle.std.proofs.Common.{[], ◌∷◌, ◌-◌, false, arith}
 use Rattle.std.proofs.lemmas.List.Sums.{sum_by-append}
 use Rattle.std.proofs.lemmas.Result.{err_from_is_err_and}
 use Rattle.vx_pool.specs.declared.pool.Entry.TheVariants.{Unusable}
-use Rattle.vx_cursor.specs.Reading.{with_front}
+use Rattle.vx_pool.specs.Reading.{with_front}
 use Rattle.vx_pool.specs.Pool.{size, entries_at}
 use Rattle.vx_pool.proofs.Loop.{done, passes, goes_on, ends}
 use Rattle.vx_pool.proofs.reading.entries.Goals as goal

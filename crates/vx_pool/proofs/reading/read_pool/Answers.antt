@@ -1,9 +1,9 @@
 use Rattle.std.proofs.Common.{◌≡◌, ◌++◌, Ok, Err, sym, ap, subst, ◌∙◌}
 use Rattle.std.proofs.lemmas.Result.{err_from_is_err_and}
-use Rattle.vx_cursor.specs.Place.{Place}
-use Rattle.vx_cursor.specs.Place.{IsBytes}
+use Rattle.vx_pool.specs.Place.{Place}
+use Rattle.vx_pool.specs.Place.{IsBytes}
 use Rattle.vx_pool.specs.Spelling.{pool_bytes}
-use Rattle.vx_cursor.specs.Took.{Took}
+use Rattle.vx_pool.specs.Took.{Took}
 use Rattle.vx_pool.specs.PoolTook.{pool_took}
 use Rattle.vx_pool.specs.Again.{pool_only}
 use Rattle.vx_pool.proofs.reading.read_pool.Goals as goal

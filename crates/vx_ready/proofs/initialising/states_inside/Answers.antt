@@ -1,4 +1,5 @@
 use Rattle.std.proofs.Common.{◌≤◌, arith, length}
+use Rattle.std.proofs.lemmas.Result.{IfOk-weaker}
 use Rattle.vx_cond.proofs.CondLaws.{IsCond-of}
 use Rattle.vx_heap.proofs.Written.{init_inside, init_is_cond, restricted_scope}
 use Rattle.vx_value.specs.Slot.{init_state_cmp}
@@ -17,11 +18,16 @@ pub restrict-requires-clause-valid : goal.restrict-requires-clause-valid
 restrict-requires-clause-valid g c = init_is_cond _ c.args.heap.now c.args.class.0 c.init_state.result.now c.requires.heap (omega arith) c.init_state.ensures
 
 pub returns-clause-cond : goal.returns-clause-cond
-returns-clause-cond g c = IsCond-of init_state_cmp _ _ c.in_ok-states.states c.in_ok-states.ensures.ok
+returns-clause-cond g c =
+    IfOk-weaker c.restrict.result _ _ (λ r' h'. IsCond-of init_state_cmp _ _ r' h')
+    c.restrict.ensures.ok
 
 pub returns-clause-at : goal.returns-clause-at
-returns-clause-at g c = states_there _ _ c.args.heap.now c.args.class.0 c.args.path c.init_state.result.now c.in_ok-states.states c.requires.heap (omega arith) c.init_state.ensures c.requires.inside c.in_ok-states.ensures.ok
+returns-clause-at g c =
+    IfOk-weaker c.restrict.result _ _ (λ r' h'. states_there _ _ c.args.heap.now c.args.class.0 c.args.path c.init_state.result.now r' c.requires.heap (omega arith) c.init_state.ensures c.requires.inside h')
+    c.restrict.ensures.ok
 
 pub returns-clause-scope : goal.returns-clause-scope
 returns-clause-scope g c =
-    restricted_scope init_state_cmp (g.met.S.Space.lawful c.restrict.new.space) c.in_ok-states.ensures.extends c.init_state.result.now c.in_ok-states.states c.args.path (init_is_cond _ c.args.heap.now c.args.class.0 c.init_state.result.now c.requires.heap (omega arith) c.init_state.ensures) c.requires.known (init_inside _ c.args.heap.now c.args.class.0 c.init_state.result.now c.args.path c.requires.heap (omega arith) c.init_state.ensures c.requires.inside) c.in_ok-states.ensures.ok
+    IfOk-weaker c.restrict.result _ _ (λ r' h'. restricted_scope init_state_cmp (g.met.S.Space.lawful c.restrict.new.space) c.restrict.ensures.extends c.init_state.result.now r' c.args.path (init_is_cond _ c.args.heap.now c.args.class.0 c.init_state.result.now c.requires.heap (omega arith) c.init_state.ensures) c.requires.known (init_inside _ c.args.heap.now c.args.class.0 c.init_state.result.now c.args.path c.requires.heap (omega arith) c.init_state.ensures c.requires.inside) h')
+    c.restrict.ensures.ok

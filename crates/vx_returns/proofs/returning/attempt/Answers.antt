@@ -11,8 +11,10 @@ signature-requires g c = rw c.descriptor_of_method.ensures (short_descriptor c.a
 
 pub returns-then-not-agrees-clause-ok : goal.returns-then-not-agrees-clause-ok
 returns-then-not-agrees-clause-ok g c =
+    IfOk-weaker c.illegal.result _ _ (λ r' h'.
     let read = rw (c.descriptor_of_method.ensures, c.top_frame.ensures) at c.in_ok-declared.ensures in
-    disagreed-attempts c.args.site.now c.args.operation _ c.args.heap.now c.args.callers.now c.args.group c.in-Return.sort _ c.in-Return.is c.requires.given c.requires.stands (ap (λ d. agrees c.in-Return.sort d.result) (sym read) ∙ sym c.if-not-agrees.ensures) (c.in_ok-ended.ensures _)
+    disagreed-attempts c.args.site.now c.args.operation _ c.args.heap.now c.args.callers.now c.args.group c.in-Return.sort _ c.in-Return.is c.requires.given c.requires.stands (ap (λ d. agrees c.in-Return.sort d.result) (sym read) ∙ sym c.if-not-agrees.ensures) (h' _))
+    c.illegal.ensures
 
 pub return_nothing-requires : goal.return_nothing-requires
 return_nothing-requires g c = record { returning = record { bounded = c.requires.given.bounded; is_heap = c.requires.given.is_heap; is_for = c.requires.given.is_for; stands = c.requires.stands } }

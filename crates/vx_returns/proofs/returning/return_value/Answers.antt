@@ -9,8 +9,10 @@ use Rattle.vx_returns.proofs.returning.return_value.Goals as goal
 
 pub returns-then-len-eq0-clause-ok : goal.returns-then-len-eq0-clause-ok
 returns-then-len-eq0-clause-ok g c =
+    IfOk-weaker c.illegal.result _ _ (λ r' h'.
     let none : length c.args.group.top.stack.conds ≡ 0 = rw (← c.top_frame.ensures, ← c.len.ensures) c.if-len-eq0.true in
-    empty-attempts c.args.site.now c.args.sort _ c.args.heap.now c.args.callers.now c.args.group _ c.requires.returning none (c.in_ok-ended.ensures _)
+    empty-attempts c.args.site.now c.args.sort _ c.args.heap.now c.args.callers.now c.args.group _ c.requires.returning none (h' _))
+    c.illegal.ensures
 
 pub where_of_sort-requires-clause-group : goal.where_of_sort-requires-clause-group
 where_of_sort-requires-clause-group g c = IsGroupIn-group _ _ c.args.group c.requires.returning.stands.is_group

@@ -56,5 +56,5 @@ returns-clause-ok g c =
       c.begin_round-begun.result.1,
       b.chosen,
       IsRound-closed c.args.program.now (g.met.S.Space.lawful c.args.space.now) c.args.state.now.heap.allowed c.args.state.now c.begin_round-begun.new.state _ c.end_round.new.state c.args.which c.begin_round-begun.result.0 c.begin_round-begun.result.1 c.in_ok-spent.spent c.in_ok-spent.attempts c.make.new.heap c.make.new.round t
-          (ap (λ (x : StateView g.row.S.Denot g.row.S-Id.Denot). record x { heap = c.make.new.heap }) c.state.view_is) c.in_ok-end_round.ensures,
+          (ap (λ (x : StateView g.row.S.Denot g.row.S-Id.Denot). record x { heap = c.make.new.heap }) c.state.view_is) c.in_ok-end_round.ensures.ok,
     )

@@ -1,4 +1,5 @@
 use Rattle.std.proofs.Common.{◌∙◌, refl}
+use Rattle.std.proofs.lemmas.Result.{IfOk-weaker}
 use Rattle.vx_value.specs.Slot.{slot_cmp}
 use Rattle.vx_space.proofs.Spaces.{Extends-trans}
 use Rattle.vx_cond.proofs.SideLaws.{IsRow-scope_known}
@@ -28,7 +29,9 @@ cut_parts-requires-clause-possible g c =
     rw c.leaves.ensures (all_possible (g.S.Space.sets c.args.space.now) _ c.args.group.top.stack c.in-Stack.form c.in_ok-found.found _ found.extends (IsRow-scope_known slot_cmp _ c.args.group.top.stack row) found.cond found.scope refl found.at)
 
 pub returns-clause-extends : goal.returns-clause-extends
-returns-clause-extends g c = Extends-trans c.in_ok-found.ensures.extends c.in_ok-outcomes.ensures.extends
+returns-clause-extends g c = Extends-trans c.in_ok-found.ensures.extends c.cut_parts.ensures.extends
 
 pub returns-clause-ok : goal.returns-clause-ok
-returns-clause-ok g c = attempt-by c.args.site.now c.args.operation c.args.heap.now c.args.group c.in-Stack.form c.in_ok-found.found _ c.in-Stack.is c.in_ok-found.ensures.extends c.in_ok-outcomes.ensures.extends c.requires.given (rw c.top_frame.ensures at c.in_ok-found.ensures.at) (rw (c.leaves.ensures, c.order_of.ensures) at c.in_ok-outcomes.ensures.gives)
+returns-clause-ok g c =
+    IfOk-weaker c.cut_parts.result _ _ (λ r' h'. attempt-by c.args.site.now c.args.operation c.args.heap.now c.args.group c.in-Stack.form c.in_ok-found.found _ c.in-Stack.is c.in_ok-found.ensures.extends c.cut_parts.ensures.extends c.requires.given (rw c.top_frame.ensures at c.in_ok-found.ensures.at) (rw (c.leaves.ensures, c.order_of.ensures) at h'))
+    c.cut_parts.ensures.gives

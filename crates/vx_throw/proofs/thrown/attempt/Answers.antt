@@ -1,4 +1,5 @@
 use Rattle.std.proofs.Common.{◌-◌, ◌<◌, ◌≤◌, ◌∙◌, arith, length, refl}
+use Rattle.std.proofs.lemmas.Result.{IfOk-weaker}
 use Rattle.vx_families.proofs.Given.{IsGiven-extends, given_ready}
 use Rattle.vx_families.proofs.Operands.{few-attempts, made-attempts, one_made, operand_cond, operand_scope}
 use Rattle.vx_group_states.specs.Answers.{answer_cmp}
@@ -18,8 +19,10 @@ use Rattle.vx_throw.proofs.thrown.attempt.Goals as goal
 
 pub returns-then-len-eq0-clause-ok : goal.returns-then-len-eq0-clause-ok
 returns-then-len-eq0-clause-ok g c =
+    IfOk-weaker c.illegal.result _ _ (λ r' h'.
     let none : length c.args.group.top.stack.conds < 1 = rw (← c.top_frame.ensures, ← c.len.ensures) (omega arith) in
-    few-attempts c.args.site.now Throw throw_top c.args.heap.now c.args.group c.requires.given 1 _ none thrown_none (c.in_ok-ended.ensures _)
+    few-attempts c.args.site.now Throw throw_top c.args.heap.now c.args.group c.requires.given 1 _ none thrown_none (h' _))
+    c.illegal.ensures
 
 pub core_class-throwable-requires : goal.core_class-throwable-requires
 core_class-throwable-requires g c = c.requires.given.bounded.classes
@@ -43,10 +46,11 @@ pub carry_out-requires-clause-scope : goal.carry_out-requires-clause-scope
 carry_out-requires-clause-scope g c = c.in_ok-answers.ensures.scope ∙ operand_scope _ c.args.group _ c.top_operand.result.now c.requires.given.is_group c.top_operand.ensures
 
 pub returns-clause-extends : goal.returns-clause-extends
-returns-clause-extends g c = Extends-trans c.in_ok-answers.ensures.extends c.in_ok-outcomes.ensures.extends
+returns-clause-extends g c = Extends-trans c.in_ok-answers.ensures.extends c.carry_out.ensures.extends
 
 pub returns-clause-ok : goal.returns-clause-ok
 returns-clause-ok g c =
+    IfOk-weaker c.carry_out.result _ _ (λ r' h'.
     let s0 = g.S.Space.sets c.args.space.now in
     let site = c.args.site.now in
     let p = site.program.now in
@@ -55,8 +59,9 @@ returns-clause-ok g c =
     let throwable = c.core_class-throwable.result in
     let null = c.core_class-null.result in
     let some : 1 ≤ length group.top.stack.conds = rw (← c.top_frame.ensures, ← c.len.ensures) (omega arith) in
-    made-attempts site Throw throw_top heap group c.requires.given 1 _ c.in_ok-answers.answers (λ slots. thrown p heap throwable.0 null (item_or slots 0 Top)) some c.in_ok-answers.ensures.extends c.in_ok-outcomes.ensures.extends
+    made-attempts site Throw throw_top heap group c.requires.given 1 _ c.in_ok-answers.answers (λ slots. thrown p heap throwable.0 null (item_or slots 0 Top)) some c.in_ok-answers.ensures.extends c.carry_out.ensures.extends
     (one_made Illegal answer_cmp s0 _ group (length group.top.stack.conds - 1) 0 c.top_operand.result.now (thrown p heap throwable.0 null) _ c.in_ok-answers.answers (λ s a h. h) c.requires.given.is_group c.top_operand.ensures (omega (arith, some)) c.in_ok-answers.ensures.ok)
     (λ sets d slots h. thrown_held sets heap d p throwable.0 null (item_or slots 0 Top) (item_held sets heap d slots 0 h))
     (λ tree d slots l h. thrown_row s0 heap d (here site (state_at s0 heap tree group d)) throwable null slots refl c.core_class-throwable.ensures c.core_class-null.ensures l h)
-    c.in_ok-outcomes.ensures.gives
+    h')
+    c.carry_out.ensures.gives

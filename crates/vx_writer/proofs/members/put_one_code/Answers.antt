@@ -4,4 +4,4 @@ use Rattle.vx_writer.specs.Written.{code_attribute}
 use Rattle.vx_writer.proofs.members.put_one_code.Goals as goal
 
 pub returns : goal.returns
-returns c = one_written _ _ _ _ (code_attribute c.args.pool.now c.args.code.now) c.in_ok-put_count.ensures c.put_code.ensures
+returns c = one_written _ _ _ _ (code_attribute c.args.pool.now c.args.code.now) c.in_ok-put_count.ensures.ok c.put_code.ensures

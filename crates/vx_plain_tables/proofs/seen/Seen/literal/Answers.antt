@@ -1,5 +1,5 @@
 use Rattle.std.proofs.Common.{ap, sym, ◌∙◌}
-use Rattle.vx_code.specs.Lookups.{entry_of}
+use Rattle.vx_pool.specs.Lookups.{entry_of}
 use Rattle.vx_plain_tables.proofs.TableLaws.{literal_is}
 use Rattle.vx_plain_tables.specs.Tables.{literal_in}
 use Rattle.vx_pool.specs.declared.pool.Pool.{Pool}

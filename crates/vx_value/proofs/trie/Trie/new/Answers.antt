@@ -6,6 +6,6 @@ use Rattle.vx_value.proofs.trie.Trie.new.Goals as goal
 
 pub invariant_of-result : goal.invariant_of-result
 invariant_of-result c = record {
-  are_steps = subst AreSteps (sym c.new.ensures.empty) none-steps;
-  distinct = subst (λ steps. AreDistinct (paths steps)) (sym c.new.ensures.empty) first-distinct;
+  are_steps = subst AreSteps (sym c.with_hasher.ensures.empty) none-steps;
+  distinct = subst (λ steps. AreDistinct (paths steps)) (sym c.with_hasher.ensures.empty) first-distinct;
 }

@@ -1,7 +1,8 @@
 use Rattle.std.proofs.Common.{List, ap, arith, sym, ℕ, ◌∙◌}
 use Rattle.std.proofs.lemmas.Result.{IfOk-weaker}
+use Rattle.vx_verify.proofs.Entries.{none_decoded}
 use Rattle.vx_verify.proofs.QuietLaws.{quiet_later, quiet_looked}
-use Rattle.vx_verify.proofs.Sweeps.{decoded_is, known_later, looked, none_decoded, undecoded_has_none}
+use Rattle.vx_verify.proofs.Sweeps.{decoded_is, known_later, looked, undecoded_has_none}
 use Rattle.vx_opcode.specs.Decode.{instruction_at}
 use Rattle.vx_verify.proofs.StoreLaws.{stands_kept}
 use Rattle.vx_verify.proofs.inference.Inference.visit.Goals as goal

@@ -1,3 +1,0 @@
-pub mod Walks
-pub mod Below
-pub mod Marks

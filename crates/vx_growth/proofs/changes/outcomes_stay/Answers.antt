@@ -1,5 +1,0 @@
-use Rattle.vx_growth.proofs.ChangeLaws.{outcomes_stay}
-use Rattle.vx_growth.proofs.changes.outcomes_stay.Goals as goal
-
-pub returns : goal.returns
-returns g c = outcomes_stay

@@ -1,3 +1,0 @@
-pub mod Changing
-pub mod Laws
-pub mod Names

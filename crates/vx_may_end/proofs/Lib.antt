@@ -1,0 +1,10 @@
+mod Quiet
+mod QuietTexts
+mod QuietLibrary
+mod QuietNatives
+mod QuietRows
+mod Receivers
+mod Rows
+mod Runs
+mod Putting
+mod Told

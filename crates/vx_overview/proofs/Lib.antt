@@ -1,0 +1,2 @@
+mod Remarked
+mod Overviews

@@ -1,0 +1,57 @@
+"""Checks that docs/FORMATS.md and the program say the same of each reason.
+
+    python3 check_reasons.py
+
+Each table of docs/FORMATS.md that begins with the columns "Reason" and "What fails" has the sentences of one form of
+crates/vx_reasons/src/sentences.rt, by their numbers, but for backquotes. What differs is printed, and the status is then 1.
+"""
+
+import os
+import re
+import sys
+
+TOP = os.path.dirname(os.path.dirname(os.path.dirname(os.path.abspath(__file__))))
+# The forms in the order of their tables.
+FORMS = ('MODEL', 'DIMACS', 'CLASS_FILE', 'SOURCE')
+
+
+def read(path):
+    with open(os.path.join(TOP, path), encoding='utf-8') as file:
+        return file.read()
+
+
+def sentences():
+    """Of each form its sentences by their reasons."""
+    found = {}
+    for name, rows in re.findall(r'const (\w+): \[&\[u8\]; \d+\] = \[\n(.*?)\];', read('crates/vx_reasons/src/sentences.rt'), re.S):
+        texts = re.findall(r'b"(.*)",', rows)
+        found[name] = {str(reason): text for reason, text in enumerate(texts) if text}
+    return found
+
+
+def tables():
+    """Of each table of reasons its sentences."""
+    text = read('docs/FORMATS.md')
+    for rows in re.findall(r'^\| Reason \| What fails \|.*\n\|[-|]+\n((?:\|.*\n)+)', text, re.M):
+        cells = [re.split(r'(?<!\\)\|', row)[1:3] for row in rows.split('\n') if row]
+        yield {reason.strip(): said.strip().replace('`', '').replace('\\|', '|') for reason, said in cells}
+
+
+def main():
+    said = sentences()
+    told = list(tables())
+    faults = []
+    if len(told) != len(FORMS) or sorted(said) != sorted(FORMS):
+        faults.append('%d tables of reasons, and the forms %s' % (len(told), ', '.join(sorted(said))))
+    for form, table in zip(FORMS, told):
+        for reason in sorted(set(table) | set(said[form]), key=int):
+            if table.get(reason) != said[form].get(reason):
+                faults.append('%s %s: "%s" in FORMATS, "%s" in the program' % (form, reason, table.get(reason), said[form].get(reason)))
+    for fault in faults:
+        print(fault)
+    print('%d reasons, %d faults' % (sum(len(table) for table in told), len(faults)))
+    sys.exit(1 if faults else 0)
+
+
+if __name__ == '__main__':
+    main()
