@@ -8,8 +8,11 @@ ghost use Rattle.vx_pool.specs.Lookups.{text};
 
 use crate::class_file::{Catch, Code};
 use std::alloc::Global;
-use vx_pool::{ClassFault, Cursor, JudgedPool, Pool, Starts, check_jumps, is_class, is_usable, refusal, starts_of, text};
 use vx_list::Items;
+use vx_pool::{
+    ClassFault, Cursor, JudgedPool, Pool, Starts, check_jumps, is_class, is_usable, refusal,
+    starts_of, text,
+};
 
 /// The index at the cursor, and the text that it names.
 #[tactic(auto, unfolding(crate::specs::Code::utf8_at))]

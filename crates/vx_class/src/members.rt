@@ -15,9 +15,9 @@ use crate::flags::{STATIC, has};
 use crate::numbers::{Taken, numbers_of, take};
 use indexmap::IndexSet;
 use std::alloc::Global;
-use vx_pool::{ClassFault, Cursor, Entry, JudgedPool, Pool, entry_of, is_usable, refusal};
 use vx_desc::{Base, field_type};
 use vx_list::Items;
+use vx_pool::{ClassFault, Cursor, Entry, JudgedPool, Pool, entry_of, is_usable, refusal};
 
 /// Whether an entry is a number of a type.
 fn is_number_for(base: Base, pool: &Pool, index: u16) -> bool

@@ -15,9 +15,9 @@ use crate::flags::{ABSTRACT, NATIVE, STATIC, has};
 use crate::numbers::{Taken, numbers_of, take};
 use indexmap::IndexSet;
 use std::alloc::{AllocError, Global};
-use vx_pool::{ClassFault, Cursor, JudgedPool, Pool, refusal};
 use vx_desc::{is_clinit, is_init, returns_nothing};
 use vx_list::Items;
+use vx_pool::{ClassFault, Cursor, JudgedPool, Pool, refusal};
 
 #[tactic(auto, unfolding(crate::specs::Members::lawful_at))]
 fn method_name<'p>(

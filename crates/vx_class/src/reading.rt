@@ -12,8 +12,11 @@ use crate::flags::{INTERFACE, has};
 use crate::members::fields;
 use crate::methods::methods;
 use std::alloc::Global;
-use vx_pool::{ClassFault, Cursor, Pool, check_entries, class_text, is_array, is_class, is_usable, read_pool, refusal};
 use vx_list::Items;
+use vx_pool::{
+    ClassFault, Cursor, Pool, check_entries, class_text, is_array, is_class, is_usable, read_pool,
+    refusal,
+};
 
 const MAGIC: u32 = 0xCAFE_BABE;
 

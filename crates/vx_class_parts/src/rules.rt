@@ -8,11 +8,11 @@ ghost use Rattle.vx_class_parts.specs.Rules.{is_short, is_lawful_class, is_plain
 
 use std::alloc::{AllocError, Global};
 use vx_class::{ABSTRACT, INTERFACE, NATIVE, STATIC, has};
-use vx_pool::{dimensions, is_array};
 use vx_desc::{
     Base, JavaType, field_type, is_class_name, is_clinit, is_field_descriptor, is_field_name,
     is_init, is_method_name, method_slots, returns_nothing,
 };
+use vx_pool::{dimensions, is_array};
 use vx_source::Value;
 
 fn is_short(name: &[u8]) -> bool

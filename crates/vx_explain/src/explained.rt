@@ -30,7 +30,11 @@ pub struct Explained {
 
 /// The least and the greatest set that a rule for a set may have: what the set has of a scope, and all outside of the scope beside
 /// it.
-pub fn bounds<S: Space>(space: &mut S, set: S::Id, scope: S::Id) -> Result<(S::Id, S::Id), SpaceFault>
+pub fn bounds<S: Space>(
+    space: &mut S,
+    set: S::Id,
+    scope: S::Id,
+) -> Result<(S::Id, S::Id), SpaceFault>
     requires set { IsKnown (S.sets space.old) set }
     requires scope { IsKnown (S.sets space.old) scope }
     ensures extends { Extends (S.sets space.old) (S.sets space.new) }

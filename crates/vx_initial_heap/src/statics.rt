@@ -12,10 +12,10 @@ ghost use Rattle.vx_list.specs.Places.{item_or};
 use crate::defaults::default_of;
 use bitflags::Flags;
 use std::alloc::{AllocError, Global};
-use vx_pool::{Entry, Pool, entry_of};
 use vx_java::parts::name_of_class;
 use vx_link::{AccessFlags, LinkedField, Program};
 use vx_list::Items;
+use vx_pool::{Entry, Pool, entry_of};
 use vx_value::{ClassId, Slot};
 
 /// What a static field begins with: one value at each configuration, or that of an option as an int.

@@ -10,8 +10,8 @@ use crate::assignability::assignable;
 use crate::naming::class_named;
 use crate::parts::class_of_method;
 use vx_class::Catch;
-use vx_pool::class_text;
 use vx_link::Program;
+use vx_pool::class_text;
 use vx_value::{ClassId, MethodId};
 
 /// The name that a class entry of a class's pool has.

@@ -6,9 +6,9 @@ ghost use Rattle.vx_link.specs.ClassNames.{class_named, class_of_name, class_of_
 ghost use Rattle.vx_link.specs.Parts.{class_count};
 ghost use Rattle.vx_link.specs.Signature.{class_in};
 
-use vx_pool::is_array;
 use vx_desc::{Base, JavaType, field_type};
 use vx_link::Program;
+use vx_pool::is_array;
 use vx_value::ClassId;
 
 /// The elements of arrays that are no classes: the primitive types.

@@ -10,8 +10,8 @@ use crate::rows::put_table;
 use crate::table::{LineRow, LineTable, MethodLines};
 use std::alloc::{AllocError, Global};
 use vx_class::ClassFile;
-use vx_pool::{ClassFault, Cursor, Pool, read_pool, text};
 use vx_list::Items;
+use vx_pool::{ClassFault, Cursor, Pool, read_pool, text};
 
 /// The index of the name of an attribute, and its content.
 #[tactic(auto, unfolding(crate::specs::Tables::attribute_at, vx_class::specs::Code::content_at))]

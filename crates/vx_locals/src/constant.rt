@@ -7,9 +7,9 @@ ghost use Rattle.vx_link.specs.Parts.{class_at};
 ghost use Rattle.vx_locals.specs.Constants.{constant_of};
 
 use std::alloc::{AllocError, Global};
-use vx_pool::{Entry, Pool, entry_of, text};
 use vx_families::{CONSTANT_WORD, FLOAT_WORD};
 use vx_link::Program;
+use vx_pool::{Entry, Pool, entry_of, text};
 use vx_value::{ClassId, Name, Slot};
 
 /// What an entry of a pool is to a load of a constant.

@@ -15,10 +15,10 @@ ghost use Rattle.vx_may_end.specs.Lacks.{of_blocking, of_class, of_initialisatio
 use crate::lack::{CLASS, FLOAT, Lack, When, put_lack, put_named, put_nameless};
 use bitflags::Flags;
 use std::alloc::{AllocError, Global};
-use vx_pool::{Pool, class_text as name_in};
 use vx_java::parts::{is_interface, superclass_of};
 use vx_java::{blocked, class_named};
 use vx_link::{AccessFlags, Program};
+use vx_pool::{Pool, class_text as name_in};
 use vx_spelling::class_text;
 use vx_value::ClassId;
 

@@ -14,13 +14,13 @@ use crate::fields::put_field;
 use crate::lack::{CONSTANT, FLOAT, Lack, When, put_nameless};
 use std::alloc::{AllocError, Global};
 use vx_class::Code;
-use vx_pool::{Entry, Pool, entry_of, text};
 use vx_java::decoding::operation;
 use vx_java::parts::class_of_method;
 use vx_java::{MemberReference, Operation, member_by};
 use vx_link::Program;
 use vx_list::Items;
 use vx_opcode::decode;
+use vx_pool::{Entry, Pool, entry_of, text};
 use vx_value::{ClassId, MethodId};
 
 /// The bytes of a text entry.

@@ -41,7 +41,11 @@ const BAD: [(&str, u64, u8); 12] = [
     ("returned when A\n", 1, 2),
     ("unsupported clas when A\n", 1, 2),
     ("unsupported float java/lang/Object when A\n", 1, 2),
-    ("unsupported class java/lang/Object L.m()V@1 2 when A\n", 1, 2),
+    (
+        "unsupported class java/lang/Object L.m()V@1 2 when A\n",
+        1,
+        2,
+    ),
     ("uncaught when A &\n", 1, 4),
     ("uncaught when B\n", 1, 5),
     ("return when A\nuncaught when A\rB\n", 2, 1),

@@ -14,11 +14,11 @@ ghost use Rattle.vx_plain_here.specs.Rows.{ComesTo, here_in};
 ghost use Rattle.vx_plain_tables.specs.Tables.{literal_in};
 ghost use Rattle.vx_pool.specs.declared.pool.Entry.TheVariants.{Class};
 
-use vx_pool::{Entry, entry_of};
 use vx_link::class_name;
 use vx_plain::{State, Value};
 use vx_plain_here::Made;
 use vx_plain_tables::Seen;
+use vx_pool::{Entry, entry_of};
 
 /// The numbers of the words for what ends a run as unsupported.
 const FLOAT: u8 = 1;

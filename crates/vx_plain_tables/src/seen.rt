@@ -11,11 +11,11 @@ ghost use Rattle.vx_plain_tables.specs.Tables.{AreTables, literal_in};
 
 use crate::tables::Tables;
 use std::alloc::{AllocError, Global};
-use vx_pool::{Entry, Pool, entry_of, member_descriptor};
 use vx_desc::Descriptor;
 use vx_java::parts::descriptor_of_method;
 use vx_java::{class_named, name_of_entry};
 use vx_plain_here::Here;
+use vx_pool::{Entry, Pool, entry_of, member_descriptor};
 use vx_references::{owner_entry, signature};
 use vx_value::{ClassId, MethodId};
 

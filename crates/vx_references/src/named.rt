@@ -7,10 +7,10 @@ ghost use Rattle.vx_link.specs.Parts.{class_at};
 ghost use Rattle.vx_references.specs.Named.{class_by_texts, class_of_entry, class_of_text, class_table};
 
 use std::alloc::{AllocError, Global};
-use vx_pool::{Entry, Pool, entry_of};
 use vx_java::class_named;
 use vx_link::Program;
 use vx_list::Items;
+use vx_pool::{Entry, Pool, entry_of};
 use vx_value::ClassId;
 
 /// The class of a text.

@@ -6,10 +6,10 @@ ghost use Rattle.vx_java.specs.Named.{in_bytes};
 ghost use Rattle.vx_link.specs.Names.{class_name, member, utf8};
 ghost use Rattle.vx_types.specs.Rows.{current_class, pool_of};
 
-use vx_pool::{Entry, Pool, entry_of, text};
 use vx_java::parts::class_of_method;
 use vx_java::{MemberReference, member_by, name_of_entry};
 use vx_link::Program;
+use vx_pool::{Entry, Pool, entry_of, text};
 use vx_value::{ClassId, MethodId};
 
 /// The class whose method is typed.

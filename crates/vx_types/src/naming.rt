@@ -7,11 +7,11 @@ ghost use Rattle.vx_types.specs.Types.{arrays_over, class_type, element_named, e
 use crate::hierarchy::object_class;
 use crate::types::{ElementType, VerType};
 use std::alloc::{AllocError, Global};
-use vx_pool::is_array;
 use vx_desc::{Base, JavaType, field_type};
 use vx_java::parts::is_interface;
 use vx_java::{Sort, class_in, class_of_name};
 use vx_link::Program;
+use vx_pool::is_array;
 use vx_references::sort_of;
 use vx_value::{ClassId, Name};
 
