@@ -52,7 +52,9 @@ BOUNDS = {
     'join: one long text': 23.5, 'join: pieces of both streams': 7.5, 'join: pieces under options': 3, 'join: 8,192 ends': 2, 'join: 8,192 numbers of attempts': 1, 'cut: 65,536 parts': 2,
     'count: one long text': 8, 'count: pieces of both streams': 4.5, 'count: pieces under options': 1, 'list: one long text': 8, 'list: pieces of both streams': 4.5, 'list: pieces under options': 1,
     'page: one long text': 17.5, 'page: pieces of both streams': 4.5, 'page: pieces under options': 1, 'trace: a text looked for in one of 32,768 units': 4,
-    'trace: an exception through 4,000,000 catch rows': 13.5, 'trace: the same among 901 classes': 13.5
+    'trace: an exception through 4,000,000 catch rows': 13.5, 'trace: the same among 901 classes': 13.5,
+    'cover: 131,072 pieces': 16,
+    **{f'cover: 4 pieces drawn by lot, {seed}': 1.5 for seed in range(1, 21)}
 }
 
 # Those that are known to be too dear, and why.
@@ -227,12 +229,27 @@ def told(command, front):
                    lambda ended: ended.status == 0 and ended.out.startswith(front) and not ended.err)
 
 
+def told_by_lot(command, front, pieces, width):
+    """The same of reports of a few pieces under diagrams that are drawn by lot, twenty times."""
+    for seed in range(1, 21):
+        yield Dear(f'{command}: {pieces} pieces drawn by lot, {seed}', lambda seed=seed: put_text('report', dear_texts.few_pieces(pieces, width, seed)[0]), [command, 'report'],
+                   lambda ended: ended.status == 0 and ended.out.startswith(front) and not ended.err)
+
+
+def told_once(command, front, name, make):
+    yield Dear(f'{command}: {name}', lambda: put_text('report', make()[0]), [command, 'report'],
+               lambda ended: ended.status == 0 and ended.out.startswith(front) and not ended.err)
+
+
 def pictures():
     return told('picture', b'digraph report {\n')
 
 
 def covers():
-    return told('cover', b'varexj cover 1\n')
+    front = b'varexj cover 1\n'
+    yield from told('cover', front)
+    yield from told_once('cover', front, '131,072 pieces', lambda: dear_texts.many_nodes(17))
+    yield from told_by_lot('cover', front, 4, 64)
 
 
 def explanations():
@@ -292,6 +309,10 @@ def interactions():
                ends_as(0, f'varexj interact 1\n{pieces}end 1 0 -\ndone\n'.encode()))
 
 
+def is_agreement(ended):
+    return ended.status == 0 and ended.out.startswith(b'varexj agree 1\n') and not ended.err
+
+
 def agreements():
     """The same for agree, of a report with itself."""
     def agreed(bits):
@@ -300,6 +321,13 @@ def agreements():
     yield Dear('agree: one long text', lambda: put_text('report', dear_texts.one_long_text()[0]), words, ends_as(0, agreed(0)))
     yield Dear('agree: pieces of both streams', lambda: put_text('report', dear_texts.many_pieces(1 << 24)[0]), words, ends_as(0, agreed(0)))
     yield Dear('agree: nodes', lambda: put_text('report', dear_texts.many_nodes(10)[0]), words, ends_as(0, agreed(10)))
+
+    def longer():
+        report = dear_texts.many_nodes(12)[0]
+        put_text('report', report)
+        put_text('longer', dear_texts.longer_first_piece(report))
+    for words in (['agree', 'report', 'longer'], ['agree', 'longer', 'report']):
+        yield Dear(f'agree: one byte more in the first piece of {words[2]}', longer, words, is_agreement)
 
 
 def sources():

@@ -218,6 +218,58 @@ def pieces_of_one_long_rule(many=400, seed=1):
     return '\n'.join([*lines, *[f'out {root} a', f'err {root} b'] * (many // 2), '']).encode() + END, None
 
 
+def numbered(roots, parts_of):
+    """Lines of nodes in the numbering of reports for diagrams under some roots, and the numbers of the roots."""
+    numbers, lines = {'no': 0, 'all': 1}, []
+    for root in roots:
+        open_nodes = [root]
+        while open_nodes:
+            node = open_nodes[-1]
+            option, *parts = parts_of.get(node, (0,))
+            missing = [part for part in parts if part not in numbers]
+            if node not in numbers and not missing:
+                numbers[node] = len(numbers)
+                lines.append(f'node {numbers[node]} {option} {numbers[parts[0]]} {numbers[parts[1]]}')
+            if node in numbers:
+                open_nodes.pop()
+            else:
+                open_nodes.append(missing[0])
+    return lines, [numbers[root] for root in roots]
+
+
+def drawn_by_lot(options, width, seed):
+    """The parts of about so many nodes for each option, whose parts are among those of the three options behind it, and the nodes from the last option to the first."""
+    generator, parts_of, numbers = random.Random(seed), {}, {}
+    below = [['no', 'all']]
+    for option in reversed(range(options)):
+        layer = []
+        for _place in range(width):
+            low, high = (generator.choice(generator.choice(below[-3:])) for _side in range(2))
+            if low != high and (option, low, high) not in numbers:
+                numbers[option, low, high] = node = len(parts_of)
+                parts_of[node] = (option, low, high)
+                layer.append(node)
+        if layer:
+            below.append(layer)
+    return parts_of, list(parts_of)
+
+
+def few_pieces(many, width, seed):
+    """A report of so many pieces under diagrams of about so many nodes for each of 64 options, drawn by lot."""
+    parts_of, nodes = drawn_by_lot(OPTIONS, width, seed)
+    lines, roots = numbered(nodes[-many:], parts_of)
+    printed = [f'{"out" if place % 2 else "err"} {root} a' for place, root in enumerate(roots)]
+    return report_front(OPTIONS) + '\n'.join([*lines, *printed, '']).encode() + END, None
+
+
+def longer_first_piece(report):
+    """The report with one byte more in its first piece."""
+    lines = report.split(b'\n')
+    first = next(place for place, line in enumerate(lines) if line.startswith((b'out ', b'err ')))
+    lines[first] += b'a'
+    return b'\n'.join(lines)
+
+
 REPORTS = {
     'one long text': one_long_text, 'one long text of escapes': one_long_escaped_text, 'pieces of both streams': many_pieces,
     'pieces of one stream': many_joined_pieces, 'nodes': many_nodes}

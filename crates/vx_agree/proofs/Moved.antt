@@ -15,7 +15,7 @@ use Rattle.vx_agree.specs.Equal.{are_equal, common_from}
 use Rattle.vx_agree.specs.Left.{bytes_if, left_from}
 use Rattle.vx_agree.specs.Places.{AreKnownPlaces, IsAdded, IsPlaced, IsRightAtEach, is_covered}
 use Rattle.vx_agree.specs.Taking.{IsBehind, IsTaken, from_place}
-use Rattle.vx_agree.specs.Moving.{AreMoved, GoesAlong, HaveMoved, IsLeft, IsMoved, SaysTheSame}
+use Rattle.vx_agree.specs.Moving.{AreMoved, GoesAlong, HaveMoved, IsLeft, IsMoved, IsSlid, SaysTheSame}
 use Rattle.vx_agree.proofs.Equal.{common_from-within, none_left, with_common}
 use Rattle.vx_agree.proofs.Left.{left_end, left_here, left_silent}
 use Rattle.vx_agree.proofs.Places.{and_left, and_right, at_each, both_or, covered-push, each-value, not_both, not_true}
@@ -164,47 +164,71 @@ IsMoved-later {s0 = s0} {s1 = s1} e other entry front set old new k kset ks m = 
       says (sym (e.test entry.condition c k) ∙ t) ∙ ap (λ b. are_equal (bytes_if b front ++ rest) (left_from other c entry.piece entry.byte)) (sym (e.test set c kset)))) (λ t. inr (e.test entry.condition c k ∙ t));
 }
 
--- ---- an entry is moved: its configurations that write the piece take the text, the others go past pieces that they don't write
-pub IsMoved-of : {I : Type 0} {s0 s1 s2 s3 s4 s5 : Sets I} → Extends s0 s1 → Extends s1 s2 → Extends s2 s3 → Extends s3 s4 → Extends s4 s5 → (other : Report) (entry : Reached I) (front : Piece) (set inside outside : I) (piece byte : ℕ) (old mid new : List (Reached I)) → s0.is_known entry.condition ≡ true → s0.is_known set ≡ true → AreKnownPlaces s0 old
-    → IsSet s1 inside (λ c. s0.test entry.condition c && s0.test set c) → IsSet s2 outside (λ c. s1.test entry.condition c && not (s1.test set c))
-    → IsTaken s2 s3 other entry.piece entry.byte inside front old mid → SaysTheSame s3 other outside entry.piece entry.byte piece byte → IsPlaced s4 s5 piece byte outside mid new
-    → IsMoved s0 s5 other entry front set old new
-IsMoved-of {I = I} {s0 = s0} {s1 = s1} {s2 = s2} {s3 = s3} {s4 = s4} {s5 = s5} e01 e12 e23 e34 e45 other entry front set inside outside piece byte old mid new ke ks ko n o p q r = record {
+-- ---- a set is divided by another one
+
+-- what a set has inside of another one and what it has outside, each made by an operation
+record AreDivided {I : Type 0} (s0 s2 : Sets I) (whole set inside outside : I) : Type 0 where
+  extends : Extends s0 s2
+  known : s2.is_known inside ≡ true
+  known_outside : s2.is_known outside ≡ true
+  in_is : (c : List Bool) → s2.test inside c ≡ (s0.test whole c && s0.test set c)
+  out_is : (c : List Bool) → s2.test outside c ≡ (s0.test whole c && not (s0.test set c))
+
+AreDivided-of : {I : Type 0} {s0 s1 s2 : Sets I} → Extends s0 s1 → Extends s1 s2 → (whole set inside outside : I) → s0.is_known whole ≡ true → s0.is_known set ≡ true → IsSet s1 inside (λ c. s0.test whole c && s0.test set c) → IsSet s2 outside (λ c. s1.test whole c && not (s1.test set c)) → AreDivided s0 s2 whole set inside outside
+AreDivided-of {s0 = s0} {s1 = s1} e01 e12 whole set inside outside kw ks n o = record {
+  extends = Extends-trans e01 e12;
+  known = e12.known inside n.known;
+  known_outside = o.known;
+  in_is = λ c. e12.test inside c n.known ∙ n.test c;
+  out_is = λ c. o.test c ∙ ap (λ b. b && not (s1.test set c)) (e01.test whole c kw) ∙ ap (λ b. s0.test whole c && not b) (e01.test set c ks);
+}
+
+-- a configuration of the whole is in one of the two
+in_either : (a l i u : Bool) → i ≡ (a && l) → u ≡ (a && not l) → a ≡ true → (i ≡ true) ⊎ (u ≡ true)
+in_either true true i u f g t = inl f
+in_either true false i u f g t = inr g
+in_either false l i u f g t = cc (t)
+
+-- ---- those of a condition stay at their place where they write its piece, and the others go past pieces that they don't write
+pub IsSlid-of : {I : Type 0} {s0 s1 s2 s3 s4 s5 : Sets I} → Extends s0 s1 → Extends s1 s2 → Extends s2 s3 → Extends s3 s4 → Extends s4 s5 → (other : Report) (piece byte : ℕ) (condition there here beyond : I) (later from : ℕ) (old mid new : List (Reached I)) → s0.is_known condition ≡ true → s0.is_known there ≡ true → AreKnownPlaces s0 old
+    → IsSet s1 here (λ c. s0.test condition c && s0.test there c) → IsSet s2 beyond (λ c. s1.test condition c && not (s1.test there c))
+    → IsPlaced s2 s3 piece byte here old mid → SaysTheSame s3 other beyond piece byte later from → IsPlaced s4 s5 later from beyond mid new
+    → IsSlid s0 s5 other piece byte condition old new
+IsSlid-of {s0 = s0} {s1 = s1} {s2 = s2} {s3 = s3} {s4 = s4} {s5 = s5} e01 e12 e23 e34 e45 other piece byte condition there here beyond later from old mid new kc kt ko n o p q r = record {
   known = r.known;
   added = λ c rest same says.
-      let first = IsAdded-trans {here = s2.test inside c} (IsAdded-later e02 c (from_place other c rest) same old ko) (p.added c rest same (λ t. says (there c t) ∙ ap (λ b. are_equal (bytes_if b front ++ rest) (left_from other c entry.piece entry.byte)) (written_there c t))) (λ t. inr t) in
-      let second = IsAdded-trans {here = s4.test outside c} (IsAdded-later e34 c (from_place other c rest) same mid p.known) (r.added c (from_place other c rest) same (λ t. says (outside_there c t) ∙ ap (λ b. are_equal (bytes_if b front ++ rest) (left_from other c entry.piece entry.byte)) (unwritten c t) ∙ ap (are_equal rest) (q.same c (before c t)))) (λ t. inr t) in
-      IsAdded-trans {here = s0.test entry.condition c} first second (λ t. either (s0.test entry.condition c) (s0.test set c) (s2.test inside c) (s4.test outside c) (in_is c) (out_is c) t);
+      let first = IsAdded-trans {here = s2.test here c} (IsAdded-later d.extends c (from_place other c rest) same old ko) (p.added c (from_place other c rest) same (λ t. says (and_left (s0.test condition c) (s0.test there c) (sym (d.in_is c) ∙ t)))) (λ t. inr t) in
+      let second = IsAdded-trans {here = s4.test beyond c} (IsAdded-later e34 c (from_place other c rest) same mid p.known) (r.added c (from_place other c rest) same (λ t. says (and_left (s0.test condition c) (not (s0.test there c)) (sym (out_is c) ∙ t)) ∙ ap (are_equal rest) (q.same c (before c t)))) (λ t. inr t) in
+      IsAdded-trans {here = s0.test condition c} first second (λ t. in_either (s0.test condition c) (s0.test there c) (s2.test here c) (s4.test beyond c) (d.in_is c) (out_is c) t);
 }
   where
-    e02 : Extends s0 s2
-    e02 = Extends-trans e01 e12
+    d : AreDivided s0 s2 condition there here beyond
+    d = AreDivided-of e01 e12 condition there here beyond kc kt n o
 
-    in_is : (c : List Bool) → s2.test inside c ≡ (s0.test entry.condition c && s0.test set c)
-    in_is c = e12.test inside c n.known ∙ n.test c
+    out_is : (c : List Bool) → s4.test beyond c ≡ (s0.test condition c && not (s0.test there c))
+    out_is c = (Extends-trans e23 e34).test beyond c d.known_outside ∙ d.out_is c
 
-    out_is : (c : List Bool) → s4.test outside c ≡ (s0.test entry.condition c && not (s0.test set c))
-    out_is c = (Extends-trans e23 e34).test outside c o.known ∙ o.test c ∙ ap (λ b. b && not (s1.test set c)) (e01.test entry.condition c ke) ∙ ap (λ b. s0.test entry.condition c && not b) (e01.test set c ks)
+    before : (c : List Bool) → s4.test beyond c ≡ true → s3.test beyond c ≡ true
+    before c t = sym (e34.test beyond c (e23.known beyond d.known_outside)) ∙ t
 
-    before : (c : List Bool) → s4.test outside c ≡ true → s3.test outside c ≡ true
-    before c t = sym (e34.test outside c (e23.known outside o.known)) ∙ t
+-- ---- an entry is moved: its configurations that write the piece take the text, the others stay or go past pieces that they don't write
+pub IsMoved-of : {I : Type 0} {s0 s1 s2 s3 s4 : Sets I} → Extends s0 s1 → Extends s1 s2 → Extends s2 s3 → Extends s3 s4 → (other : Report) (entry : Reached I) (front : Piece) (set inside outside : I) (old mid new : List (Reached I)) → s0.is_known entry.condition ≡ true → s0.is_known set ≡ true → AreKnownPlaces s0 old
+    → IsSet s1 inside (λ c. s0.test entry.condition c && s0.test set c) → IsSet s2 outside (λ c. s1.test entry.condition c && not (s1.test set c))
+    → IsTaken s2 s3 other entry.piece entry.byte inside front old mid → IsSlid s3 s4 other entry.piece entry.byte outside mid new
+    → IsMoved s0 s4 other entry front set old new
+IsMoved-of {s0 = s0} {s2 = s2} {s3 = s3} e01 e12 e23 e34 other entry front set inside outside old mid new ke ks ko n o p q = record {
+  known = q.known;
+  added = λ c rest same says.
+      let first = IsAdded-trans {here = s2.test inside c} (IsAdded-later d.extends c (from_place other c rest) same old ko) (p.added c rest same (λ t. says (and_left (s0.test entry.condition c) (s0.test set c) (sym (d.in_is c) ∙ t)) ∙ ap (λ b. are_equal (bytes_if b front ++ rest) (left_from other c entry.piece entry.byte)) (and_right (s0.test entry.condition c) (s0.test set c) (sym (d.in_is c) ∙ t)))) (λ t. inr t) in
+      let second = q.added c rest same (λ t. says (and_left (s0.test entry.condition c) (not (s0.test set c)) (sym (out_is c) ∙ t)) ∙ ap (λ b. are_equal (bytes_if b front ++ rest) (left_from other c entry.piece entry.byte)) (not_true (s0.test set c) (and_right (s0.test entry.condition c) (not (s0.test set c)) (sym (out_is c) ∙ t)))) in
+      IsAdded-trans {here = s0.test entry.condition c} first second (λ t. in_either (s0.test entry.condition c) (s0.test set c) (s2.test inside c) (s3.test outside c) (d.in_is c) (out_is c) t);
+}
+  where
+    d : AreDivided s0 s2 entry.condition set inside outside
+    d = AreDivided-of e01 e12 entry.condition set inside outside ke ks n o
 
-    there : (c : List Bool) → s2.test inside c ≡ true → s0.test entry.condition c ≡ true
-    there c t = and_left (s0.test entry.condition c) (s0.test set c) (sym (in_is c) ∙ t)
-
-    written_there : (c : List Bool) → s2.test inside c ≡ true → s0.test set c ≡ true
-    written_there c t = and_right (s0.test entry.condition c) (s0.test set c) (sym (in_is c) ∙ t)
-
-    outside_there : (c : List Bool) → s4.test outside c ≡ true → s0.test entry.condition c ≡ true
-    outside_there c t = and_left (s0.test entry.condition c) (not (s0.test set c)) (sym (out_is c) ∙ t)
-
-    unwritten : (c : List Bool) → s4.test outside c ≡ true → s0.test set c ≡ false
-    unwritten c t = not_true (s0.test set c) (and_right (s0.test entry.condition c) (not (s0.test set c)) (sym (out_is c) ∙ t))
-
-    either : (a l i u : Bool) → i ≡ (a && l) → u ≡ (a && not l) → a ≡ true → (i ≡ true) ⊎ (u ≡ true)
-    either true true i u f g t = inl f
-    either true false i u f g t = inr g
-    either false l i u f g t = cc (t)
+    out_is : (c : List Bool) → s3.test outside c ≡ (s0.test entry.condition c && not (s0.test set c))
+    out_is c = e23.test outside c d.known_outside ∙ d.out_is c
 
 -- ---- all entries
 

@@ -15,6 +15,11 @@ use Rattle.vx_agree.specs.Taking.{from_place}
 pub record SaysTheSame {I : Type 0} (sets : Sets I) (other : Report) (condition : I) (piece byte later later_byte : ℕ) : Type 0 where
   pub same : (c : List Bool) → sets.test condition c ≡ true → left_from other c piece byte ≡ left_from other c later later_byte
 
+-- the configurations of a condition, which stand at a place, were added there or at places from which on they write the same
+pub record IsSlid {I : Type 0} (s0 s1 : Sets I) (other : Report) (piece byte : ℕ) (condition : I) (old new : List (Reached I)) : Type 0 where
+  pub known : AreKnownPlaces s1 new
+  pub added : (c : List Bool) (rest : List (Stream × ℕ)) (same : Bool) → (s0.test condition c ≡ true → same ≡ from_place other c rest piece byte) → IsAdded s0 s1 c (from_place other c rest) same (s0.test condition c) old new
+
 -- the configurations of an entry come together to a place by a piece of the first output, which those of a set write
 pub record GoesAlong {I : Type 0} (sets : Sets I) (other : Report) (entry : Reached I) (front : Piece) (set : I) (piece byte : ℕ) : Type 0 where
   pub same : (c : List Bool) (rest : List (Stream × ℕ)) → sets.test entry.condition c ≡ true → are_equal (bytes_if (sets.test set c) front ++ rest) (left_from other c entry.piece entry.byte) ≡ from_place other c rest piece byte

@@ -8,7 +8,7 @@ ghost use Rattle.std.specs.Prelude.{◌≡◌, ◌<◌, true, List, Bool, IfOk, 
 ghost use Rattle.vx_bdd_tools.specs.Listing.{AreSetsOf};
 ghost use Rattle.vx_space.specs.Sets.{Extends, IsKnown};
 ghost use Rattle.vx_agree.specs.Places.{AreKnownPlaces};
-ghost use Rattle.vx_agree.specs.Moving.{AreMoved, GoesAlong, HaveMoved, IsMoved, SaysTheSame};
+ghost use Rattle.vx_agree.specs.Moving.{AreMoved, GoesAlong, HaveMoved, IsMoved, IsSlid, SaysTheSame};
 
 use crate::reached::{Reached, put};
 use crate::taking::{place_behind, take_text};
@@ -111,8 +111,44 @@ fn gone_along<S: Space>(
     Ok(None)
 }
 
-/// Moves the configurations of an entry by a piece with a text, which those of its set write: these take the text, and the others go on to
-/// a piece that one of them writes.
+/// The configurations that write the piece at a place; none of them behind the last piece.
+fn writers<S: Space>(space: &S, other: &Report, sets: &[S::Id], piece: usize) -> S::Id
+    requires { AreSetsOf (S.sets space.now) other.now.nodes sets.now }
+    ensures { IsKnown (S.sets space.now) result }
+{
+    match other.pieces.as_slice().get(piece) {
+        Some(there) => set_of(space, sets, there.node),
+        None => space.never(),
+    }
+}
+
+/// Adds configurations that stand at a place: those that write the piece there stay, and the others go on to a piece that one of them
+/// writes, so that whoever waits at a place keeps no one else there.
+fn put_slid<S: Space>(
+    space: &mut S,
+    other: &Report,
+    sets: &[S::Id],
+    piece: usize,
+    byte: usize,
+    condition: S::Id,
+    new: &mut Vec<Reached<S::Id>>,
+) -> Result<(), SpaceFault>
+    requires sets { AreSetsOf (S.sets space.old) other.now.nodes sets.now }
+    requires known { IsKnown (S.sets space.old) condition }
+    requires places { AreKnownPlaces (S.sets space.old) new.old.items }
+    ensures extends { Extends (S.sets space.old) (S.sets space.new) }
+    ensures put { OnOk result (IsSlid (S.sets space.old) (S.sets space.new) other.now piece byte condition new.old.items new.new.items) }
+{
+    let there = writers(space, other, sets, piece);
+    let here = space.and(condition, there)?;
+    let beyond = space.minus(condition, there)?;
+    put(space, new, piece, byte, here)?;
+    let (later, from) = slid(space, other, sets, piece, byte, beyond)?;
+    put(space, new, later, from, beyond)
+}
+
+/// Moves the configurations of an entry by a piece with a text, which those of its set write: these take the text, and of the others only
+/// those that write the piece at their place stay there.
 fn move_parts<S: Space>(
     alloc: Global,
     space: &mut S,
@@ -144,8 +180,7 @@ fn move_parts<S: Space>(
         front,
         new,
     )?;
-    let (piece, byte) = slid(space, other, sets, entry.piece, entry.byte, outside)?;
-    put(space, new, piece, byte, outside)
+    put_slid(space, other, sets, entry.piece, entry.byte, outside, new)
 }
 
 /// Moves the configurations of an entry by a piece with a text. Where they are seen to go on together they stay one entry.

@@ -1,13 +1,14 @@
 -- Targets in blocks: what a later space keeps of them, how a set grows that has them all, and what a configuration leaves of them.
 use Rattle.std.proofs.Common.{◌≡◌, ℕ, ◌+◌, ◌<◌, ◌≤◌, zero, suc, Bool, true, false, List, [], ◌∷◌, ◌++◌, length, take, drop, get_or, refl, sym, ◌∙◌, ap, subst, arith}
-use Rattle.std.specs.Prelude.{None, Option, is_some, ◌||◌, slice_set}
+use Rattle.std.specs.Prelude.{None, Option, is_some, ◌||◌, ◌==◌, slice_set}
+use Rattle.std.proofs.lemmas.Bool.Decides.{nat_tests}
 use Rattle.std.proofs.lemmas.Grind.{flat_map-append}
 use Rattle.std.proofs.lemmas.List.{append-nil, append_assoc, drop-set-lt, drop_all, length-set, take-append-drop, take_all, take_more_set}
 use Rattle.vx_space.proofs.Spaces.{Extends-refl, Extends-trans}
 use Rattle.vx_space.specs.Sets.{Sets, Extends, IsLawful, IsSet}
 use Rattle.vx_cover.specs.declared.blocks.Block.{Block}
 use Rattle.vx_cover.specs.declared.target.Target.{Target}
-use Rattle.vx_cover.specs.Blocks.{AreBlocks, AreBlocksOf, AreWithin, IsBlock, IsWhole, flat}
+use Rattle.vx_cover.specs.Blocks.{AreBlocks, AreBlocksOf, AreWithin, IsBlock, IsWhole, IsWider, flat}
 use Rattle.vx_cover.specs.Targets.{AreOpen, covered, first_set, left_open}
 use Rattle.vx_cover.proofs.Opening.{AreOpen-extends, AreOpen-left, open_at}
 
@@ -96,18 +97,24 @@ either_right : (a b : Bool) → b ≡ true → (a || b) ≡ true
 either_right true b e = refl
 either_right false b e = e
 
-pub IsWhole-more : {I : Type 0} {s s' : Sets I} → Extends s s' → (whole both : I) (ts : List (Target I)) (t : Target I) → AreOpen s ts → s.is_known t.set ≡ true → IsWhole s whole ts → IsSet s' both (λ c. s.test whole c || s.test t.set c) → IsWhole s' both (ts ++ t ∷ [])
+pub IsWider-or : {I : Type 0} {s s' : Sets I} (one other both : I) → IsSet s' both (λ c. s.test one c || s.test other c) → IsWider s s' one other both
+IsWider-or one other both o = record { known = o.known; has = λ c e. o.test c ∙ e }
+
+pub IsWider-all : {I : Type 0} (s : Sets I) {s' : Sets I} → IsLawful s' → (one other : I) → IsWider s s' one other s'.always
+IsWider-all s lawful one other = record { known = lawful.always_known; has = λ c e. lawful.always_test c }
+
+pub IsWhole-more : {I : Type 0} {s s' : Sets I} → Extends s s' → (whole both : I) (ts : List (Target I)) (t : Target I) → AreOpen s ts → s.is_known t.set ≡ true → IsWhole s whole ts → IsWider s s' whole t.set both → IsWhole s' both (ts ++ t ∷ [])
 IsWhole-more {I} {s} {s'} x whole both ts t opens k w o = record {
   known = o.known;
   within = AreWithin-push s' both ts t
       (AreWithin-wider s' whole both ts
-      (λ c e. o.test c ∙ either_left (s.test whole c) (s.test t.set c) (sym (x.test whole c w.known) ∙ e))
+      (λ c e. o.has c (either_left (s.test whole c) (s.test t.set c) (sym (x.test whole c w.known) ∙ e)))
       (AreWithin-extends x whole ts w.known opens w.within))
-      (λ c e. o.test c ∙ either_right (s.test whole c) (s.test t.set c) (sym (x.test t.set c k) ∙ e));
+      (λ c e. o.has c (either_right (s.test whole c) (s.test t.set c) (sym (x.test t.set c k) ∙ e)));
 }
 
 pub IsWhole-step : {I : Type 0} {s0 s s' : Sets I} → Extends s0 s → Extends s s' → (ts : List (Target I)) (i : ℕ) (t : Target I) (whole both : I) → i < length ts → t ≡ get_or ts i t → AreOpen s0 ts
-    → IsWhole s whole (take i ts) → IsSet s' both (λ c. s.test whole c || s.test t.set c) → IsWhole s' both (take (i + 1) ts)
+    → IsWhole s whole (take i ts) → IsWider s s' whole t.set both → IsWhole s' both (take (i + 1) ts)
 IsWhole-step {I} {s0} {s} {s'} x y ts i t whole both l e opens w o =
     subst (λ (xs : List (Target I)). IsWhole s' both xs) (sym (take_next ts i t l e))
     (IsWhole-more y whole both (take i ts) t (AreOpen-extends x (take i ts) (AreOpen-front s0 i ts opens)) (x.known t.set (open_at s0 ts i t l e opens).0) w o)
@@ -167,6 +174,14 @@ unmet s whole c (t ∷ ts) w e =
     let here : s.test t.set c ≡ false = unmet_one (s.test t.set c) (s.test whole c) e (w.0 c) in
     let rest = unmet s whole c ts w.1 e in
     (rw here rest.0, rw here (ap (λ xs. t ∷ xs) rest.1))
+
+-- no target is met where there is none
+pub nothing_open : {I : Type 0} (s : Sets I) (c : List Bool) (ts : List (Target I)) → length ts ≡ 0 → (covered s c ts ≡ []) × (left_open s c ts ≡ ts)
+nothing_open s c [] e = (refl, refl)
+nothing_open s c (t ∷ ts) e = absurd (omega (arith, e))
+
+pub is_zero : (n : ℕ) → (n == 0) ≡ true → n ≡ 0
+is_zero n e = grind (arith, nat_tests)
 
 -- ---- the first target
 

@@ -16,11 +16,11 @@ IsPart-later x whole part h = record {
   less = λ c t. h.less c (sym (x.test part c h.known) ∙ t);
 }
 
-pub IsPart-met : {I : Type 0} {s0 s s' : Sets I} (whole part other both : I) → IsPart s0 s whole part → IsSet s' both (λ c. s.test part c && s.test other c) → both ≢ s'.never → IsPart s0 s' whole both
-IsPart-met {I} {s0} {s} {s'} whole part other both h b n = record {
+pub IsPart-met : {I : Type 0} {s s' : Sets I} (whole other both : I) → IsSet s' both (λ c. s.test whole c && s.test other c) → both ≢ s'.never → IsPart s s' whole both
+IsPart-met {I} {s} {s'} whole other both b n = record {
   known = b.known;
   some = n;
-  less = λ c t. h.less c (and_left (s.test part c) (s.test other c) (sym (b.test c) ∙ t));
+  less = λ c t. and_left (s.test whole c) (s.test other c) (sym (b.test c) ∙ t);
 }
 
 pub IsPart-trans : {I : Type 0} {s0 s1 s2 : Sets I} (whole part less : I) → IsPart s0 s1 whole part → IsPart s1 s2 part less → IsPart s0 s2 whole less

@@ -1,5 +1,5 @@
 -- Targets in blocks.
-use Rattle.std.specs.Prelude.{◌≡◌, Bool, true, List, [], ◌∷◌}
+use Rattle.std.specs.Prelude.{◌≡◌, Bool, true, List, [], ◌∷◌, ◌||◌}
 use Rattle.std.specs.List.{flat_map}
 use Rattle.vx_space.specs.Sets.{Sets}
 use Rattle.vx_cover.specs.declared.blocks.Block.{Block}
@@ -18,6 +18,11 @@ AreWithin sets whole (t ∷ ts) = ((c : List Bool) → sets.test t.set c ≡ tru
 pub record IsWhole {I : Type 0} (sets : Sets I) (whole : I) (ts : List (Target I)) : Type 0 where
   pub known : sets.is_known whole ≡ true
   pub within : AreWithin sets whole ts
+
+-- a set has what two others have
+pub record IsWider {I : Type 0} (old new : Sets I) (one other wider : I) : Type 0 where
+  pub known : new.is_known wider ≡ true
+  pub has : (c : List Bool) → (old.test one c || old.test other c) ≡ true → new.test wider c ≡ true
 
 pub record IsBlock {I : Type 0} (sets : Sets I) (b : Block I) : Type 0 where
   pub open_sets : AreOpen sets b.targets.items

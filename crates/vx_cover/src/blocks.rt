@@ -2,18 +2,24 @@
 
 ghost use Rattle.std.specs.Prelude.{◌≡◌, ◌++◌, ◌∷◌, [], IfOk, OnOk, if◌then◌else◌};
 ghost use Rattle.vx_space.specs.Sets.{Extends, IsKnown};
-ghost use Rattle.vx_cover.specs.Blocks.{AreBlocks, AreBlocksOf, IsBlock, IsWhole, flat};
+ghost use Rattle.vx_cover.specs.Blocks.{AreBlocks, AreBlocksOf, IsBlock, IsWhole, IsWider, flat};
 ghost use Rattle.vx_cover.specs.Targets.{AreOpen, covered, first_set, left_open};
 
 use crate::target::Target;
 use std::alloc::{AllocError, Global};
 use vx_space::{Config, Space, SpaceFault};
+use vx_work::{Work, or_within};
 
 /// How many targets a block has.
 const BLOCK: usize = 256;
 
 /// How many sets the blocks of a list may make together; behind that a block's set is that of all configurations.
 const MOST_SETS: u64 = 1 << 17;
+
+/// How much work the sets of the blocks of a list may be together, and one union at most.
+const MOST_WORK: u64 = 4_000_000;
+
+const MOST_SHARE: u64 = 1 << 18;
 
 /// Targets that stand one behind the other.
 #[derive(Drop)]
@@ -23,9 +29,33 @@ pub struct Block<I> {
     pub targets: Vec<Target<I>>,
 }
 
+/// A set that has what two others have: their union, or that of all configurations, where the union would be too much work.
+fn wider<S: Space>(
+    alloc: Global,
+    space: &mut S,
+    work: &mut Work,
+    whole: S::Id,
+    set: S::Id,
+) -> Result<S::Id, SpaceFault>
+    requires whole { IsKnown (S.sets space.old) whole }
+    requires set { IsKnown (S.sets space.old) set }
+    ensures extends { Extends (S.sets space.old) (S.sets space.new) }
+    ensures wider { IfOk result (IsWider (S.sets space.old) (S.sets space.new) whole set) }
+{
+    let mut share = work.share(MOST_SHARE);
+    let found = or_within(alloc, space, &mut share, whole, set)?;
+    work.put_back(share);
+    let Some(either) = found else {
+        return Ok(space.always());
+    };
+    Ok(either)
+}
+
 /// A set that has what each of some targets has.
 fn whole_of<S: Space>(
+    alloc: Global,
     space: &mut S,
+    work: &mut Work,
     targets: &[Target<S::Id>],
     limit: u64,
 ) -> Result<S::Id, SpaceFault>
@@ -38,7 +68,7 @@ fn whole_of<S: Space>(
         if space.count() > limit {
             return Ok(space.always());
         }
-        whole = space.or(whole, target.set)?;
+        whole = wider(alloc, space, work, whole, target.set)?;
     }
     Ok(whole)
 }
@@ -47,6 +77,7 @@ fn whole_of<S: Space>(
 fn block_of<S: Space>(
     alloc: Global,
     space: &mut S,
+    work: &mut Work,
     targets: &[Target<S::Id>],
     limit: u64,
 ) -> Result<Block<S::Id>, SpaceFault>
@@ -55,7 +86,7 @@ fn block_of<S: Space>(
     ensures block { IfOk result (IsBlock (S.sets space.new)) }
     ensures targets { IfOk result (λ block. block.targets.items ≡ targets.now) }
 {
-    let whole = whole_of(space, targets, limit)?;
+    let whole = whole_of(alloc, space, work, targets, limit)?;
     let mut items = Vec::new(alloc);
     items.extend_from_slice(targets)?;
     Ok(Block {
@@ -75,12 +106,13 @@ pub fn blocks_of<S: Space>(
     ensures blocks { IfOk result (λ blocks. AreBlocksOf (S.sets space.new) targets.now blocks.items) }
 {
     let limit = space.count().saturating_add(MOST_SETS);
+    let mut work = Work::of(MOST_WORK);
     let mut blocks = Vec::new(alloc);
     let mut rest = targets;
     while !rest.is_empty() {
         let size = rest.len().min(BLOCK);
         let (part, after) = rest.split_at(size);
-        let block = block_of(alloc, space, part, limit)?;
+        let block = block_of(alloc, space, &mut work, part, limit)?;
         blocks.push(block)?;
         rest = after;
     }
@@ -162,6 +194,9 @@ fn meet_block<S: Space>(
     ensures rest { OnOk result (block.new.targets.items ≡ left_open (S.sets space.now) c.now block.old.targets.items) }
     ensures whole { block.new.whole ≡ block.old.whole }
 {
+    if block.targets.is_empty() {
+        return Ok(());
+    }
     if !space.holds(block.whole, c) {
         return Ok(());
     }

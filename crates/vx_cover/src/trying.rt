@@ -1,6 +1,6 @@
 //! What a line meets of the targets behind its first one: each in order that still can be met, as long as trying isn't in vain too often.
 
-ghost use Rattle.std.specs.Prelude.{◌≢◌, IfOk};
+ghost use Rattle.std.specs.Prelude.{◌≢◌, IfOk, IfSome};
 ghost use Rattle.vx_space.specs.Sets.{Extends, IsKnown};
 ghost use Rattle.vx_bdd_tools.specs.Members.{IsMember};
 ghost use Rattle.vx_cover.specs.Blocks.{AreBlocks, IsBlock};
@@ -11,6 +11,7 @@ use crate::target::Target;
 use std::alloc::{AllocError, Global};
 use vx_bdd_tools::one_of;
 use vx_space::{Config, Space, SpaceFault};
+use vx_work::{Work, and_within};
 
 /// How many sets the lines may make together while more targets are looked for that a line can meet; behind that each line takes
 /// a configuration of its first target alone.
@@ -20,7 +21,12 @@ const MOST_SETS: u64 = 1_000_000;
 const MOST_MISSES: u64 = 1 << 18;
 
 /// How often each line may, also when the lines before it have tried as often as they may.
-const LINE_MISSES: u64 = 16;
+const LINE_MISSES: u64 = 4;
+
+/// How much work the lines may be together, and the trial of one set at most.
+const MOST_WORK: u64 = 4_000_000;
+
+const MOST_SHARE: u64 = 1 << 18;
 
 /// How much more is tried.
 #[derive(Clone, Copy)]
@@ -28,6 +34,7 @@ pub struct Patience {
     /// The most sets that the space may have.
     sets: u64,
     misses: u64,
+    work: Work,
 }
 
 /// What is tried before the first line.
@@ -35,6 +42,7 @@ pub(crate) fn full_patience<S: Space>(space: &S) -> Patience {
     Patience {
         sets: space.count().saturating_add(MOST_SETS),
         misses: MOST_MISSES,
+        work: Work::of(MOST_WORK),
     }
 }
 
@@ -55,8 +63,36 @@ fn miss(patience: &mut Patience) {
     patience.misses = patience.misses.saturating_sub(1);
 }
 
-/// The part of a set that is in another one too; all of it, where none is.
+/// The part of a set that is in another one too; none where there is no such part, or where it would be too much work.
+fn part_of<S: Space>(
+    alloc: Global,
+    space: &mut S,
+    met: S::Id,
+    set: S::Id,
+    patience: &mut Patience,
+) -> Result<Option<S::Id>, SpaceFault>
+    requires known { IsKnown (S.sets space.old) met }
+    requires other { IsKnown (S.sets space.old) set }
+    ensures extends { Extends (S.sets space.old) (S.sets space.new) }
+    ensures part { IfOk result (λ r. IfSome r (IsPart (S.sets space.old) (S.sets space.new) met)) }
+{
+    let mut work = patience.work.share(MOST_SHARE);
+    let found = and_within(alloc, space, &mut work, met, set)?;
+    patience.work.put_back(work);
+    let Some(both) = found else {
+        miss(patience);
+        return Ok(None);
+    };
+    if space.is_never(both) {
+        miss(patience);
+        return Ok(None);
+    }
+    Ok(Some(both))
+}
+
+/// The same, or all of the set.
 fn met_with_one<S: Space>(
+    alloc: Global,
     space: &mut S,
     met: S::Id,
     set: S::Id,
@@ -68,16 +104,15 @@ fn met_with_one<S: Space>(
     ensures extends { Extends (S.sets space.old) (S.sets space.new) }
     ensures part { IfOk result (IsPart (S.sets space.old) (S.sets space.new) met) }
 {
-    let both = space.and(met, set)?;
-    if space.is_never(both) {
-        miss(patience);
-        return Ok(met);
+    match part_of(alloc, space, met, set, patience)? {
+        Some(part) => Ok(part),
+        None => Ok(met),
     }
-    Ok(both)
 }
 
 /// A part of a set, in which targets hold: each in order that still can.
 fn met_with<S: Space>(
+    alloc: Global,
     space: &mut S,
     first: S::Id,
     targets: &[Target<S::Id>],
@@ -94,13 +129,14 @@ fn met_with<S: Space>(
         if is_spent(space, *patience) {
             return Ok(met);
         }
-        met = met_with_one(space, met, target.set, patience)?;
+        met = met_with_one(alloc, space, met, target.set, patience)?;
     }
     Ok(met)
 }
 
 /// The same for the targets of a block, which are asked where its set can be met.
 fn met_with_block<S: Space>(
+    alloc: Global,
     space: &mut S,
     first: S::Id,
     block: &Block<S::Id>,
@@ -115,16 +151,15 @@ fn met_with_block<S: Space>(
     if block.targets.is_empty() {
         return Ok(first);
     }
-    let both = space.and(first, block.whole)?;
-    if space.is_never(both) {
-        miss(patience);
+    if part_of(alloc, space, first, block.whole, patience)?.is_none() {
         return Ok(first);
     }
-    met_with(space, first, block.targets.as_slice(), patience)
+    met_with(alloc, space, first, block.targets.as_slice(), patience)
 }
 
 /// The same for the targets of blocks.
 fn met_with_all<S: Space>(
+    alloc: Global,
     space: &mut S,
     first: S::Id,
     blocks: &[Block<S::Id>],
@@ -141,7 +176,7 @@ fn met_with_all<S: Space>(
         if is_spent(space, *patience) {
             return Ok(met);
         }
-        met = met_with_block(space, met, block, patience)?;
+        met = met_with_block(alloc, space, met, block, patience)?;
     }
     Ok(met)
 }
@@ -173,7 +208,7 @@ pub fn configuration<S: Space>(
     ensures member { IfOk result (IsMember (S.sets space.old) first) }
 {
     *patience = of_line(*patience);
-    let met = met_with_all(space, first, blocks, patience)?;
+    let met = met_with_all(alloc, space, first, blocks, patience)?;
     let c = member(alloc, space, met)?;
     Ok(c)
 }

@@ -11,15 +11,12 @@ take_text-requires-clause-sets g c = AreSetsOf-extends (Extends-trans c.in_ok-in
 pub take_text-requires-clause-places : goal.take_text-requires-clause-places
 take_text-requires-clause-places g c = places-extends (Extends-trans c.in_ok-inside.ensures.extends c.in_ok-outside.ensures.extends) c.args.new.now.items c.requires.places
 
-pub slid-requires-clause-sets : goal.slid-requires-clause-sets
-slid-requires-clause-sets g c = AreSetsOf-extends (Extends-trans c.in_ok-inside.ensures.extends (Extends-trans c.in_ok-outside.ensures.extends c.in_ok-take_text.ensures.extends)) _ _ c.requires.sets
-
-pub put-requires-clause-places : goal.put-requires-clause-places
-put-requires-clause-places g c = places-extends c.in_ok-piece.ensures.extends _ c.in_ok-take_text.ensures.taken.known
+pub put_slid-requires-clause-sets : goal.put_slid-requires-clause-sets
+put_slid-requires-clause-sets g c = AreSetsOf-extends (Extends-trans c.in_ok-inside.ensures.extends (Extends-trans c.in_ok-outside.ensures.extends c.in_ok-take_text.ensures.extends)) _ _ c.requires.sets
 
 pub returns-clause-extends : goal.returns-clause-extends
-returns-clause-extends g c = Extends-trans c.in_ok-inside.ensures.extends (Extends-trans c.in_ok-outside.ensures.extends (Extends-trans c.in_ok-take_text.ensures.extends (Extends-trans c.in_ok-piece.ensures.extends c.put.ensures.extends)))
+returns-clause-extends g c = Extends-trans c.in_ok-inside.ensures.extends (Extends-trans c.in_ok-outside.ensures.extends (Extends-trans c.in_ok-take_text.ensures.extends c.put_slid.ensures.extends))
 
 pub returns-clause-moved : goal.returns-clause-moved
 returns-clause-moved g c =
-    on_ok_weaker c.put.result (λ h. IsMoved-of c.in_ok-inside.ensures.extends c.in_ok-outside.ensures.extends c.in_ok-take_text.ensures.extends c.in_ok-piece.ensures.extends c.put.ensures.extends c.args.other.now c.args.entry c.args.front.now c.args.set c.in_ok-inside.inside c.in_ok-outside.outside _ _ c.args.new.now.items _ _ c.requires.entry c.requires.set c.requires.places c.in_ok-inside.ensures.ok c.in_ok-outside.ensures.ok c.in_ok-take_text.ensures.taken c.in_ok-piece.ensures.same h) c.put.ensures.placed
+    on_ok_weaker c.put_slid.result (λ h. IsMoved-of c.in_ok-inside.ensures.extends c.in_ok-outside.ensures.extends c.in_ok-take_text.ensures.extends c.put_slid.ensures.extends c.args.other.now c.args.entry c.args.front.now c.args.set c.in_ok-inside.inside c.in_ok-outside.outside c.args.new.now.items _ _ c.requires.entry c.requires.set c.requires.places c.in_ok-inside.ensures.ok c.in_ok-outside.ensures.ok c.in_ok-take_text.ensures.taken h) c.put_slid.ensures.put
