@@ -420,7 +420,7 @@ pub const CUT_CASES: [(&str, u8, &str, &str); 18] = [
 ];
 
 /// Words, the calls of the files, of `out` and of `err` that fail, and what has to come.
-pub const FAULTS: [(&str, u64, u64, u64, u8, &str, &str); 20] = [
+pub const FAULTS: [(&str, u64, u64, u64, u8, &str, &str); 19] = [
     (
         "run n e Main 100 1",
         0,
