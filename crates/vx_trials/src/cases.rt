@@ -457,15 +457,6 @@ pub const FAULTS: [(&str, u64, u64, u64, u8, &str, &str); 19] = [
         "read fault absent\n",
     ),
     ("check report absent", 0, 0, 0, 3, "", "read fault absent\n"),
-    (
-        "compare report absent",
-        0,
-        0,
-        0,
-        3,
-        "",
-        "read fault absent\n",
-    ),
     ("page report", 0, 2, 0, 4, "<!doctype ", "write fault\n"),
     ("output report A", 1, 0, 0, 3, "", "read fault report\n"),
     ("agree absent cut", 0, 0, 0, 3, "", "read fault absent\n"),
@@ -604,43 +595,4 @@ pub const CHECK_CASES: [(&str, u8, &str, &str); 12] = [
     ),
     ("check", 2, "", "usage\n"),
     ("check report returns exits", 2, "", "usage\n"),
-];
-
-/// The same of comparisons of reports.
-pub const COMPARE_CASES: [(&str, u8, &str, &str); 9] = [
-    (
-        "compare report report",
-        0,
-        "varexj compare 1\nof 2\ndiffer 0\ndone\n",
-        "",
-    ),
-    (
-        "compare report part",
-        16,
-        "varexj compare 1\nof 2\ndiffer 1\nwhen !A\nway return\nother -\ncount 1\nwhen !A\nexample -\ndone\n",
-        "differing\n",
-    ),
-    (
-        "compare part report",
-        16,
-        "varexj compare 1\nof 2\ndiffer 1\nwhen !A\nway -\nother return\ncount 1\nwhen !A\nexample -\ndone\n",
-        "differing\n",
-    ),
-    (
-        "compare report plain",
-        16,
-        "varexj compare 1\nof 2\ndiffer 2\nwhen true\nway return\nother return\ncount 2\nwhen true\nexample -\nline out 1\none 0\\0a\nother 2\\0a\ndone\n",
-        "differing\n",
-    ),
-    (
-        "compare plain report",
-        16,
-        "varexj compare 1\nof 2\ndiffer 2\nwhen true\nway return\nother return\ncount 2\nwhen true\nexample -\nline out 1\none 2\\0a\nother 0\\0a\ndone\n",
-        "differing\n",
-    ),
-    ("compare report cut", 10, "", "bad report line 6\n"),
-    ("compare cut absent", 10, "", "bad report line 6\n"),
-    // A path that nothing is held under is an empty file here.
-    ("compare report absent", 10, "", "bad report line 1\n"),
-    ("compare report", 2, "", "usage\n"),
 ];
