@@ -47,13 +47,14 @@ BOUNDS = {
     'agree: one long text': 15, 'agree: pieces of both streams': 6.5, 'picture: one long text': 7.5, 'picture: pieces of both streams': 7,
     'picture: pieces under options': 1, 'cover: one long text': 8, 'cover: pieces of both streams': 4.5, 'cover: nodes': 1.5,
     'cover: pieces under options': 9, 'explain: one long text': 8.5, 'explain: pieces of both streams': 10, 'explain: nodes': 1,
+    'explain: pieces under options': 2, 'explain: 400 pieces of one long rule': 3.5,
     'check: one long text': 8, 'check: pieces of both streams': 3.5, 'check: pieces under options': 1, 'check: 61,680 lines': 1.5,
     'check: 512 ends against 1,000 lines': 16,
     'join: one long text': 23.5, 'join: pieces of both streams': 7.5, 'join: pieces under options': 3, 'join: 8,192 ends': 2, 'join: 8,192 numbers of attempts': 1, 'cut: 65,536 parts': 2,
     'count: one long text': 8, 'count: pieces of both streams': 4.5, 'count: pieces under options': 1, 'list: one long text': 8, 'list: pieces of both streams': 4.5, 'list: pieces under options': 1,
     'page: one long text': 17.5, 'page: pieces of both streams': 4.5, 'page: pieces under options': 1, 'trace: a text looked for in one of 32,768 units': 4,
     'trace: an exception through 4,000,000 catch rows': 13.5, 'trace: the same among 901 classes': 13.5,
-    'explain: pieces under options': 5, 'explain: 100,000 pieces under 128 nodes': 1.5, 'cover: 131,072 pieces': 16,
+    'cover: 131,072 pieces': 16,
     **{f'cover: 4 pieces drawn by lot, {seed}': 1.5 for seed in range(1, 21)}
 }
 
@@ -253,10 +254,7 @@ def covers():
 
 
 def explanations():
-    front = b'varexj explain 2\n'
-    yield from told('explain', front)
-    yield from told_once('explain', front, '100,000 pieces under 128 nodes', lambda: dear_texts.few_nodes(100000))
-    yield from told_by_lot('explain', front, 1, 32)
+    return told('explain', b'varexj explain 1\n')
 
 
 def counts():

@@ -11,7 +11,7 @@ help_text =
     ++ codes "                                            end of a run, with its configurations\n"
     ++ codes "  varexj project REPORT CONFIG     what a report says of one configuration\n"
     ++ codes "  varexj output REPORT CONFIG [out|err]  the bytes that one configuration prints\n"
-    ++ codes "  varexj explain REPORT [ends]     its ends and pieces, or ends, with rules and examples\n"
+    ++ codes "  varexj explain REPORT            its ends and pieces, with rules and examples\n"
     ++ codes "  varexj check REPORT [EXPECTED]   which configurations end otherwise than they should\n"
     ++ codes "  varexj count REPORT              how many configurations have each end and piece\n"
     ++ codes "  varexj list REPORT [N]           its first N configurations, or 1000, with their ends\n"

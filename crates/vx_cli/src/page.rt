@@ -21,7 +21,7 @@ const HELP: &[u8] =
 \x20                                           end of a run, with its configurations\n\
 \x20 varexj project REPORT CONFIG     what a report says of one configuration\n\
 \x20 varexj output REPORT CONFIG [out|err]  the bytes that one configuration prints\n\
-\x20 varexj explain REPORT [ends]     its ends and pieces, or ends, with rules and examples\n\
+\x20 varexj explain REPORT            its ends and pieces, with rules and examples\n\
 \x20 varexj check REPORT [EXPECTED]   which configurations end otherwise than they should\n\
 \x20 varexj count REPORT              how many configurations have each end and piece\n\
 \x20 varexj list REPORT [N]           its first N configurations, or 1000, with their ends\n\

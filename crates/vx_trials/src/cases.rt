@@ -171,7 +171,7 @@ pub const REFUSAL_CASES: [(&str, u8, &str, &str); 15] = [
 ];
 
 /// The same of commands that read reports.
-pub const REPORT_CASES: [(&str, u8, &str, &str); 47] = [
+pub const REPORT_CASES: [(&str, u8, &str, &str); 45] = [
     ("project report -", 0, "out 0\\0a\nend return\n", ""),
     ("project report A", 0, "out 1\\0a\nend return\n", ""),
     ("project part -", 11, "", "not allowed\n"),
@@ -250,16 +250,9 @@ pub const REPORT_CASES: [(&str, u8, &str, &str); 47] = [
     (
         "explain report",
         0,
-        "varexj explain 2\nend return\nwhen true\nexample -\nout 1 2 0\\0a\nwhen !A\nexample -\nout 2 2 1\\0a\nwhen A\nexample A\ndone\n",
+        "varexj explain 1\nend return\nwhen true\nexample -\nout 1 2 0\\0a\nwhen !A\nexample -\nout 2 2 1\\0a\nwhen A\nexample A\ndone\n",
         "",
     ),
-    (
-        "explain report ends",
-        0,
-        "varexj explain 2\nend return\nwhen true\nexample -\ndone\n",
-        "",
-    ),
-    ("explain report piece", 2, "", "usage\n"),
     ("explain cut", 10, "", "bad report line 6\n"),
     ("page cut", 10, "", "bad report line 6\n"),
     ("page report A", 2, "", "usage\n"),
