@@ -6,4 +6,3 @@ pub mod Names
 pub mod Numbers
 pub mod Plain
 pub mod Reading
-pub mod Rules

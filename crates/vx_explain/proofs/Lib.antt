@@ -1,7 +1,11 @@
+mod Choosing
 mod Cycle
-pub mod Explaining
+mod Explaining
 mod Halves
 pub mod Printed
-pub mod Sums
+mod Rejoined
+mod Sums
 mod TermSets
-pub mod Truths
+mod Truths
+pub mod Turns
+pub mod Within

@@ -4,3 +4,4 @@ pub mod Read
 pub mod Rules
 pub mod Scopes
 pub mod Text
+pub mod Turns

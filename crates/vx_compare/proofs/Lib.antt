@@ -1,0 +1,10 @@
+pub mod Turns
+pub mod Added
+pub mod FirstLines
+pub mod Apart
+pub mod NamesOfBoth
+pub mod Renumbered
+pub mod SeenSets
+pub mod WideReports
+pub mod Differing
+pub mod Sided
