@@ -20,17 +20,22 @@ SECONDS = 30
 LINES = {
     0: rb'', 5: rb'bad model line \d+ reason [1-9]\n', 6: rb'no configuration\n', 7: rb'bad class [^ \n]+ at \d+ reason \d+\n',
     8: rb'(twice|no super|final super|cycle|no option) [^ \n]+\n|no main\n', 10: rb'bad report line \d+\n', 11: rb'not allowed\n',
-    12: rb'bad source line \d+ reason [1-8]\n', 14: rb'unlike\n', 18: rb'not joinable\n'}
-STATUSES = {'run': (0, 5, 6, 7, 8), 'verify': (0, 5, 7, 8), 'asm': (0, 12), 'agree': (0, 10, 14), 'join': (0, 10, 14, 18), 'cut': (0, 5, 6, 10, 11, 14),
-            **dict.fromkeys(('replay', 'trace'), (0, 5, 7, 8, 11)), **dict.fromkeys(('project', 'output'), (0, 10, 11)),
-            **dict.fromkeys(('interact', 'picture', 'cover', 'explain', 'count', 'list', 'page'), (0, 10))}
+    12: rb'bad source line \d+ reason [1-8]\n', 14: rb'unlike\n', 15: rb'failing\n', 17: rb'bad expected line \d+ reason [1245]\n',
+    18: rb'not joinable\n'}
+# The statuses of a call that is done, with an output.
+DONE = (0, 15)
+STATUSES = {'run': (0, 5, 6, 7, 8), 'verify': (0, 5, 7, 8), 'asm': (0, 12), 'agree': (0, 10, 14), 'join': (0, 10, 14, 18),
+            'check': (0, 10, 15, 17), 'cut': (0, 5, 6, 10, 11, 14),
+            **dict.fromkeys(('replay', 'trace'), (0, 5, 7, 8, 11)), **dict.fromkeys(('project', 'output', 'picture'), (0, 10, 11)),
+            **dict.fromkeys(('interact', 'cover', 'explain', 'count', 'list', 'page'), (0, 10))}
 # A case, and the file that is damaged.
 FILES = [('print-an-option', 'f/Main.class'), ('branches-join-with-different-values', 'f/Main.class'), ('dimacs-model', 'm.cnf'),
          ('model-with-true-rule', 'model'), ('project-option-on', 'report'), ('interact-two-options', 'report'),
          ('agree-in-one-branch', 'other'), ('assemble-class-with-option', 'source.jasm'), ('verify-branches', 'f/Main.class'),
          ('replay-with-lines', 'f/Main.class'), ('replay-uncaught', 'model'), ('picture-one-option', 'report'), ('cover-one-option', 'report'), ('explain-one-option', 'report'),
          ('trace-cause', 'f/Ticket.class'), ('join-two-parts', 'on'), ('join-three-with-attempts', 'b'), ('cut-by-names', 'model'), ('cut-clauses', 'model.cnf'),
-         ('cut-by-number-with-a-report', 'report'), ('count-two-options', 'report'), ('list-two-options', 'report'), ('output-named', 'report')]
+         ('cut-by-number-with-a-report', 'report'), ('count-two-options', 'report'), ('list-two-options', 'report'), ('output-named', 'report'),
+         ('picture-ends', 'report'), ('picture-of-a-piece', 'report'), ('check-other-than-expected', 'report'), ('check-other-than-expected', 'expected')]
 
 
 def damaged(data):
@@ -57,7 +62,7 @@ def problem(varexj, words, place, file, data, number):
         words = [path if word == file else word for word in words]
     ended = trying.called([varexj, *words], place, SECONDS)
     line = LINES.get(ended.status) if ended.status in STATUSES[words[0]] else None
-    if line is None or not re.fullmatch(line, ended.err) or (ended.out and ended.status != 0) or (not ended.out and ended.status == 0):
+    if line is None or not re.fullmatch(line, ended.err) or bool(ended.out) != (ended.status in DONE):
         return ended.told()
     return None
 

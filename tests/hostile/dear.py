@@ -41,18 +41,20 @@ BOUNDS = {
     'verify: 120,000 casts to a name of 6,000 bytes': 4, 'verify: 100,000 reads of a field with a name of 12,000 bytes': 1,
     'verify: 4,000 catch rows of own starts': 3, 'verify: a loop of 500 copies': 2.5,
     'source: jumps and labels': 1, 'source: jumps to the last label': 1, 'source: fields': 1, 'source: methods': 1, 'source: numbers': 1,
-    'source: strings': 1, 'source: members': 1, 'source: labels that fall together': 1, 'source: constants that fall together': 1,
-    'source: members that fall together': 1, 'class file: units that fall together': 1,
+    'source: strings': 1, 'source: members': 1,
     'project: one long text': 14.5, 'project: one long text of escapes': 9, 'project: pieces of both streams': 57,
     'project: pieces of one stream': 53, 'project: nodes': 8.5, 'interact: one long text': 7, 'interact: nodes': 1,
     'agree: one long text': 15, 'agree: pieces of both streams': 6.5, 'picture: one long text': 7.5, 'picture: pieces of both streams': 7,
     'picture: pieces under options': 1, 'cover: one long text': 8, 'cover: pieces of both streams': 4.5, 'cover: nodes': 1.5,
     'cover: pieces under options': 9, 'explain: one long text': 8.5, 'explain: pieces of both streams': 10, 'explain: nodes': 1,
+    'explain: pieces under options': 2, 'explain: 400 pieces of one long rule': 3.5,
+    'check: one long text': 8, 'check: pieces of both streams': 3.5, 'check: pieces under options': 1, 'check: 61,680 lines': 1.5,
+    'check: 512 ends against 1,000 lines': 16,
     'join: one long text': 23.5, 'join: pieces of both streams': 7.5, 'join: pieces under options': 3, 'join: 8,192 ends': 2, 'join: 8,192 numbers of attempts': 1, 'cut: 65,536 parts': 2,
     'count: one long text': 8, 'count: pieces of both streams': 4.5, 'count: pieces under options': 1, 'list: one long text': 8, 'list: pieces of both streams': 4.5, 'list: pieces under options': 1,
     'page: one long text': 17.5, 'page: pieces of both streams': 4.5, 'page: pieces under options': 1, 'trace: a text looked for in one of 32,768 units': 4,
     'trace: an exception through 4,000,000 catch rows': 13.5, 'trace: the same among 901 classes': 13.5,
-    'explain: pieces under options': 5, 'explain: 100,000 pieces under 128 nodes': 1.5, 'cover: 131,072 pieces': 16,
+    'cover: 131,072 pieces': 16,
     **{f'cover: 4 pieces drawn by lot, {seed}': 1.5 for seed in range(1, 21)}
 }
 
@@ -252,10 +254,7 @@ def covers():
 
 
 def explanations():
-    front = b'varexj explain 2\n'
-    yield from told('explain', front)
-    yield from told_once('explain', front, '100,000 pieces under 128 nodes', lambda: dear_texts.few_nodes(100000))
-    yield from told_by_lot('explain', front, 1, 32)
+    return told('explain', b'varexj explain 1\n')
 
 
 def counts():
@@ -268,6 +267,24 @@ def lists():
 
 def pages():
     return told('page', b'<!doctype html>\n')
+
+
+def checks():
+    """Reports checked, also where all fails, or many lines speak of one end."""
+    yield from told('check', b'varexj check 1\n')
+    failing = lambda ended: ended.status == 15 and ended.out.startswith(b'varexj check 1\n') and ended.err == b'failing\n'
+    yield Dear('check: 8,192 ends', lambda: put_text('report', dear_texts.many_ends()), ['check', 'report'], failing)
+    lines = b'return when true\n'
+
+    def files():
+        put_text('report', dear_texts.one_end(13))
+        put_text('expected', lines * (dear_texts.MOST_BYTES // len(lines)))
+    yield Dear('check: 61,680 lines', files, ['check', 'report', 'expected'], ends_as(0, b'varexj check 1\nof 8192\nfailing 0\ndone\n'))
+
+    def products():
+        put_text('report', dear_texts.many_ends(9))
+        put_text('expected', lines * 1000)
+    yield Dear('check: 512 ends against 1,000 lines', products, ['check', 'report', 'expected'], failing)
 
 
 def joins():
@@ -343,7 +360,7 @@ def sources():
 
 def all_inputs(varexj):
     yield from programs(varexj)
-    for make in (class_files, class_folders, large_folders, models, verdicts, replays, sources, reports, interactions, agreements, joins, cuts, pictures, covers, explanations, counts, lists, pages, workloads):
+    for make in (class_files, class_folders, large_folders, models, verdicts, replays, sources, reports, interactions, agreements, checks, joins, cuts, pictures, covers, explanations, counts, lists, pages, workloads):
         yield from make()
 
 

@@ -262,14 +262,6 @@ def few_pieces(many, width, seed):
     return report_front(OPTIONS) + '\n'.join([*lines, *printed, '']).encode() + END, None
 
 
-def few_nodes(many, seed=1):
-    """A report of many pieces, one after the other under some 128 nodes over 16 options."""
-    parts_of, nodes = drawn_by_lot(16, 9, seed)
-    lines, roots = numbered(nodes[-128:], parts_of)
-    printed = [f'out {roots[place % len(roots)]} a' for place in range(many)]
-    return report_front(16) + '\n'.join([*lines, *printed, '']).encode() + END, None
-
-
 def longer_first_piece(report):
     """The report with one byte more in its first piece."""
     lines = report.split(b'\n')

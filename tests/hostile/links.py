@@ -231,15 +231,22 @@ READS = {
     'run': lambda path: run(model=path), 'verify': lambda path: ['verify', 'f', path, 'Main'],
     'replay': lambda path: ['replay', 'f', path, 'Main', '100', '-'], 'asm': lambda path: ['asm', path],
     'project': lambda path: ['project', path, '-'], 'interact': lambda path: ['interact', path], 'picture': lambda path: ['picture', path],
-    'cover': lambda path: ['cover', path], 'explain': lambda path: ['explain', path], 'agree': lambda path: ['agree', path, 'report'],
-    'agree, the other one': lambda path: ['agree', 'report', path]}
+    'cover': lambda path: ['cover', path], 'explain': lambda path: ['explain', path], 'count': lambda path: ['count', path], 'list': lambda path: ['list', path],
+    'page': lambda path: ['page', path], 'output': lambda path: ['output', path, '-'], 'trace': lambda path: ['trace', 'f', path, 'Main', '100', '-'],
+    'agree': lambda path: ['agree', path, 'report'], 'agree, the other one': lambda path: ['agree', 'report', path],
+    'check': lambda path: ['check', path], 'check, what is expected': lambda path: ['check', 'report', path],
+    'join': lambda path: ['join', path, 'report'], 'join, the other one': lambda path: ['join', 'report', path],
+    'cut': lambda path: ['cut', path, '1'], 'cut, the report': lambda path: ['cut', 'model', '1', path]}
+# The files that are no reports.
+READ_MODELS = ('run', 'verify', 'replay', 'trace', 'cut')
+OTHER_FILES = {'asm': b'class 0021 Main java/lang/Object\n', 'check, what is expected': b'return when true\n'}
 
 
 def good_file(place, word):
     """A file that a command can read, and how the command then ends."""
     place.put_class()
     place.put('report', place.good[1])
-    data = {'asm': b'class 0021 Main java/lang/Object\n', **dict.fromkeys(('run', 'verify', 'replay'), place.model)}.get(word, place.good[1])
+    data = {**OTHER_FILES, **dict.fromkeys(READ_MODELS, place.model)}.get(word, place.good[1])
     place.put('good', data)
     ended = trying.called([place.varexj, *READS[word]('good')], place.path, SECONDS)
     assert ended.status == 0, ended.told()
@@ -465,6 +472,13 @@ def _(place):
     place.put('r')
     os.truncate(place.at('r'), MOST_REPORT_BYTES + 1)
     return Try(too_large('r', MOST_REPORT_BYTES), ['project', 'r', '-'])
+
+
+@tried('expectations that are one byte too large')
+def _(place):
+    place.put('r', place.good[1])
+    place.put('e', b'#' * (MOST_BYTES + 1))
+    return Try(too_large('e', MOST_BYTES), ['check', 'r', 'e'])
 
 
 @tried('1,024 class files')

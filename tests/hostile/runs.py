@@ -39,7 +39,7 @@ OWN = {
     'verify': ['verify-branches', 'verify-empty-stack', 'verify-shop', 'verify-super-call-on-another', 'verify-unlike-operands'],
     'interact': ['interact-one-option', 'interact-two-options'],
     'agree': ['agree-in-one-branch', 'agree-unlike', 'agree-with-itself', 'agree-shop-with-itself'],
-    'picture': ['picture-one-option'],
+    'picture': ['picture-one-option', 'picture-ends', 'picture-of-a-piece', 'picture-of-no-piece'],
     'cover': ['cover-one-option', 'cover-mail'],
     'explain': ['explain-one-option', 'explain-mail'],
     'replay': ['replay-exit', 'replay-uncaught', 'replay-with-lines'],
@@ -48,6 +48,8 @@ OWN = {
     'cut': ['cut-by-names', 'cut-by-number-with-a-report', 'cut-clauses', 'cut-unlike'],
     'count': ['count-two-options', 'count-where-ends-overlap'],
     'list': ['list-two-options', 'list-where-ends-overlap'],
+    'check': ['check-as-expected', 'check-other-than-expected', 'check-where-ends-overlap', 'check-expected-no-end',
+              'check-expected-of-unknown-option', 'check-expected-without-rule'],
     'output': ['output-named', 'output-of-err', 'output-unknown-option'],
     'load': ['workload-summary-3-options']}
 
@@ -69,7 +71,7 @@ def own_runs():
 
 def report_runs():
     """Each report told of, compared and joined with itself, and projected and put out at the configuration of no option."""
-    for command in ('interact', 'picture', 'cover', 'explain', 'count', 'list', 'page'):
+    for command in ('interact', 'picture', 'cover', 'explain', 'check', 'count', 'list', 'page'):
         yield Run('report-cut-at-40', [command, 'report'])
         for case in REPORTED:
             yield Run(case, [command, REPORT])

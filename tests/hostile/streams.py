@@ -23,7 +23,8 @@ LINE = b'write fault\n'
 # Small outputs of each command, a large one of run, and a refusal.
 SMALL = ['print-a-number', 'print-an-option', 'project-option-on', 'assemble-class-with-option', 'verify-branches', 'interact-one-option',
          'agree-with-itself', 'picture-one-option', 'cover-one-option', 'explain-one-option', 'replay-with-lines',
-         'cut-clauses', 'join-two-parts', 'trace-cause', 'count-two-options', 'list-two-options', 'output-named', 'workload-summary-3-options']
+         'cut-clauses', 'join-two-parts', 'trace-cause', 'count-two-options', 'list-two-options', 'output-named', 'picture-ends', 'check-as-expected',
+         'check-other-than-expected', 'workload-summary-3-options']
 LARGE = 'equal-pairs-24-options'
 REFUSED = 'no-configuration'
 

@@ -1,10 +1,11 @@
 -- What is found, one step after the other.
 use Rattle.std.proofs.Common.{BTreeMap, ◌≡◌, ℕ, ◌+◌, ◌<◌, ◌≤◌, suc, Bool, true, false, List, [], ◌∷◌, ◌++◌, length, map, take, drop, get_or, refl, sym, ap, subst, ◌∙◌, arith, append_assoc, append-nil}
-use Rattle.std.specs.Prelude.{◌&&◌, ◌||◌, not, filter, IfSome, MatchOption, Option, Some, None, option_to_list, slice_get, if◌then◌else◌}
+use Rattle.std.specs.Prelude.{◌&&◌, ◌||◌, not, filter, MatchOption, Option, Some, None, option_to_list, slice_get, if◌then◌else◌}
 use Rattle.std.specs.List.{flat_map, list_any}
 use Rattle.std.specs.declared.cmp.Ordering.{Ordering}
 use Rattle.std.specs.BTreeMap.{IsEmpty, get, is_at}
 use Rattle.std.specs.Map.{lookup}
+use Rattle.std.proofs.lemmas.Grind.{flat_map-append}
 use Rattle.std.proofs.lemmas.List.{drop_more}
 use Rattle.std.proofs.lemmas.List.Folds.{list_any-append}
 use Rattle.vx_words.specs.Lines.{words}
@@ -17,17 +18,15 @@ use Rattle.vx_count.specs.Listed.{first_settings}
 use Rattle.vx_count.specs.Memo.{AreNumbers}
 use Rattle.vx_count.specs.Settings.{number, settings}
 use Rattle.vx_count.proofs.Halves.{AreNumbers-extends}
-use Rattle.vx_explain.specs.declared.rule.Rule.{Rule}
-use Rattle.vx_explain.specs.Scopes.{IsRuleWithin}
-use Rattle.vx_explain.proofs.Turns.{AreInTurn-append, AreInTurn-none, AreInTurn-one}
-use Rattle.vx_explain.proofs.Within.{right_of_sets}
+use Rattle.vx_explain.specs.declared.literal.Literal.{Literal}
+use Rattle.vx_explain.specs.Scopes.{rule_within}
 use Rattle.vx_check.specs.Ends.{begin, fits, passes}
 use Rattle.vx_check.specs.Expected.{AreOf, IsOf}
 use Rattle.vx_check.specs.Failing.{speaks, spoken}
 use Rattle.vx_check.specs.Finding.{AreFound, FindsAt, FindsIn, FindsMissed, HasFound, IsCounted, IsScope, IsSound, in_some}
-use Rattle.vx_check.specs.Lines.{AreEnded, AreKnownEnds, AreTold, IsEnded, is_good_here, told_here}
+use Rattle.vx_check.specs.Lines.{AreEnded, AreKnownEnds, IsEnded, is_good_here, told_here}
 use Rattle.vx_check.specs.Text.{IsChecked}
-use Rattle.vx_check.specs.Ways.{Ending, IsSortedOf, IsWayTold, Way, endings, is_good, number_of, told_of, way_by, ways_by, ways_missed, ways_of}
+use Rattle.vx_check.specs.Ways.{Ending, IsSortedOf, Way, endings, is_good, number_of, told_all, told_of, way_by, ways_by, ways_missed, ways_of}
 use Rattle.vx_check.specs.declared.ended.Ended.{Ended}
 use Rattle.vx_check.specs.declared.expected.Expectation.{Expectation}
 use Rattle.vx_check.specs.declared.finding.Finding.{Finding}
@@ -68,8 +67,8 @@ good_same : {I : Type 0} {s : Sets I} (ending : Ending) (e : Ended I) (line : Op
 good_same ending e None h = h.passes
 good_same ending e (Some line) h = ap (λ text. begin line.end (words text)) h.words
 
-told_same : {I : Type 0} {s : Sets I} (r : Report) (scope way : I) (ending : Ending) (e : Ended I) (line : Option ℕ) (has : List Bool → Bool) (rule : Option Rule) → IsScope s r scope → IsEnded s ending e → IsSet s way has → told_here s e line way rule ≡ told_of r (record { ending = ending; line = line; has = has }) rule
-told_same {I} {s} r scope way ending e line has rule sc h w =
+told_same : {I : Type 0} {s : Sets I} (r : Report) (scope way : I) (ending : Ending) (e : Ended I) (line : Option ℕ) (has : List Bool → Bool) → IsScope s r scope → IsEnded s ending e → IsSet s way has → told_here s scope e line way ≡ told_of r (record { ending = ending; line = line; has = has })
+told_same {I} {s} r scope way ending e line has sc h w =
     let o : s.options ≡ length r.options = sym sc.options in
     λ i. map (λ c. record {
       rank = h.rank i;
@@ -78,7 +77,7 @@ told_same {I} {s} r scope way ending e line has rule sc h w =
       line = line;
       number = number (o i) (λ d. w.test d i);
       example = c;
-      rule = rule;
+      rule = rule_within (o i) (λ d. w.test d i) (λ d. sc.set.test d i);
     }) (first_settings 1 (o i) (λ d. w.test d i))
 
 -- a good end has no way
@@ -94,26 +93,21 @@ or_false false = refl
 
 -- another end has one
 pub found_one : {I : Type 0} {s0 s1 s2 s3 : Sets I} (scope : I) (ended : Ended I) (line : Option Expectation) (set way joined : I) (f f' : Finding I) → Extends s0 s1 → Extends s1 s2 → Extends s2 s3 → IsKnown s0 f.failing → is_good_here ended line ≡ false
-    → IsSet s1 way (λ c. s0.test ended.set c && s0.test set c) → IsSet s2 joined (λ c. s1.test f.failing c || s1.test way c) → f'.failing ≡ joined → AreTold s2 scope ended (number_of line) way f.told.items f'.told.items → FindsAt s0 s3 scope ended line set f f'
+    → IsSet s1 way (λ c. s0.test ended.set c && s0.test set c) → IsSet s2 joined (λ c. s1.test f.failing c || s1.test way c) → f'.failing ≡ joined → f'.told.items ≡ f.told.items ++ told_here s2 scope ended (number_of line) way → FindsAt s0 s3 scope ended line set f f'
 found_one {I} {s0} {s1} {s2} {s3} scope ended line set way joined f f' x y z known bad hw hj same told r ending has ways sc h hs found =
     let w : Way = record { ending = ending; line = number_of line; has = λ c. ending.has c && has c } in
     let b : is_good line ending.end ≡ false = sym (good_same ending ended line h) ∙ bad in
     let more : ways ++ way_by line has ending ≡ ways ++ w ∷ [] = ap (λ t. ways ++ (if t then [] else w ∷ [])) b in
     let way_is : IsSet s1 way w.has = record { known = hw.known; test = λ c. hw.test c ∙ (λ i. h.set.test c i && hs.test c i) } in
     let after : Extends s0 s2 = Extends-trans x y in
-    let later = IsScope-extends after r scope sc in
-    let here = IsSet-extends y way w.has way_is in
-    let one : IsWayTold r w (told_here s2 ended (number_of line) way told.rule) = record {
-      rule = told.rule;
-      right = right_of_sets (length r.options) way scope w.has (has_end r) told.rule later.options here later.set told.right;
-      told = told_same r scope way ending ended (number_of line) w.has told.rule later (IsEnded-extends after ending ended h) here;
-    } in
+    let told_is : told_here s2 scope ended (number_of line) way ≡ told_of r w = told_same r scope way ending ended (number_of line) w.has (IsScope-extends after r scope sc) (IsEnded-extends after ending ended h) (IsSet-extends y way w.has way_is) in
+    let one : told_all r (w ∷ []) ≡ told_of r w = append-nil (told_of r w) in
     let joined_is : (c : List Bool) → s2.test joined c ≡ in_some (ways ++ w ∷ []) c = λ c.
     hj.test c
     ∙ (λ i. (x.test f.failing c known ∙ found.failing.test c) i || (way_is.test c ∙ sym (or_false (w.has c))) i)
     ∙ sym (list_any-append (λ (v : Way). v.has c) ways (w ∷ [])) in
     subst (λ ws. AreFound s3 r ws f') (sym more) (record {
-      told = AreInTurn-append (IsWayTold r) ways (w ∷ []) f.told.items _ f'.told.items found.told (AreInTurn-one (IsWayTold r) w _ one) told.told;
+      told = told ∙ (λ i. found.told i ++ (told_is ∙ sym one) i) ∙ sym (flat_map-append (told_of r) ways (w ∷ []));
       failing = subst (λ id. IsSet s3 id (in_some (ways ++ w ∷ []))) (sym same) (record { known = z.known joined hj.known; test = λ c. z.test joined c hj.known ∙ joined_is c });
     })
 
@@ -225,7 +219,7 @@ LeadsMissed-spoken {I} {s0} {s} scope ends expected rest spoke f0 f none h = rec
 
 pub has_found : {I : Type 0} {s0 s1 s2 s3 : Sets I} → IsLawful s0 → (scope : I) (ends : List (Ended I)) (expected : List Expectation) (spoke unspoken : I) (f0 f1 f2 : Finding I) → Extends s0 s1 → Extends s1 s2 → f0.told.items ≡ [] → f0.failing ≡ s0.never → FindsMissed s0 s1 scope ends expected f0 f1 → IsSet s1 spoke (spoken expected) → IsSet s2 unspoken (λ c. s1.test s1.always c && not (s1.test spoke c)) → IsLawful s1 → FindsIn s2 s3 scope ends None unspoken f1 f2 → HasFound s0 s3 scope ends expected f2
 has_found {I} {s0} {s1} {s2} {s3} lawful scope ends expected spoke unspoken f0 f1 f2 x y told never missed hs hu lawful1 rest r sc h =
-    let none : AreFound s0 r [] f0 = record { told = AreInTurn-none (IsWayTold r) f0.told.items told; failing = subst (λ id. IsSet s0 id (in_some [])) (sym never) (record { known = lawful.never_known; test = lawful.never_test }) } in
+    let none : AreFound s0 r [] f0 = record { told = told; failing = subst (λ id. IsSet s0 id (in_some [])) (sym never) (record { known = lawful.never_known; test = lawful.never_test }) } in
     let first = missed r [] sc h none in
     let all = Extends-trans x y in
     let u : IsSet s2 unspoken (λ c. not (spoken expected c)) = record { known = hu.known; test = λ c. hu.test c ∙ (λ i. lawful1.always_test c i && not (hs.test c i)) } in
@@ -256,38 +250,31 @@ first_alone k test items rest (Some c) before after e f l m = sym (only_one k te
 first_alone k test items [] None before after e f l m = sym f ∙ e
 first_alone k test items (x ∷ rest) None before after e f l m = absurd (omega (arith, l, m.1))
 
-pub told_none : {I : Type 0} (s : Sets I) (scope : I) (e : Ended I) (line : Option ℕ) (set : I) (told : List Told) → first_settings 1 s.options (s.test set) ≡ [] → AreTold s scope e line set told told
-told_none s scope e line set told none = record {
-  rule = None;
-  right = tt;
-  told = sym (append-nil told) ∙ ap (λ cs. told ++ map (λ c. record {
-    rank = e.rank;
-    place = e.place;
-    end = e.words;
-    line = line;
-    number = number s.options (s.test set);
-    example = c;
-    rule = None;
-  }) cs) (sym none);
-}
+pub told_none : {I : Type 0} (s : Sets I) (scope : I) (e : Ended I) (line : Option ℕ) (set : I) (told : List Told) → first_settings 1 s.options (s.test set) ≡ [] → told ≡ told ++ told_here s scope e line set
+told_none s scope e line set told none = sym (append-nil told) ∙ ap (λ cs. told ++ map (λ c. record {
+  rank = e.rank;
+  place = e.place;
+  end = e.words;
+  line = line;
+  number = number s.options (s.test set);
+  example = c;
+  rule = rule_within s.options (s.test set) (s.test scope);
+}) cs) (sym none)
 
-pub told_one : {I : Type 0} (s : Sets I) (scope : I) (e : Ended I) (line : Option ℕ) (set : I) (told told' : List Told) (c : List Bool) (n : ℕ) (rule : Option Rule) (end : List ℕ) → first_settings 1 s.options (s.test set) ≡ c ∷ [] → n ≡ number s.options (s.test set) → IfSome rule (IsRuleWithin s.options (s.test set) (s.test scope)) → end ≡ e.words
-    → told' ≡ told ++ record { rank = e.rank; place = e.place; end = end; line = line; number = n; example = c; rule = rule } ∷ [] → AreTold s scope e line set told told'
-told_one s scope e line set told told' c n rule end found m right w more = record {
-  rule = rule;
-  right = right;
-  told = more
-      ∙ (λ i. told ++ record { rank = e.rank; place = e.place; end = w i; line = line; number = m i; example = c; rule = rule } ∷ [])
-      ∙ ap (λ cs. told ++ map (λ d. record {
-        rank = e.rank;
-        place = e.place;
-        end = e.words;
-        line = line;
-        number = number s.options (s.test set);
-        example = d;
-        rule = rule;
-      }) cs) (sym found);
-}
+pub told_one : {I : Type 0} (s : Sets I) (scope : I) (e : Ended I) (line : Option ℕ) (set : I) (told told' : List Told) (c : List Bool) (n : ℕ) (rule : Option (List (List Literal))) (end : List ℕ) → first_settings 1 s.options (s.test set) ≡ c ∷ [] → n ≡ number s.options (s.test set) → rule ≡ rule_within s.options (s.test set) (s.test scope) → end ≡ e.words
+    → told' ≡ told ++ record { rank = e.rank; place = e.place; end = end; line = line; number = n; example = c; rule = rule } ∷ [] → told' ≡ told ++ told_here s scope e line set
+told_one s scope e line set told told' c n rule end found m r w more =
+    more
+    ∙ (λ i. told ++ record { rank = e.rank; place = e.place; end = w i; line = line; number = m i; example = c; rule = r i } ∷ [])
+    ∙ ap (λ cs. told ++ map (λ d. record {
+      rank = e.rank;
+      place = e.place;
+      end = e.words;
+      line = line;
+      number = number s.options (s.test set);
+      example = d;
+      rule = rule_within s.options (s.test set) (s.test scope);
+    }) cs) (sym found)
 
 -- ---- the whole
 
@@ -300,7 +287,5 @@ checks {I} {s0} {s1} {s2} r expected scope ends f checked o x y h ended found co
     record {
       of = counted.of ∙ (λ i. number (there i) (λ c. scoped.test c i));
       failing = counted.failing ∙ (λ i. number (there i) (λ c. (all.failing.test c ∙ in_some_fails r expected c) i));
-      found = f.told.items;
-      all = all.told;
-      told = counted.told;
+      told = subst (λ ts. IsSortedOf ts checked.told) all.told counted.told;
     }

@@ -6,3 +6,4 @@ pub mod Names
 pub mod Numbers
 pub mod Plain
 pub mod Reading
+pub mod Rules

@@ -19,7 +19,7 @@ number_one test = by (test []) refl
 zero_of : (options : ℕ) (test : List Bool → Bool) → number options test ≡ 0 → (c : List Bool) → length c ≡ options → test c ≡ false
 zero_of zero test e [] l = by (test []) (sym (number_one test) ∙ e)
   where
-    by : (t : Bool) → (if t then 1 else 0) ≡ 0 → t ≡ false
+    by : (t : Bool) → (if t then suc zero else zero) ≡ zero → t ≡ false
     by true e = absurd (omega (arith, e))
     by false e = refl
 zero_of zero test e (v ∷ c) l = absurd (omega (arith, l))

@@ -9,7 +9,7 @@ use Rattle.vx_cover.specs.Covers.{has_end}
 use Rattle.vx_count.specs.Memo.{AreNumbers}
 use Rattle.vx_check.specs.Lines.{AreEnded, IsEnded}
 use Rattle.vx_count.specs.Settings.{number}
-use Rattle.vx_check.specs.Ways.{AreWaysTold, Ending, IsSortedOf, Way, endings, way_by, ways_missed, ways_of}
+use Rattle.vx_check.specs.Ways.{Ending, IsSortedOf, Way, endings, told_all, way_by, ways_missed, ways_of}
 use Rattle.vx_check.specs.declared.ended.Ended.{Ended}
 use Rattle.vx_check.specs.declared.expected.Expectation.{Expectation}
 use Rattle.vx_check.specs.declared.finding.Finding.{Finding}
@@ -31,7 +31,7 @@ pub record IsSound {I : Type 0} (sets : Sets I) (cmp : I → I → Ordering) (fi
 
 -- some ways to fail were told, and joined
 pub record AreFound {I : Type 0} (sets : Sets I) (r : Report) (ways : List Way) (finding : Finding I) : Type 0 where
-  pub told : AreWaysTold r ways finding.told.items
+  pub told : finding.told.items ≡ told_all r ways
   pub failing : IsSet sets finding.failing (in_some ways)
 
 -- the way of one end in a set is found behind those before

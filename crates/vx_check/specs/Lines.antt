@@ -1,13 +1,12 @@
 -- The ends of a report with their words and sets.
-use Rattle.std.specs.Prelude.{◌≡◌, ℕ, Bool, List, [], ◌∷◌, ◌++◌, map, Option, Some, None, IfSome}
+use Rattle.std.specs.Prelude.{◌≡◌, ℕ, Bool, List, [], ◌∷◌, map, Option, Some, None}
 use Rattle.vx_space.specs.Sets.{Sets, IsKnown, IsSet}
 use Rattle.vx_report.specs.declared.report.EndLine.{EndLine}
 use Rattle.vx_report.specs.Lines.{end_words}
 use Rattle.vx_words.specs.Lines.{words}
 use Rattle.vx_count.specs.Listed.{first_settings}
 use Rattle.vx_count.specs.Settings.{number}
-use Rattle.vx_explain.specs.Scopes.{IsRuleWithin}
-use Rattle.vx_explain.specs.declared.rule.Rule.{Rule}
+use Rattle.vx_explain.specs.Scopes.{rule_within}
 use Rattle.vx_check.specs.Ends.{begin, passes, rank}
 use Rattle.vx_check.specs.Ways.{Ending}
 use Rattle.vx_check.specs.declared.ended.Ended.{Ended}
@@ -41,20 +40,14 @@ abbrev pub is_good_here : {I : Type 0} → Ended I → Option Expectation → Bo
 is_good_here e None = e.passes
 is_good_here e (Some line) = begin line.end (words e.words)
 
--- what is told of the configurations of a set, with this rule
-abbrev pub told_here : {I : Type 0} → Sets I → Ended I → Option ℕ → I → Option Rule → List Told
-told_here sets e line set rule = map (λ c. record {
+-- what is told of the configurations of a set
+abbrev pub told_here : {I : Type 0} → Sets I → I → Ended I → Option ℕ → I → List Told
+told_here sets scope e line set = map (λ c. record {
   rank = e.rank;
   place = e.place;
   end = e.words;
   line = line;
   number = number sets.options (sets.test set);
   example = c;
-  rule = rule;
+  rule = rule_within sets.options (sets.test set) (sets.test scope);
 }) (first_settings 1 sets.options (sets.test set))
-
--- the configurations of a set are told behind others, with a rule that is right in a scope
-pub record AreTold {I : Type 0} (sets : Sets I) (scope : I) (e : Ended I) (line : Option ℕ) (set : I) (old new : List Told) : Type 0 where
-  pub rule : Option Rule
-  pub right : IfSome rule (IsRuleWithin sets.options (sets.test set) (sets.test scope))
-  pub told : new ≡ old ++ told_here sets e line set rule

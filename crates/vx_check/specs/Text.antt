@@ -5,10 +5,10 @@ use Rattle.vx_report.specs.declared.report.Report.{Report}
 use Rattle.vx_cover.specs.Covers.{has_end}
 use Rattle.vx_cover.specs.Text.{configuration_text}
 use Rattle.vx_count.specs.Settings.{number}
-use Rattle.vx_explain.specs.declared.rule.Rule.{Rule}
-use Rattle.vx_explain.specs.Text.{spelled_rule}
+use Rattle.vx_explain.specs.declared.literal.Literal.{Literal}
+use Rattle.vx_explain.specs.Text.{rule_text}
 use Rattle.vx_check.specs.Failing.{failing}
-use Rattle.vx_check.specs.Ways.{AreWaysTold, IsSortedOf, ways_of}
+use Rattle.vx_check.specs.Ways.{IsSortedOf, told_all, ways_of}
 use Rattle.vx_check.specs.declared.expected.Expectation.{Expectation}
 use Rattle.vx_check.specs.declared.told.Told.{Told}
 use Rattle.vx_check.specs.declared.told.Checked.{Checked}
@@ -19,9 +19,9 @@ number_text None = codes "-"
 number_text (Some n) = decimal n
 
 -- the rule; a dash where there is no short one
-abbrev pub given_text : List (List ℕ) → Option Rule → List ℕ
+abbrev pub given_text : List (List ℕ) → Option (List (List Literal)) → List ℕ
 given_text names None = codes "-"
-given_text names (Some rule) = spelled_rule names rule
+given_text names (Some terms) = rule_text names terms
 
 -- how many, one of them, the line, the end and the rule
 abbrev pub told_line : List (List ℕ) → Told → List ℕ
@@ -34,9 +34,7 @@ checked_text names checked = codes "varexj check 1\nof " ++ decimal checked.of +
 pub record IsChecked (r : Report) (expected : List Expectation) (checked : Checked) : Type 0 where
   pub of : checked.of ≡ number (length r.options) (has_end r)
   pub failing : checked.failing ≡ failing r expected
-  pub found : List Told
-  pub all : AreWaysTold r (ways_of r expected) found
-  pub told : IsSortedOf found checked.told
+  pub told : IsSortedOf (told_all r (ways_of r expected)) checked.told
 
 -- the text is that of a check of a report
 pub record IsCheckText (r : Report) (expected : List Expectation) (text : List ℕ) : Type 0 where

@@ -1,5 +1,5 @@
 -- The ways in which configurations fail, and what is told of each.
-use Rattle.std.specs.Prelude.{◌≡◌, ℕ, suc, Bool, not, ◌&&◌, List, [], ◌∷◌, ◌++◌, length, map, Option, Some, None, IfSome, option_map, if◌then◌else◌}
+use Rattle.std.specs.Prelude.{ℕ, suc, Bool, not, ◌&&◌, List, [], ◌∷◌, ◌++◌, length, map, Option, Some, None, option_map, if◌then◌else◌}
 use Rattle.std.specs.List.{flat_map}
 use Rattle.std.specs.List.Sorted.{IsPermutation, IsSortedBy, IsStableBy}
 use Rattle.std.specs.Ordering.{is_lt, nat_cmp, ordering_then}
@@ -11,9 +11,7 @@ use Rattle.vx_report.specs.Lines.{end_words}
 use Rattle.vx_cover.specs.Covers.{has_end, has_this_end}
 use Rattle.vx_count.specs.Listed.{first_settings}
 use Rattle.vx_count.specs.Settings.{number}
-use Rattle.vx_explain.specs.Scopes.{IsRuleWithin}
-use Rattle.vx_explain.specs.Turns.{AreInTurn}
-use Rattle.vx_explain.specs.declared.rule.Rule.{Rule}
+use Rattle.vx_explain.specs.Scopes.{rule_within}
 use Rattle.vx_check.specs.Ends.{fits, passes, rank}
 use Rattle.vx_check.specs.Failing.{spoken}
 use Rattle.vx_check.specs.declared.expected.Expectation.{Expectation}
@@ -60,27 +58,20 @@ ways_missed r expected = flat_map (λ line. ways_by r (Some line) (is_allowed li
 abbrev pub ways_of : Report → List Expectation → List Way
 ways_of r expected = ways_missed r expected ++ ways_by r None (λ c. not (spoken expected c))
 
--- what is told of a way, with this rule and the first configuration that fails so; nothing where there is none
-abbrev pub told_of : Report → Way → Option Rule → List Told
-told_of r way rule = map (λ c. record {
+-- what is told of a way, with the first configuration that fails so; nothing where there is none
+abbrev pub told_of : Report → Way → List Told
+told_of r way = map (λ c. record {
   rank = rank way.ending.end;
   place = way.ending.place;
   end = end_words way.ending.end;
   line = way.line;
   number = number (length r.options) way.has;
   example = c;
-  rule = rule;
+  rule = rule_within (length r.options) way.has (has_end r);
 }) (first_settings 1 (length r.options) way.has)
 
--- a way is told, with a rule that is right among the configurations that have an end, or none
-pub record IsWayTold (r : Report) (way : Way) (part : List Told) : Type 0 where
-  pub rule : Option Rule
-  pub right : IfSome rule (IsRuleWithin (length r.options) way.has (has_end r))
-  pub told : part ≡ told_of r way rule
-
--- ways are told one after the other
-abbrev pub AreWaysTold : Report → List Way → List Told → Type 0
-AreWaysTold r ways told = AreInTurn (IsWayTold r) ways told
+abbrev pub told_all : Report → List Way → List Told
+told_all r ways = flat_map (told_of r) ways
 
 -- worse ends come first, then what more configurations have, then what stands first in the report
 abbrev pub comes_before : Told → Told → Bool

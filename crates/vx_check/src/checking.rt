@@ -22,7 +22,6 @@ use std::collections::BTreeMap;
 use vx_bdd_tools::sets_of;
 use vx_count::count_of;
 use vx_cover::{ended, first_ends};
-use vx_explain::Shares;
 use vx_list::Items;
 use vx_model::allowed;
 use vx_report::Report;
@@ -74,7 +73,6 @@ fn find_all<S: Space>(
         numbers: BTreeMap::new(alloc),
         told: Vec::new(alloc),
         failing: space.never(),
-        shares: Shares::of(1),
     };
     let spoken = find_missed(alloc, space, &mut finding, scope, ends, expected)?;
     let always = space.always();
@@ -105,7 +103,6 @@ fn checked<S: Space>(
         mut numbers,
         mut told,
         failing,
-        shares: _,
     } = finding;
     let of = count_of(space, &mut numbers, scope)?;
     let failing = count_of(space, &mut numbers, failing)?;

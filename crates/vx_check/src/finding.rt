@@ -1,12 +1,13 @@
 //! Finding the configurations that fail, one way after the other.
 
-ghost use Rattle.std.specs.Prelude.{◌≡◌, IfOk, OnOk, option_copied, option_to_list};
+ghost use Rattle.std.specs.Prelude.{◌≡◌, ◌++◌, IfOk, OnOk, option_copied, option_to_list};
 ghost use Rattle.std.specs.BTreeMap.{get};
 ghost use Rattle.vx_space.specs.Sets.{Extends, IsKnown};
 ghost use Rattle.vx_count.specs.Listed.{first_settings};
 ghost use Rattle.vx_count.specs.Memo.{AreNumbers};
+ghost use Rattle.vx_explain.specs.Scopes.{rule_within};
 ghost use Rattle.vx_check.specs.Finding.{FindsAt, FindsIn, IsSound};
-ghost use Rattle.vx_check.specs.Lines.{AreKnownEnds, AreTold, is_good_here};
+ghost use Rattle.vx_check.specs.Lines.{AreKnownEnds, is_good_here, told_here};
 ghost use Rattle.vx_check.specs.Ways.{number_of};
 
 use crate::ended::Ended;
@@ -16,7 +17,8 @@ use crate::told::Told;
 use std::alloc::{AllocError, Global};
 use std::collections::BTreeMap;
 use vx_count::{count_of, firsts};
-use vx_explain::{Shares, rule_within};
+use vx_explain::{Term, bounds, few_terms};
+use vx_list::Items;
 use vx_space::{Config, Space, SpaceFault};
 use vx_value::Name;
 
@@ -28,8 +30,22 @@ pub struct Finding<I: Ord> {
     pub told: Vec<Told>,
     /// The configurations of all ways that were told.
     pub failing: I,
-    /// The work that is left for rules.
-    pub shares: Shares,
+}
+
+/// The rule of a set within a scope, if it is short.
+fn rule_of<S: Space>(
+    alloc: Global,
+    space: &mut S,
+    set: S::Id,
+    scope: S::Id,
+) -> Result<Option<Items<Term>>, SpaceFault>
+    requires set { IsKnown (S.sets space.old) set }
+    requires scope { IsKnown (S.sets space.old) scope }
+    ensures extends { Extends (S.sets space.old) (S.sets space.new) }
+    ensures rule { IfOk result (λ r. r ≡ rule_within (S.sets space.old).options ((S.sets space.old).test set) ((S.sets space.old).test scope)) }
+{
+    let bounds = bounds(space, set, scope)?;
+    few_terms(alloc, space, bounds.0, bounds.1)
 }
 
 /// The first setting of a set, if there is one.
@@ -58,14 +74,14 @@ fn push_told<S: Space>(
     ensures extends { Extends (S.sets space.old) (S.sets space.new) }
     ensures numbers { OnOk result (AreNumbers (S.sets space.new) (get S.Id.cmp finding.new.numbers)) }
     ensures failing { OnOk result (finding.new.failing ≡ finding.old.failing) }
-    ensures told { OnOk result (AreTold (S.sets space.old) scope ended.now line set finding.old.told.items finding.new.told.items) }
+    ensures told { OnOk result (finding.new.told.items ≡ finding.old.told.items ++ told_here (S.sets space.old) scope ended.now line set) }
 {
     let found = first(alloc, space, set)?;
     let Some(example) = found else {
         return Ok(());
     };
     let number = count_of(space, &mut finding.numbers, set)?;
-    let rule = rule_within(alloc, space, &mut finding.shares, set, scope)?;
+    let rule = rule_of(alloc, space, set, scope)?;
     let end = Name::of(alloc, ended.words.bytes())?;
     finding.told.push(Told {
         rank: ended.rank,

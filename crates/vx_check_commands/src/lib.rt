@@ -1,11 +1,8 @@
-//! The work of the commands `check` and `compare`, each of which ends with a status of its own where a configuration fails, or is told
-//! differently.
+//! The work of the command `check`, which ends with a status of its own where a configuration fails.
 #![tactic(auto)]
 
 mod check;
-mod compare;
 mod words;
 
 pub use check::check_of;
-pub use compare::compare_of;
-pub use words::{CheckWords, CompareWords};
+pub use words::CheckWords;

@@ -19,7 +19,7 @@ not_allowed_alone (Some text) status e = cc
 
 -- whatever the plan of `project` gave is shown by the files
 pub project_shows : (old new : FilesState) (path word : List ℕ) (outcome : Outcome) → MayGive old.held old.faults new.faults (project_plan path word) outcome → Shows old new (Project path word) outcome
-project_shows old new path word (Ok text) g = said_shows (λ r. projected r word) (λ r. not_allowed_alone _) old new path (Ok text) g
+project_shows old new path word (Ok text) g = inl (said_shows (λ r. projected r word) (λ r. not_allowed_alone _) old new path (Ok text) g)
 project_shows old new path word (Err status) g = said_shows (λ r. projected r word) (λ r. not_allowed_alone _) old new path (Err status) g
 
 pub project_completes : (old new : FilesState) (out out' : SinkState) (path word : List ℕ) (held : Held) (status : Status) → old.held ≡ Some held → IsGood held (Project path word) → NothingFails held old new out out' (Project path word)
@@ -34,7 +34,7 @@ project_completes old new out out' path word held status told good fails shown =
 
 -- whatever the plan of `output` gave is shown by the files
 pub output_shows : (old new : FilesState) (path word : List ℕ) (stream : Stream) (outcome : Outcome) → MayGive old.held old.faults new.faults (output_plan path word stream) outcome → Shows old new (Output path word stream) outcome
-output_shows old new path word stream (Ok text) g = said_shows (λ r. printed r stream word) (λ r. not_allowed_alone _) old new path (Ok text) g
+output_shows old new path word stream (Ok text) g = inl (said_shows (λ r. printed r stream word) (λ r. not_allowed_alone _) old new path (Ok text) g)
 output_shows old new path word stream (Err status) g = said_shows (λ r. printed r stream word) (λ r. not_allowed_alone _) old new path (Err status) g
 
 pub output_completes : (old new : FilesState) (out out' : SinkState) (path word : List ℕ) (stream : Stream) (held : Held) (status : Status) → old.held ≡ Some held → IsGood held (Output path word stream) → NothingFails held old new out out' (Output path word stream)

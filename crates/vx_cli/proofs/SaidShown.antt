@@ -39,7 +39,7 @@ said_shows said alone old new path outcome g = by_file (report_shows old new pat
         let is = alone report bad.0 bad.1 in
         refused NotAllowed (bad.2 ∙ ap Err is) (told_map old.held _ _ (λ held h. (report, h, bad.1 ∙ ap Err is)) told)
     by_text report told (inr good) =
-        rw good.2.2 (inl (refl, told_map old.held _ _ (λ held h. record { report = report; is_report = h; is_text = good.1 ∙ ap Ok (sym good.2.1) }) told))
+        rw good.2.2 (refl, told_map old.held _ _ (λ held h. record { report = report; is_report = h; is_text = good.1 ∙ ap Ok (sym good.2.1) }) told)
 
     by_file : ReportShows old new path (say_report said) outcome → SaidShows said old new path outcome
     by_file (inl fault) = refused (ReadFault path) fault.1 (refl, fault.0)

@@ -1,5 +1,7 @@
 //! Overviews of models whose configurations were counted by hand, and remarks on comments of DIMACS.
 
+ghost use Rattle.vx_model.specs.Models.{IsModel};
+
 use std::alloc::Global;
 use std::test::Fail;
 use vx_bdd::BddSpace;
@@ -7,7 +9,9 @@ use vx_model::{Model, allowed, read_model};
 use vx_overview::{put_overview, put_remarks};
 
 /// The overview of a model.
-fn overview(alloc: Global, model: &Model) -> Result<Vec<u8>, Fail> {
+fn overview(alloc: Global, model: &Model) -> Result<Vec<u8>, Fail>
+    requires { IsModel model.now }
+{
     let mut space = BddSpace::new(alloc, model.options.len() as u32)?;
     let set = allowed(&mut space, model)?;
     let mut text = Vec::new(alloc);

@@ -42,5 +42,6 @@ pub(crate) fn linked(alloc: Global, source: &[u8]) -> Result<Program, Fail>
     let core = core(alloc)?;
     let model = read_model(alloc, b"")?;
     linked_are_bounded();
-    Ok(link(alloc, classes, core, &model, b"Main")?)
+    let program = link(alloc, classes, core, &model, b"Main")?;
+    Ok(program)
 }

@@ -1,11 +1,7 @@
-mod Choosing
 mod Cycle
-mod Explaining
+pub mod Explaining
 mod Halves
 pub mod Printed
-mod Rejoined
-mod Sums
+pub mod Sums
 mod TermSets
-mod Truths
-pub mod Turns
-pub mod Within
+pub mod Truths

@@ -1,5 +1,6 @@
 -- The terms between two known sets of a space, put together from those of the sides of an option.
-use Rattle.std.proofs.Common.{◌≡◌, ◌≢◌, ◌⊎◌, inl, inr, ℕ, ◌+◌, ◌-◌, ◌<◌, ◌≤◌, suc, Bool, true, false, List, [], ◌∷◌, ◌++◌, length, map, refl, sym, ◌∙◌, ap, subst, arith, append_assoc, append-nil}
+use Rattle.std.proofs.Common.{◌≡◌, ◌≢◌, ◌⊎◌, inl, inr, ℕ, ◌+◌, ◌-◌, ◌<◌, ◌≤◌, suc, Bool, true, false, List, [], ◌∷◌, ◌++◌, length, map, refl, sym, ◌∙◌, ap, subst, arith, append_assoc, append-nil, length-append}
+use Rattle.std.proofs.lemmas.List.{length-map}
 use Rattle.std.specs.Prelude.{◌&&◌, ◌||◌, not, if◌then◌else◌}
 use Rattle.vx_space.specs.Config.{value_of, with_option}
 use Rattle.vx_space.specs.Sets.{Sets, IsLawful, IsSet, Extends}
@@ -10,7 +11,7 @@ use Rattle.vx_bdd_tools.specs.Steps.{IsFreeBelow}
 use Rattle.vx_bdd_tools.proofs.NodeSets.{order_cases}
 use Rattle.vx_bdd_tools.proofs.Walks.{part_free}
 use Rattle.vx_explain.specs.declared.literal.Literal.{Literal}
-use Rattle.vx_explain.specs.Between.{AreParts, ArePut, IsFirst, IsWithin, outside, side_terms_from, terms_between, terms_from, with_literal}
+use Rattle.vx_explain.specs.Between.{AreMany, AreParts, ArePut, IsFirst, IsWithin, outside, side_terms_from, terms_between, terms_from, with_literal}
 use Rattle.vx_explain.specs.Rules.{some_term_holds}
 use Rattle.vx_explain.proofs.Sums.{AsksFrom, AsksFrom-free, AsksValues, joined, joined_holds, left_over, left_within, none_between, off_terms, on_both, on_terms, pass_to, terms_free, unfold_terms, whole_between}
 
@@ -61,6 +62,11 @@ ArePut-whole {I} {s} lawful path first least most id old new l k f n w e a m =
       set_is = record { known = ap s.is_known a ∙ lawful.always_known; test = λ c. ap (λ x. s.test x c) a ∙ lawful.always_test c };
       more = m ∙ ap (λ t. old ++ t ∷ []) (sym (append-nil path));
     })
+
+pub many-whole : {I : Type 0} {s : Sets I} → IsLawful s → (first : ℕ) (least most : I) (old : List (List Literal)) → first ≤ s.options → s.is_known least ≡ true → IsFreeBelow s least first → least ≢ s.never → IsWithin s least most → (most ≡ s.never) ⊎ (most ≡ s.always) → 32 ≤ length old → AreMany (terms_from s first least most) old
+many-whole {I} {s} lawful first least most old l k f n w e m =
+    let count : length (terms_from s first least most) ≡ 1 = ap (λ (ts : List (List Literal)). length ts) (whole_terms lawful first least most l k f n w e) in
+    omega (arith, m, count)
 
 -- ---- from the first option that is asked
 
@@ -248,3 +254,46 @@ ArePut-all {I} {s0} {s1} {s2} {s3} {s4} {s5} {s6} path option least most l0 l1 m
       };
       more = all_behind path option off on left t0 t1 t2 t3 (p0.more ∙ ap (λ ts. t0 ++ map (λ term. (path ++ record { option = option; on = false } ∷ []) ++ term) ts) e_off) (p1.more ∙ ap (λ ts. t1 ++ map (λ term. (path ++ record { option = option; on = true } ∷ []) ++ term) ts) e_on) (p2.more ∙ ap (λ ts. t2 ++ map (λ term. path ++ term) ts) e_left);
     })
+
+-- ---- where there are too many
+
+length_joined : (option : ℕ) (off on rest : List (List Literal)) → length (joined option off on rest) ≡ length off + length on + length rest
+length_joined option off on rest =
+    length-append (with_literal option false off ++ with_literal option true on) rest
+    ∙ ap (λ n. n + length rest) (length-append (with_literal option false off) (with_literal option true on) ∙ (λ i. length-map off (λ (term : List Literal). record { option = option; on = false } ∷ term) i + length-map on (λ (term : List Literal). record { option = option; on = true } ∷ term) i))
+
+pub many-low : {I : Type 0} {s0 : Sets I} (option : ℕ) (least most l0 l1 m0 m1 : I) (t0 : List (List Literal)) → option < s0.options → AreParts s0 least option l0 l1 → AreParts s0 most option m0 m1 → AreMany (side_terms_from s0 (option + 1) l0 m1 m0) t0 → AreMany (terms_from s0 option least most) t0
+many-low {I} {s0} option least most l0 l1 m0 m1 t0 l p q m =
+    let off = low_terms s0 option least most in
+    let on = high_terms s0 option least most in
+    let rest = rest_terms s0 option least most in
+    let count : length (terms_from s0 option least most) ≡ length off + length on + length rest = ap (λ (ts : List (List Literal)). length ts) (all_terms s0 option least most l) ∙ length_joined option off on rest in
+    let same : length (side_terms_from s0 (option + 1) l0 m1 m0) ≡ length off = ap (λ (ts : List (List Literal)). length ts) (low_same s0 option least most l0 l1 m0 m1 p q) in
+    omega (arith, m, count, same)
+
+put_length : {I : Type 0} {s : Sets I} (path : List Literal) (terms old new : List (List Literal)) (set : I) → ArePut s path terms old new set → length new ≡ length old + length terms
+put_length path terms old new set p = ap (λ (ts : List (List Literal)). length ts) p.more ∙ length-append old (map (λ term. path ++ term) terms) ∙ ap (λ n. length old + n) (length-map terms (λ (term : List Literal). path ++ term))
+
+pub many-high : {I : Type 0} {s0 s1 : Sets I} → Extends s0 s1 → (path : List Literal) (option : ℕ) (least most l0 l1 m0 m1 low : I) (t0 t1 : List (List Literal)) → option < s0.options → AreParts s0 least option l0 l1 → AreParts s0 most option m0 m1 → ArePut s1 path (side_terms_from s0 (option + 1) l0 m1 m0) t0 t1 low → AreMany (side_terms_from s1 (option + 1) l1 m0 m1) t1 → AreMany (terms_from s0 option least most) t0
+many-high {I} {s0} {s1} x path option least most l0 l1 m0 m1 low t0 t1 l p q put m =
+    let off = low_terms s0 option least most in
+    let on = high_terms s0 option least most in
+    let rest = rest_terms s0 option least most in
+    let count : length (terms_from s0 option least most) ≡ length off + length on + length rest = ap (λ (ts : List (List Literal)). length ts) (all_terms s0 option least most l) ∙ length_joined option off on rest in
+    let here : length (side_terms_from s0 (option + 1) l0 m1 m0) ≡ length off = ap (λ (ts : List (List Literal)). length ts) (low_same s0 option least most l0 l1 m0 m1 p q) in
+    let same : length (side_terms_from s1 (option + 1) l1 m0 m1) ≡ length on = ap (λ (ts : List (List Literal)). length ts) (high_same x option least most l0 l1 m0 m1 p q) in
+    let more = put_length path (side_terms_from s0 (option + 1) l0 m1 m0) t0 t1 low put in
+    omega (arith, m, count, here, same, more)
+
+pub many-rest : {I : Type 0} {s0 s1 s2 s3 s4 : Sets I} (path more : List Literal) (option : ℕ) (least most l0 l1 m0 m1 low high rest both : I) (t0 t1 t2 : List (List Literal)) → AreSplit s0 s1 s2 s3 s4 option least most l0 l1 m0 m1 low high rest both → ArePut s1 path (side_terms_from s0 (option + 1) l0 m1 m0) t0 t1 low → ArePut s2 more (side_terms_from s1 (option + 1) l1 m0 m1) t1 t2 high → AreMany (terms_from s4 (option + 1) rest both) t2 → AreMany (terms_from s0 option least most) t0
+many-rest {I} {s0} {s1} {s2} {s3} {s4} path more option least most l0 l1 m0 m1 low high rest both t0 t1 t2 h p0 p1 m =
+    let off = low_terms s0 option least most in
+    let on = high_terms s0 option least most in
+    let left = rest_terms s0 option least most in
+    let count : length (terms_from s0 option least most) ≡ length off + length on + length left = ap (λ (ts : List (List Literal)). length ts) (all_terms s0 option least most h.in_range) ∙ length_joined option off on left in
+    let here : length (side_terms_from s0 (option + 1) l0 m1 m0) ≡ length off = ap (λ (ts : List (List Literal)). length ts) (low_same s0 option least most l0 l1 m0 m1 h.least_parts h.most_parts) in
+    let there : length (side_terms_from s1 (option + 1) l1 m0 m1) ≡ length on = ap (λ (ts : List (List Literal)). length ts) (high_same h.x1 option least most l0 l1 m0 m1 h.least_parts h.most_parts) in
+    let behind : length (terms_from s4 (option + 1) rest both) ≡ length left = ap (λ (ts : List (List Literal)). length ts) (rest_same option least most l0 l1 m0 m1 low high rest both h) in
+    let grown = put_length path (side_terms_from s0 (option + 1) l0 m1 m0) t0 t1 low p0 in
+    let grown_more = put_length more (side_terms_from s1 (option + 1) l1 m0 m1) t1 t2 high p1 in
+    omega (arith, m, count, here, there, behind, grown, grown_more)

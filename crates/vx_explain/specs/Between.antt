@@ -1,11 +1,10 @@
 -- The terms for a set of which only the configurations in a scope count, so that it may be chosen between a least and a greatest set. A set is a test of a configuration.
-use Rattle.std.specs.Prelude.{◌≡◌, ◌⊎◌, ℕ, ◌+◌, ◌-◌, ◌<◌, ◌≤◌, zero, suc, Bool, true, false, not, ◌&&◌, ◌||◌, List, [], ◌∷◌, ◌++◌, length, map, if◌then◌else◌}
-use Rattle.std.specs.List.{AllByRecursion}
+use Rattle.std.specs.Prelude.{◌≡◌, ◌⊎◌, ℕ, ◌+◌, ◌-◌, ◌<◌, zero, suc, Bool, true, false, not, ◌&&◌, ◌||◌, List, [], ◌∷◌, ◌++◌, length, map, Option, Some, None, nat_le, if◌then◌else◌}
 use Rattle.vx_space.specs.Sets.{Sets, IsSet}
 use Rattle.vx_space.specs.Under.{Depends, fixed}
 use Rattle.vx_bdd_tools.specs.Steps.{IsFreeBelow}
 use Rattle.vx_explain.specs.declared.literal.Literal.{Literal}
-use Rattle.vx_explain.specs.Rules.{AreOf, literal_holds, some_literal_holds, some_term_holds}
+use Rattle.vx_explain.specs.Rules.{some_term_holds}
 
 -- each term with one literal more, at its front
 abbrev pub with_literal : ℕ → Bool → List (List Literal) → List (List Literal)
@@ -23,6 +22,10 @@ terms_between (suc later) option least most =
     let on = terms_between later (option + 1) (outside (fixed least option true) (fixed most option false)) (fixed most option true) in
     let rest = terms_between later (option + 1) (λ c. outside (fixed least option false) (some_term_holds off) c || outside (fixed least option true) (some_term_holds on) c) (λ c. fixed most option false c && fixed most option true c) in
     with_literal option false off ++ with_literal option true on ++ rest
+
+-- the terms, if there are at most 32
+abbrev pub if_few : List (List Literal) → Option (List (List Literal))
+if_few terms = if nat_le (length terms) 32 then Some terms else None
 
 -- those that all options from one on give for two sets
 abbrev pub terms_from : {I : Type 0} → Sets I → ℕ → I → I → List (List Literal)
@@ -53,27 +56,6 @@ pub record ArePut {I : Type 0} (sets : Sets I) (path : List Literal) (terms : Li
   pub set_is : IsSet sets set (some_term_holds terms)
   pub more : new ≡ old ++ map (λ term. path ++ term) terms
 
--- these are the terms between two sets, and they are few
-pub record IsTermsOf {I : Type 0} (sets : Sets I) (least most : I) (terms : List (List Literal)) : Type 0 where
-  pub few : length terms ≤ 32
-  pub are : terms ≡ terms_between sets.options 0 (sets.test least) (sets.test most)
-
--- few terms over so many options hold at least in one set and at most in another
-pub record AreBetween (options : ℕ) (least most : List Bool → Bool) (terms : List (List Literal)) : Type 0 where
-  pub few : length terms ≤ 32
-  pub named : AreOf options terms
-  pub above : (c : List Bool) → least c ≡ true → some_term_holds terms c ≡ true
-  pub below : (c : List Bool) → some_term_holds terms c ≡ true → most c ≡ true
-
--- Literals with no configuration outside of a set `most`, and what they leave of a set `least`.
-pub record AreTaken {I : Type 0} (sets : Sets I) (least most : List Bool → Bool) (literals : List Literal) (rest : I) : Type 0 where
-  pub known : sets.is_known rest ≡ true
-  pub named : AllByRecursion (λ (l : Literal). l.option < sets.options) literals
-  pub left : (c : List Bool) → sets.test rest c ≡ (least c && not (some_literal_holds literals c))
-  pub within : (c : List Bool) → some_literal_holds literals c ≡ true → most c ≡ true
-
--- a literal is put behind others, if none of its configurations lies outside of a set, or it isn't
-abbrev pub TakesOne : {I : Type 0} → (old new : Sets I) (most : I) → Literal → (rest : I) → (before after : List Literal) → (left : I) → Type 0
-TakesOne old new most literal rest before after left =
-    ((after ≡ before) × (left ≡ rest))
-    ⊎ ((after ≡ before ++ literal ∷ []) × IsSet new left (λ c. old.test rest c && not (literal_holds literal c)) × ((c : List Bool) → literal_holds literal c ≡ true → old.test most c ≡ true))
+-- with the terms there would be more than there may be
+abbrev pub AreMany : List (List Literal) → List (List Literal) → Type 0
+AreMany terms old = 32 < length old + length terms

@@ -1,13 +1,11 @@
--- Rules in the form of terms: one of them holds, or none does; and a term holds where all its literals do.
-use Rattle.std.specs.Prelude.{◌≡◌, ℕ, ◌<◌, ◌≤◌, Bool, true, not, List, [], ◌∷◌, length, map, nat_eq, Option, Some, None, if◌then◌else◌}
-use Rattle.std.specs.List.{AllByRecursion, flat_map, list_all, list_any}
+-- Rules in the form of terms: one term holds, and a term holds where all its literals do.
+use Rattle.std.specs.Prelude.{ℕ, ◌<◌, Bool, not, List, map, if◌then◌else◌}
+use Rattle.std.specs.List.{AllByRecursion, list_all, list_any}
 use Rattle.vx_space.specs.Config.{value_of}
 use Rattle.vx_model.specs.Formula.{Formula}
 use Rattle.vx_model.specs.Formula as tree
 use Rattle.vx_model.specs.Grammar.{conjunction, disjunction}
 use Rattle.vx_explain.specs.declared.literal.Literal.{Literal}
-use Rattle.vx_explain.specs.declared.rule.Rule.{Rule}
-use Rattle.vx_explain.specs.declared.rule.Rule.TheVariants.{AnyOf, NoneOf}
 
 abbrev pub literal_holds : Literal → List Bool → Bool
 literal_holds l c = if l.on then value_of c l.option else not (value_of c l.option)
@@ -31,64 +29,3 @@ rule_of terms = disjunction (map term_rule terms)
 -- each literal is of one of so many options
 abbrev pub AreOf : ℕ → List (List Literal) → Type 0
 AreOf options terms = AllByRecursion (λ term. AllByRecursion (λ (l : Literal). l.option < options) term) terms
-
-abbrev pub some_literal_holds : List Literal → List Bool → Bool
-some_literal_holds literals c = list_any (λ l. literal_holds l c) literals
-
--- the literal that holds just where this one doesn't
-abbrev pub opposite : Literal → Literal
-opposite l = record { option = l.option; on = not l.on }
-
--- the literal of a term of one
-abbrev pub only_literal : List Literal → Option Literal
-only_literal [] = None
-only_literal (l ∷ []) = Some l
-only_literal (l ∷ m ∷ ls) = None
-
--- that a term doesn't hold; of a single literal, that its opposite does
-abbrev pub denied : List Literal → Option Literal → Formula
-denied term None = tree.Not (term_rule term)
-denied term (Some l) = literal_rule (opposite l)
-
-abbrev pub denial : List Literal → Formula
-denial term = denied term (only_literal term)
-
-abbrev pub terms_in : Rule → List (List Literal)
-terms_in (AnyOf terms) = terms
-terms_in (NoneOf terms) = terms
-
-abbrev pub rule_holds : Rule → List Bool → Bool
-rule_holds (AnyOf terms) c = some_term_holds terms c
-rule_holds (NoneOf terms) c = not (some_term_holds terms c)
-
--- the same as a rule of a model
-abbrev pub formula_of : Rule → Formula
-formula_of (AnyOf terms) = rule_of terms
-formula_of (NoneOf terms) = conjunction (map denial terms)
-
--- those of some terms that are of one literal, or the others
-abbrev pub one_of_those : Bool → List Literal → List (List Literal)
-one_of_those single term = if (if single then nat_eq (length term) 1 else not (nat_eq (length term) 1)) then term ∷ [] else []
-
-abbrev pub those : Bool → List (List Literal) → List (List Literal)
-those single terms = flat_map (λ term. one_of_those single term) terms
-
--- a rule of few terms over so many options is true at least in one set and at most in another
-pub record IsBetween (options : ℕ) (least most : List Bool → Bool) (rule : Rule) : Type 0 where
-  pub few : length (terms_in rule) ≤ 32
-  pub named : AreOf options (terms_in rule)
-  pub above : (c : List Bool) → least c ≡ true → rule_holds rule c ≡ true
-  pub below : (c : List Bool) → rule_holds rule c ≡ true → most c ≡ true
-
--- the opposites of the few literals of a single term, each as a term
-pub record AreOpposites (terms opposites : List (List Literal)) : Type 0 where
-  pub term : List Literal
-  pub only : terms ≡ term ∷ []
-  pub few : length term ≤ 32
-  pub are : opposites ≡ map (λ l. opposite l ∷ []) term
-
--- a rule of few terms, over the same options, is that none of some terms holds
-pub record IsDenial (terms : List (List Literal)) (rule : Rule) : Type 0 where
-  pub few : length (terms_in rule) ≤ 32
-  pub named : (options : ℕ) → AreOf options terms → AreOf options (terms_in rule)
-  pub holds : (c : List Bool) → rule_holds rule c ≡ not (some_term_holds terms c)

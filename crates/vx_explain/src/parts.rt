@@ -6,9 +6,7 @@ ghost use Rattle.vx_space.specs.Sets.{Extends, IsKnown, IsSet};
 ghost use Rattle.vx_bdd_tools.specs.Steps.{IsFreeBelow};
 ghost use Rattle.vx_explain.specs.Between.{AreParts, IsFirst};
 
-use std::alloc::Global;
 use vx_space::{Space, SpaceFault};
-use vx_work::{Work, and_within, minus_within, or_within};
 
 /// The least option on which one of two sets depends; none where the second is never or always.
 pub fn first_option<S: Space>(space: &S, least: S::Id, most: S::Id) -> Option<u32>
@@ -38,87 +36,44 @@ pub fn parts<S: Space>(space: &S, set: S::Id, option: u32) -> (S::Id, S::Id)
     }
 }
 
-/// All configurations that a set doesn't have.
-pub fn complement<S: Space>(space: &mut S, set: S::Id) -> Result<S::Id, SpaceFault>
-    requires { IsKnown (S.sets space.old) set }
-    ensures extends { Extends (S.sets space.old) (S.sets space.new) }
-    ensures ok { IfOk result (λ id. IsSet (S.sets space.new) id (λ c. not ((S.sets space.old).test set c))) }
-{
-    let always = space.always();
-    space.minus(always, set)
-}
-
-/// What two sets have outside of two others, joined; none where it would be too much work.
+/// What two sets have outside of two others, joined.
 pub fn remaining<S: Space>(
-    alloc: Global,
     space: &mut S,
-    work: &mut Work,
     low: S::Id,
     low_done: S::Id,
     high: S::Id,
     high_done: S::Id,
-) -> Result<Option<S::Id>, SpaceFault>
+) -> Result<S::Id, SpaceFault>
     requires low { IsKnown (S.sets space.old) low }
     requires low_done { IsKnown (S.sets space.old) low_done }
     requires high { IsKnown (S.sets space.old) high }
     requires high_done { IsKnown (S.sets space.old) high_done }
     ensures extends { Extends (S.sets space.old) (S.sets space.new) }
-    ensures ok { IfOk result (λ r. IfSome r (λ id. IsSet (S.sets space.new) id (λ c. ((S.sets space.old).test low c && not ((S.sets space.old).test low_done c)) || ((S.sets space.old).test high c && not ((S.sets space.old).test high_done c))))) }
+    ensures ok { IfOk result (λ r. IsSet (S.sets space.new) r (λ c. ((S.sets space.old).test low c && not ((S.sets space.old).test low_done c)) || ((S.sets space.old).test high c && not ((S.sets space.old).test high_done c)))) }
 {
-    let Some(low) = minus_within(alloc, space, work, low, low_done)? else {
-        return Ok(None);
-    };
-    let Some(high) = minus_within(alloc, space, work, high, high_done)? else {
-        return Ok(None);
-    };
-    or_within(alloc, space, work, low, high)
+    let low = space.minus(low, low_done)?;
+    let high = space.minus(high, high_done)?;
+    space.or(low, high)
 }
 
-/// The configurations of one set where an option is off, and those of another where it is on; none where it would be too much work.
-fn sides<S: Space>(
-    alloc: Global,
-    space: &mut S,
-    work: &mut Work,
-    option: u32,
-    low: S::Id,
-    high: S::Id,
-) -> Result<Option<S::Id>, SpaceFault>
-    requires option { option < (S.sets space.old).options }
-    requires low { IsKnown (S.sets space.old) low }
-    requires high { IsKnown (S.sets space.old) high }
-    ensures extends { Extends (S.sets space.old) (S.sets space.new) }
-    ensures ok { IfOk result (λ r. IfSome r (λ id. IsSet (S.sets space.new) id (λ c. if value_of c option then (S.sets space.old).test high c else (S.sets space.old).test low c))) }
-{
-    let on = space.option(option)?;
-    let Some(inside) = and_within(alloc, space, work, high, on)? else {
-        return Ok(None);
-    };
-    let Some(outside) = minus_within(alloc, space, work, low, on)? else {
-        return Ok(None);
-    };
-    or_within(alloc, space, work, inside, outside)
-}
-
-/// The configurations of one set where an option is off, those of another where it is on, and those of a third; none where it would be
-/// too much work.
+/// The configurations of one set where an option is off, those of another where it is on, and those of a third.
 pub fn joined<S: Space>(
-    alloc: Global,
     space: &mut S,
-    work: &mut Work,
     option: u32,
     low: S::Id,
     high: S::Id,
     free: S::Id,
-) -> Result<Option<S::Id>, SpaceFault>
+) -> Result<S::Id, SpaceFault>
     requires option { option < (S.sets space.old).options }
     requires low { IsKnown (S.sets space.old) low }
     requires high { IsKnown (S.sets space.old) high }
     requires free { IsKnown (S.sets space.old) free }
     ensures extends { Extends (S.sets space.old) (S.sets space.new) }
-    ensures ok { IfOk result (λ r. IfSome r (λ id. IsSet (S.sets space.new) id (λ c. (if value_of c option then (S.sets space.old).test high c else (S.sets space.old).test low c) || (S.sets space.old).test free c))) }
+    ensures ok { IfOk result (λ r. IsSet (S.sets space.new) r (λ c. (if value_of c option then (S.sets space.old).test high c else (S.sets space.old).test low c) || (S.sets space.old).test free c)) }
 {
-    let Some(either) = sides(alloc, space, work, option, low, high)? else {
-        return Ok(None);
-    };
-    or_within(alloc, space, work, either, free)
+    let on = space.option(option)?;
+    let inside = space.and(high, on)?;
+    let outside = space.minus(low, on)?;
+    let sides = space.or(inside, outside)?;
+    space.or(sides, free)
 }

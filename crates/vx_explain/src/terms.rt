@@ -1,18 +1,17 @@
 //! A few terms for a set of which only the configurations in a scope count (Minato 1992, Morreale 1970): they hold at least in one
-//! set and at most in another. They are given up where they are too many, or too much work.
+//! set and at most in another.
 
-ghost use Rattle.std.specs.Prelude.{◌≡◌, ◌<◌, ◌≤◌, ◌+◌, ◌++◌, ◌∷◌, [], length, IfOk, IfSome, MatchBool, OnOk};
+ghost use Rattle.std.specs.Prelude.{◌≡◌, ◌<◌, ◌≤◌, ◌+◌, ◌++◌, ◌∷◌, [], length, IfOk, MatchBool, MatchOption, OnOk};
 ghost use Rattle.vx_space.specs.Sets.{Extends, IsKnown};
 ghost use Rattle.vx_bdd_tools.specs.Steps.{IsFreeBelow};
 ghost use Rattle.vx_explain.specs.declared.literal.Literal.{Literal};
-ghost use Rattle.vx_explain.specs.Between.{ArePut, IsFirst, IsTermsOf, IsWithin, side_terms_from, terms_from};
+ghost use Rattle.vx_explain.specs.Between.{AreMany, ArePut, IsFirst, IsWithin, if_few, side_terms_from, terms_between, terms_from};
 
 use crate::literal::{Literal, Term, with_literal};
 use crate::parts::{first_option, joined, parts, remaining};
 use std::alloc::{AllocError, Global};
 use vx_list::Items;
 use vx_space::{Space, SpaceFault};
-use vx_work::{Work, and_within, minus_within};
 
 /// How many terms a rule may have.
 pub const MOST_TERMS: usize = 32;
@@ -40,7 +39,7 @@ fn whole_term<S: Space>(
 ) -> Result<Option<S::Id>, AllocError>
     requires { length terms.old.items ≤ 32 }
     ensures few { OnOk result (length terms.new.items ≤ 32) }
-    ensures term { IfOk result (λ r. IfSome r (λ id. (id ≡ (S.sets space.now).always) × (terms.new.items ≡ terms.old.items ++ path.now ∷ []))) }
+    ensures term { IfOk result (λ r. MatchOption r (32 ≤ length terms.old.items) (λ id. (id ≡ (S.sets space.now).always) × (terms.new.items ≡ terms.old.items ++ path.now ∷ []))) }
 {
     if push_term(alloc, terms, path)? {
         return Ok(Some(space.always()));
@@ -49,13 +48,12 @@ fn whole_term<S: Space>(
 }
 
 /// Puts the terms for a least and a greatest set, each of them with the literals of a path before it, and gives the set of the
-/// configurations at which one of them holds; none where there would be too many terms, or too much work. The sets depend on no option before
+/// configurations at which one of them holds; none where there would be too many terms. The sets depend on no option before
 /// `first`.
 #[cycle(between)]
 fn terms_between<S: Space>(
     alloc: Global,
     space: &mut S,
-    work: &mut Work,
     terms: &mut Vec<Term>,
     path: &[Literal],
     first: u32,
@@ -71,7 +69,7 @@ fn terms_between<S: Space>(
     requires within { IsWithin (S.sets space.old) least most }
     ensures extends { Extends (S.sets space.old) (S.sets space.new) }
     ensures few { OnOk result (length terms.new.items ≤ 32) }
-    ensures terms { IfOk result (λ r. IfSome r (ArePut (S.sets space.new) path.now (terms_from (S.sets space.old) first least most) terms.old.items terms.new.items)) }
+    ensures terms { IfOk result (λ r. MatchOption r (AreMany (terms_from (S.sets space.old) first least most) terms.old.items) (ArePut (S.sets space.new) path.now (terms_from (S.sets space.old) first least most) terms.old.items terms.new.items)) }
 {
     if space.is_never(least) {
         return Ok(Some(least));
@@ -79,7 +77,7 @@ fn terms_between<S: Space>(
     let Some(option) = first_option(space, least, most) else {
         return Ok(whole_term(alloc, space, terms, path)?);
     };
-    terms_by(alloc, space, work, terms, path, option, least, most)
+    terms_by(alloc, space, terms, path, option, least, most)
 }
 
 /// The same by the first option that is asked: terms that need it off, terms that need it on, and terms for the rest that don't
@@ -88,7 +86,6 @@ fn terms_between<S: Space>(
 fn terms_by<S: Space>(
     alloc: Global,
     space: &mut S,
-    work: &mut Work,
     terms: &mut Vec<Term>,
     path: &[Literal],
     option: u32,
@@ -102,32 +99,24 @@ fn terms_by<S: Space>(
     requires first { IsFirst (S.sets space.old) least most option }
     ensures extends { Extends (S.sets space.old) (S.sets space.new) }
     ensures few { OnOk result (length terms.new.items ≤ 32) }
-    ensures terms { IfOk result (λ r. IfSome r (ArePut (S.sets space.new) path.now (terms_from (S.sets space.old) option least most) terms.old.items terms.new.items)) }
+    ensures terms { IfOk result (λ r. MatchOption r (AreMany (terms_from (S.sets space.old) option least most) terms.old.items) (ArePut (S.sets space.new) path.now (terms_from (S.sets space.old) option least most) terms.old.items terms.new.items)) }
 {
     let least = parts(space, least, option);
     let most = parts(space, most, option);
     let off = Literal { option, on: false };
-    let Some(low) = side_terms(
-        alloc, space, work, terms, path, off, least.0, most.0, most.1,
-    )?
-    else {
+    let Some(low) = side_terms(alloc, space, terms, path, off, least.0, most.0, most.1)? else {
         return Ok(None);
     };
     let on = Literal { option, on: true };
-    let Some(high) = side_terms(alloc, space, work, terms, path, on, least.1, most.1, most.0)?
-    else {
+    let Some(high) = side_terms(alloc, space, terms, path, on, least.1, most.1, most.0)? else {
         return Ok(None);
     };
-    let Some(rest) = remaining(alloc, space, work, least.0, low, least.1, high)? else {
+    let rest = remaining(space, least.0, low, least.1, high)?;
+    let both = space.and(most.0, most.1)?;
+    let Some(free) = terms_between(alloc, space, terms, path, option + 1, rest, both)? else {
         return Ok(None);
     };
-    let Some(both) = and_within(alloc, space, work, most.0, most.1)? else {
-        return Ok(None);
-    };
-    let Some(free) = terms_between(alloc, space, work, terms, path, option + 1, rest, both)? else {
-        return Ok(None);
-    };
-    joined(alloc, space, work, option, low, high, free)
+    Ok(Some(joined(space, option, low, high, free)?))
 }
 
 /// Terms that need a literal, for what a least set has outside of what the other side allows. The sets depend on no option up to
@@ -136,7 +125,6 @@ fn terms_by<S: Space>(
 fn side_terms<S: Space>(
     alloc: Global,
     space: &mut S,
-    work: &mut Work,
     terms: &mut Vec<Term>,
     path: &[Literal],
     literal: Literal,
@@ -155,16 +143,13 @@ fn side_terms<S: Space>(
     requires within { IsWithin (S.sets space.old) least most }
     ensures extends { Extends (S.sets space.old) (S.sets space.new) }
     ensures few { OnOk result (length terms.new.items ≤ 32) }
-    ensures terms { IfOk result (λ r. IfSome r (ArePut (S.sets space.new) (path.now ++ literal ∷ []) (side_terms_from (S.sets space.old) (literal.option + 1) least other most) terms.old.items terms.new.items)) }
+    ensures terms { IfOk result (λ r. MatchOption r (AreMany (side_terms_from (S.sets space.old) (literal.option + 1) least other most) terms.old.items) (ArePut (S.sets space.new) (path.now ++ literal ∷ []) (side_terms_from (S.sets space.old) (literal.option + 1) least other most) terms.old.items terms.new.items)) }
 {
-    let Some(only) = minus_within(alloc, space, work, least, other)? else {
-        return Ok(None);
-    };
+    let only = space.minus(least, other)?;
     let longer = with_literal(alloc, path, literal)?;
     terms_between(
         alloc,
         space,
-        work,
         terms,
         longer.as_slice(),
         literal.option + 1,
@@ -174,11 +159,10 @@ fn side_terms<S: Space>(
 }
 
 /// The terms of Minato and Morreale for a least and a greatest set, of which one holds at least in the one and at most in the
-/// other; none where there are more than 32, or where the operations would be more than the work that is left.
+/// other; none where there are more than 32.
 pub fn few_terms<S: Space>(
     alloc: Global,
     space: &mut S,
-    work: &mut Work,
     least: S::Id,
     most: S::Id,
 ) -> Result<Option<Items<Term>>, SpaceFault>
@@ -186,10 +170,10 @@ pub fn few_terms<S: Space>(
     requires most { IsKnown (S.sets space.old) most }
     requires within { IsWithin (S.sets space.old) least most }
     ensures extends { Extends (S.sets space.old) (S.sets space.new) }
-    ensures terms { IfOk result (λ r. IfSome r (IsTermsOf (S.sets space.old) least most)) }
+    ensures terms { IfOk result (λ r. r ≡ if_few (terms_between (S.sets space.old).options 0 ((S.sets space.old).test least) ((S.sets space.old).test most))) }
 {
     let mut terms = Vec::new(alloc);
-    match terms_between(alloc, space, work, &mut terms, &[], 0, least, most)? {
+    match terms_between(alloc, space, &mut terms, &[], 0, least, most)? {
         Some(_) => Ok(Some(Items::of(terms))),
         None => Ok(None),
     }

@@ -4,8 +4,6 @@
 #[cfg(test)]
 mod agree;
 #[cfg(test)]
-mod compare;
-#[cfg(test)]
 mod interact;
 #[cfg(test)]
 mod reports;

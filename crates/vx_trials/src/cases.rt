@@ -171,7 +171,7 @@ pub const REFUSAL_CASES: [(&str, u8, &str, &str); 15] = [
 ];
 
 /// The same of commands that read reports.
-pub const REPORT_CASES: [(&str, u8, &str, &str); 47] = [
+pub const REPORT_CASES: [(&str, u8, &str, &str); 45] = [
     ("project report -", 0, "out 0\\0a\nend return\n", ""),
     ("project report A", 0, "out 1\\0a\nend return\n", ""),
     ("project part -", 11, "", "not allowed\n"),
@@ -250,16 +250,9 @@ pub const REPORT_CASES: [(&str, u8, &str, &str); 47] = [
     (
         "explain report",
         0,
-        "varexj explain 2\nend return\nwhen true\nexample -\nout 1 2 0\\0a\nwhen !A\nexample -\nout 2 2 1\\0a\nwhen A\nexample A\ndone\n",
+        "varexj explain 1\nend return\nwhen true\nexample -\nout 1 2 0\\0a\nwhen !A\nexample -\nout 2 2 1\\0a\nwhen A\nexample A\ndone\n",
         "",
     ),
-    (
-        "explain report ends",
-        0,
-        "varexj explain 2\nend return\nwhen true\nexample -\ndone\n",
-        "",
-    ),
-    ("explain report piece", 2, "", "usage\n"),
     ("explain cut", 10, "", "bad report line 6\n"),
     ("page cut", 10, "", "bad report line 6\n"),
     ("page report A", 2, "", "usage\n"),
@@ -427,7 +420,7 @@ pub const CUT_CASES: [(&str, u8, &str, &str); 18] = [
 ];
 
 /// Words, the calls of the files, of `out` and of `err` that fail, and what has to come.
-pub const FAULTS: [(&str, u64, u64, u64, u8, &str, &str); 20] = [
+pub const FAULTS: [(&str, u64, u64, u64, u8, &str, &str); 19] = [
     (
         "run n e Main 100 1",
         0,
@@ -464,15 +457,6 @@ pub const FAULTS: [(&str, u64, u64, u64, u8, &str, &str); 20] = [
         "read fault absent\n",
     ),
     ("check report absent", 0, 0, 0, 3, "", "read fault absent\n"),
-    (
-        "compare report absent",
-        0,
-        0,
-        0,
-        3,
-        "",
-        "read fault absent\n",
-    ),
     ("page report", 0, 2, 0, 4, "<!doctype ", "write fault\n"),
     ("output report A", 1, 0, 0, 3, "", "read fault report\n"),
     ("agree absent cut", 0, 0, 0, 3, "", "read fault absent\n"),
@@ -611,43 +595,4 @@ pub const CHECK_CASES: [(&str, u8, &str, &str); 12] = [
     ),
     ("check", 2, "", "usage\n"),
     ("check report returns exits", 2, "", "usage\n"),
-];
-
-/// The same of comparisons of reports.
-pub const COMPARE_CASES: [(&str, u8, &str, &str); 9] = [
-    (
-        "compare report report",
-        0,
-        "varexj compare 1\nof 2\ndiffer 0\ndone\n",
-        "",
-    ),
-    (
-        "compare report part",
-        16,
-        "varexj compare 1\nof 2\ndiffer 1\nwhen !A\nway return\nother -\ncount 1\nwhen !A\nexample -\ndone\n",
-        "differing\n",
-    ),
-    (
-        "compare part report",
-        16,
-        "varexj compare 1\nof 2\ndiffer 1\nwhen !A\nway -\nother return\ncount 1\nwhen !A\nexample -\ndone\n",
-        "differing\n",
-    ),
-    (
-        "compare report plain",
-        16,
-        "varexj compare 1\nof 2\ndiffer 2\nwhen true\nway return\nother return\ncount 2\nwhen true\nexample -\nline out 1\none 0\\0a\nother 2\\0a\ndone\n",
-        "differing\n",
-    ),
-    (
-        "compare plain report",
-        16,
-        "varexj compare 1\nof 2\ndiffer 2\nwhen true\nway return\nother return\ncount 2\nwhen true\nexample -\nline out 1\none 2\\0a\nother 0\\0a\ndone\n",
-        "differing\n",
-    ),
-    ("compare report cut", 10, "", "bad report line 6\n"),
-    ("compare cut absent", 10, "", "bad report line 6\n"),
-    // A path that nothing is held under is an empty file here.
-    ("compare report absent", 10, "", "bad report line 1\n"),
-    ("compare report", 2, "", "usage\n"),
 ];

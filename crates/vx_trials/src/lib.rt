@@ -9,8 +9,8 @@ mod files;
 #[cfg(test)]
 mod tests {
     use crate::cases::{
-        CHECK_CASES, CLASS_CASES, COMPARE_CASES, CUT_CASES, FAULTS, JOIN_CASES, READS,
-        REFUSAL_CASES, REFUSED, REPORT_CASES, RUN_CASES, TRACE_CASES, WRITES,
+        CHECK_CASES, CLASS_CASES, CUT_CASES, FAULTS, JOIN_CASES, READS, REFUSAL_CASES, REFUSED,
+        REPORT_CASES, RUN_CASES, TRACE_CASES, WRITES,
     };
     use crate::files::{PRINTS_NUMBER, SMALLEST_CLASS, kept, one_file, put_file, steady_files};
     use std::alloc::{AllocError, Global};
@@ -95,12 +95,6 @@ mod tests {
     fn joins_of_reports(rt: HostRuntime) {
         let mut files = steady_files(&rt, rt.alloc());
         all_come(&rt, rt.alloc(), &mut files, &JOIN_CASES);
-    }
-
-    #[test]
-    fn comparisons_of_reports(rt: HostRuntime) {
-        let mut files = steady_files(&rt, rt.alloc());
-        all_come(&rt, rt.alloc(), &mut files, &COMPARE_CASES);
     }
 
     #[test]

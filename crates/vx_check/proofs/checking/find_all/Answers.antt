@@ -25,5 +25,5 @@ returns-clause-extends g c = Extends-trans c.in_ok-spoken.ensures.extends (Exten
 
 pub returns-clause-found : goal.returns-clause-found
 returns-clause-found g c =
-    has_found (g.met.S.Space.lawful c.args.space.now) c.args.scope c.args.ends.now c.args.expected.now c.in_ok-spoken.spoken c.in_ok-unspoken.unspoken (record { numbers = c.new.result; told = c.new-2.result; failing = c.never.result; shares = c.of.result }) c.find_missed.new.finding c.find.new.finding
+    has_found (g.met.S.Space.lawful c.args.space.now) c.args.scope c.args.ends.now c.args.expected.now c.in_ok-spoken.spoken c.in_ok-unspoken.unspoken (record { numbers = c.new.result; told = c.new-2.result; failing = c.never.result }) c.find_missed.new.finding c.find.new.finding
     c.in_ok-spoken.ensures.extends c.in_ok-unspoken.ensures.extends c.new-2.ensures.items c.never.ensures c.in_ok-spoken.ensures.found c.in_ok-spoken.ensures.spoken (rw c.always-always.ensures at c.in_ok-unspoken.ensures.ok) (g.met.S.Space.lawful c.find_missed.new.space) c.in_ok-find.ensures.found

@@ -41,7 +41,7 @@ pub returns-in-Asm : goal.returns-in-Asm
 returns-in-Asm g c = rw (c.said-in-Asm.ensures, c.in-Asm.is) (given_of _ _ _ _ c.class_file.ensures.ok c.class_file.ensures.err)
 
 pub returns-in-Load : goal.returns-in-Load
-returns-in-Load g c = rw (c.said-in-Load.ensures, c.in-Load.is) (product_given _ _ (Summary c.in-Load.words.seed c.in-Load.words.options) _ c.load_text.ensures)
+returns-in-Load g c = rw (c.said-in-Load.ensures, c.in-Load.is) (product_given (g.F.Files.seen c.args.files.now) (g.F.Files.seen c.args.files.now) (Summary c.in-Load.words.seed c.in-Load.words.options) _ c.load_text.ensures)
 
 pub returns-in-Verify : goal.returns-in-Verify
 returns-in-Verify g c = rw (c.said-in-Verify.ensures, c.in-Verify.is) (given_of _ _ _ _ c.verification.ensures.ok c.verification.ensures.err)
@@ -53,10 +53,7 @@ pub returns-in-Cut : goal.returns-in-Cut
 returns-in-Cut g c = rw (c.said-in-Cut.ensures, c.in-Cut.is) (given_of _ _ _ _ c.cutting.ensures.ok c.cutting.ensures.err)
 
 pub returns-in-Show : goal.returns-in-Show
-returns-in-Show g c = rw (c.said-in-Show.ensures, c.in-Show.is) (product_given _ _ (Exactly (page_text c.in-Show.page)) _ c.text_of_page.ensures)
+returns-in-Show g c = rw (c.said-in-Show.ensures, c.in-Show.is) (product_given (g.F.Files.seen c.args.files.now) (g.F.Files.seen c.args.files.now) (Exactly (page_text c.in-Show.page)) _ c.text_of_page.ensures)
 
 pub returns-in-Check : goal.returns-in-Check
 returns-in-Check g c = rw c.in-Check.is (answer_given _ _ _ _ c.check_of.ensures.ok c.check_of.ensures.err)
-
-pub returns-in-Compare : goal.returns-in-Compare
-returns-in-Compare g c = rw c.in-Compare.is (answer_given _ _ _ _ c.compare_of.ensures.ok c.compare_of.ensures.err)

@@ -48,3 +48,6 @@ returns-clause-ok g c =
     let some : 2 ≤ length c.args.group.top.stack.conds = rw (← c.top_frame.ensures, ← c.len.ensures) (omega arith) in
     let put = c.in_ok-places.ensures.put in
     IfOk-weaker c.carry_out.result _ _ (λ r gives. put-attempts c.args.site.now c.requires.0 found _ put.placed put.valued _ _ _ c.args.heap.now c.put_through.new.heap c.passes_at.new.heap c.args.group c.in_ok-places.places put.values c.in_ok-answers.answers r.items.items c.requires.1 some put.places_extend put.valid put.scope put.at put.values_extend put.value put.writing_extends put.changed c.in_ok-answers.ensures.extends c.in_ok-answers.ensures.more c.in_ok-answers.ensures.ok c.carry_out.ensures.extends gives) c.carry_out.ensures.gives
+
+pub returns-in_err-answers-clause-extends : goal.returns-in_err-answers-clause-extends
+returns-in_err-answers-clause-extends g c = Extends-trans c.in_ok-places.ensures.extends c.in_err-answers.ensures.extends

@@ -14,4 +14,4 @@ pub join-requires-clause-disjoint : goal.join-requires-clause-disjoint
 join-requires-clause-disjoint g c = AreDisjoint-sym _ _ _ (apart_taken _ _ c.args.groups.now c.args.place c.take-other.result (has_key_below _ c.args.groups.now c.args.place c.requires.place) c.take-other.ensures.value c.requires.apart).0
 
 pub returns-clause-placed : goal.returns-clause-placed
-returns-clause-placed g c = rw (c.in_ok-push.ensures, c.take-other.ensures.rest) (placed_joined (g.met.S.Space.lawful c.args.space.now) (g.met.S.Space.lawful c.join.new.space) c.in_ok-joined.ensures.extends c.in_ok-joined.ensures.keeps c.args.groups.now c.args.group c.args.place c.take-other.result c.in_ok-joined.joined c.take-other.ensures.value c.requires.groups c.requires.group c.requires.apart c.requires.place c.in_ok-joined.ensures.path c.in_ok-joined.ensures.shapes c.in_ok-joined.ensures.ok)
+returns-clause-placed g c = rw (c.in_ok-push.ensures.ok, c.take-other.ensures.rest) (placed_joined (g.met.S.Space.lawful c.args.space.now) (g.met.S.Space.lawful c.join.new.space) c.in_ok-joined.ensures.extends c.in_ok-joined.ensures.keeps c.args.groups.now c.args.group c.args.place c.take-other.result c.in_ok-joined.joined c.take-other.ensures.value c.requires.groups c.requires.group c.requires.apart c.requires.place c.in_ok-joined.ensures.path c.in_ok-joined.ensures.shapes c.in_ok-joined.ensures.ok)

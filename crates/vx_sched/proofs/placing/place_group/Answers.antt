@@ -9,4 +9,4 @@ pub returns-then-is_never-clause-placed : goal.returns-then-is_never-clause-plac
 returns-then-is_never-clause-placed g c = placed_never _ _ _ _ (g.met.S.Space.lawful c.args.space.now) (sym c.path.ensures ∙ c.is_never.ensures.0 c.if-is_never.true) c.requires.groups
 
 pub returns-in_ok-push-in-None-clause-placed : goal.returns-in_ok-push-in-None-clause-placed
-returns-in_ok-push-in-None-clause-placed g c = rw c.in_ok-push-in-None.ensures (placed_pushed _ _ _ _ c.requires.groups c.requires.group c.requires.apart (λ e. cc (c.is_never.ensures.1 (c.path.ensures ∙ e), c.if-is_never.false)) ((rw c.as_slice.ensures at c.place_of.ensures.fresh) (rw c.in-None.is refl)))
+returns-in_ok-push-in-None-clause-placed g c = rw c.in_ok-push-in-None.ensures.ok (placed_pushed _ _ _ _ c.requires.groups c.requires.group c.requires.apart (λ e. cc (c.is_never.ensures.1 (c.path.ensures ∙ e), c.if-is_never.false)) ((rw c.as_slice.ensures at c.place_of.ensures.fresh) (rw c.in-None.is refl)))

@@ -11,8 +11,8 @@ returns-in_default-clause-gives g c =
 
 pub returns-then-len-from-clause-gives : goal.returns-then-len-from-clause-gives
 returns-then-len-from-clause-gives g c =
-    IfOk-weaker c.illegal-2.result _ _ (λ r' h'. counts-gives c.args.site.now c.args.order _ _ c.args.part _ (Some (c.in-Some.upper, c.in-Some.lower)) (counts_of c.args.cut) c.in-Some.ensures.value (full-gives c.args.site.now _ c.args.part c.args.order c.in-Some.upper c.in-Some.lower _ c.in-Some.ensures.few.0 c.in-Some.ensures.few.1 (rw (c.len.ensures, c.top_frame.ensures, c.from.ensures) at c.if-len-from.true) (h' _)))
-    c.illegal-2.ensures
+    IfOk-weaker c.illegal-then-len-from.result _ _ (λ r' h'. counts-gives c.args.site.now c.args.order _ _ c.args.part _ (Some (c.in-Some.upper, c.in-Some.lower)) (counts_of c.args.cut) c.in-Some.ensures.value (full-gives c.args.site.now _ c.args.part c.args.order c.in-Some.upper c.in-Some.lower _ c.in-Some.ensures.few.0 c.in-Some.ensures.few.1 (rw (c.len.ensures, c.top_frame.ensures, c.from.ensures) at c.if-len-from.true) (h' _)))
+    c.illegal-then-len-from.ensures
 
 pub returns-clause-gives : goal.returns-clause-gives
 returns-clause-gives g c =
