@@ -59,7 +59,7 @@ BOUNDS = {
 }
 
 # Those that are known to be too dear, and why.
-KNOWN = {}
+KNOWN = {'cover: 131,072 pieces': 'the pieces are too many for one block, and each line is tried against many of them: 68 s, and 0.5 s for 32,768'}
 
 
 class Dear(NamedTuple):
