@@ -122,10 +122,10 @@ def passing(text):
 
 
 def is_type(text, start, end):
-    """Whether a word is a type: the argument of one, that of a parameter, or a result."""
+    """Whether a word is a type: the argument of one, that of a field or a parameter, or a result."""
     before = text[:start].rstrip()
     after = text[end:].lstrip()
-    return (before.endswith((',', '<', '&')) and after.startswith('>')) or re.search(r'[^:]:$|->$', before) is not None
+    return re.search(r'\bstruct\s+\w+\($', before) is not None or (before.endswith((',', '<', '&')) and after.startswith('>')) or re.search(r'[^:]:$|->$', before) is not None
 
 
 def function_at(text, place):

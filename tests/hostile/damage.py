@@ -20,12 +20,12 @@ SECONDS = 30
 LINES = {
     0: rb'', 5: rb'bad model line \d+ reason [1-9]\n', 6: rb'no configuration\n', 7: rb'bad class [^ \n]+ at \d+ reason \d+\n',
     8: rb'(twice|no super|final super|cycle|no option) [^ \n]+\n|no main\n', 10: rb'bad report line \d+\n', 11: rb'not allowed\n',
-    12: rb'bad source line \d+ reason [1-8]\n', 14: rb'unlike\n', 15: rb'failing\n', 17: rb'bad expected line \d+ reason [1245]\n',
+    12: rb'bad source line \d+ reason [1-8]\n', 14: rb'unlike\n', 15: rb'failing\n', 16: rb'differing\n', 17: rb'bad expected line \d+ reason [1245]\n',
     18: rb'not joinable\n'}
 # The statuses of a call that is done, with an output.
-DONE = (0, 15)
+DONE = (0, 15, 16)
 STATUSES = {'run': (0, 5, 6, 7, 8), 'verify': (0, 5, 7, 8), 'asm': (0, 12), 'agree': (0, 10, 14), 'join': (0, 10, 14, 18),
-            'check': (0, 10, 15, 17), 'cut': (0, 5, 6, 10, 11, 14),
+            'check': (0, 10, 15, 17), 'compare': (0, 10, 14, 16), 'cut': (0, 5, 6, 10, 11, 14),
             **dict.fromkeys(('replay', 'trace'), (0, 5, 7, 8, 11)), **dict.fromkeys(('project', 'output', 'picture'), (0, 10, 11)),
             **dict.fromkeys(('interact', 'cover', 'explain', 'count', 'list', 'page'), (0, 10))}
 # A case, and the file that is damaged.
@@ -35,7 +35,8 @@ FILES = [('print-an-option', 'f/Main.class'), ('branches-join-with-different-val
          ('replay-with-lines', 'f/Main.class'), ('replay-uncaught', 'model'), ('picture-one-option', 'report'), ('cover-one-option', 'report'), ('explain-one-option', 'report'),
          ('trace-cause', 'f/Ticket.class'), ('join-two-parts', 'on'), ('join-three-with-attempts', 'b'), ('cut-by-names', 'model'), ('cut-clauses', 'model.cnf'),
          ('cut-by-number-with-a-report', 'report'), ('count-two-options', 'report'), ('list-two-options', 'report'), ('output-named', 'report'),
-         ('picture-ends', 'report'), ('picture-of-a-piece', 'report'), ('check-other-than-expected', 'report'), ('check-other-than-expected', 'expected')]
+         ('picture-ends', 'report'), ('picture-of-a-piece', 'report'), ('check-other-than-expected', 'report'), ('check-other-than-expected', 'expected'),
+         ('compare-another-line', 'one'), ('compare-with-a-part', 'other')]
 
 
 def damaged(data):

@@ -49,7 +49,8 @@ BOUNDS = {
     'cover: pieces under options': 9, 'explain: one long text': 8.5, 'explain: pieces of both streams': 10, 'explain: nodes': 1,
     'explain: pieces under options': 2, 'explain: 400 pieces of one long rule': 3.5,
     'check: one long text': 8, 'check: pieces of both streams': 3.5, 'check: pieces under options': 1, 'check: 61,680 lines': 1.5,
-    'check: 512 ends against 1,000 lines': 16,
+    'check: 512 ends against 1,000 lines': 16, 'compare: one long text': 15, 'compare: pieces of both streams': 8.5, 'compare: nodes': 1,
+    'compare: pieces under options': 3.5, 'compare: 4,096 ends': 3, 'compare: 4,096 ends with one': 1.5,
     'join: one long text': 23.5, 'join: pieces of both streams': 7.5, 'join: pieces under options': 3, 'join: 8,192 ends': 2, 'join: 8,192 numbers of attempts': 1, 'cut: 65,536 parts': 2,
     'count: one long text': 8, 'count: pieces of both streams': 4.5, 'count: pieces under options': 1, 'list: one long text': 8, 'list: pieces of both streams': 4.5, 'list: pieces under options': 1,
     'page: one long text': 17.5, 'page: pieces of both streams': 4.5, 'page: pieces under options': 1, 'trace: a text looked for in one of 32,768 units': 4,
@@ -287,6 +288,21 @@ def checks():
     yield Dear('check: 512 ends against 1,000 lines', products, ['check', 'report', 'expected'], failing)
 
 
+def comparisons():
+    """Reports compared with themselves, and where each of many ends is another one."""
+    makers = {'one long text': (dear_texts.one_long_text, 0), 'pieces of both streams': (lambda: dear_texts.many_pieces(1 << 24), 0), 'nodes': (lambda: dear_texts.many_nodes(14), 14),
+              'pieces under options': (lambda: dear_texts.many_cubes(1 << 22), 64), '4,096 ends': (lambda: (dear_texts.many_ends(12), None), 12)}
+    for name, (make, bits) in makers.items():
+        yield Dear(f'compare: {name}', lambda make=make: put_text('report', make()[0]), ['compare', 'report', 'report'],
+                   ends_as(0, f'varexj compare 1\nof {1 << bits}\ndiffer 0\ndone\n'.encode()))
+
+    def files():
+        put_text('report', dear_texts.many_ends(12))
+        put_text('other', dear_texts.one_end(12))
+    yield Dear('compare: 4,096 ends with one', files, ['compare', 'report', 'other'],
+               lambda ended: ended.status == 16 and ended.out.startswith(b'varexj compare 1\nof 4096\ndiffer 4096\n') and ended.err == b'differing\n')
+
+
 def joins():
     """Reports joined with themselves, which gives them again with twice as many rounds."""
     makers = {'one long text': lambda: dear_texts.one_long_text()[0], 'pieces of both streams': lambda: dear_texts.many_pieces(1 << 24)[0], 'nodes': lambda: dear_texts.many_nodes(14)[0],
@@ -360,7 +376,7 @@ def sources():
 
 def all_inputs(varexj):
     yield from programs(varexj)
-    for make in (class_files, class_folders, large_folders, models, verdicts, replays, sources, reports, interactions, agreements, checks, joins, cuts, pictures, covers, explanations, counts, lists, pages, workloads):
+    for make in (class_files, class_folders, large_folders, models, verdicts, replays, sources, reports, interactions, agreements, checks, comparisons, joins, cuts, pictures, covers, explanations, counts, lists, pages, workloads):
         yield from make()
 
 

@@ -176,6 +176,11 @@ def many_ends(bits=13):
     return report_front(bits) + '\n'.join([*lines, *ends, 'done', '']).encode()
 
 
+def one_end(bits):
+    """A report without a piece, and with one end."""
+    return report_front(bits) + END
+
+
 def many_attempts(bits=13):
     """A report of version 2 in which each setting has a number of attempts of its own."""
     lines, roots = nodes_of_cubes(bits)

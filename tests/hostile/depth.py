@@ -129,6 +129,7 @@ def ends_of_pairs():
 # Reports whose sets explode where they are put together: (words, the files).
 EXPLODING_REPORTS = [
     (['agree', 'one', 'other'], {'one': lambda: each_where_on(0), 'other': lambda: each_where_on(PAIRS)}),
+    (['compare', 'one', 'other'], {'one': lambda: each_where_on(0), 'other': lambda: each_where_on(PAIRS)}),
     *[([command, 'one'], {'one': ends_of_pairs}) for command in ('cover', 'explain', 'check', 'count', 'list')]]
 
 

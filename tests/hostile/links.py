@@ -235,6 +235,7 @@ READS = {
     'page': lambda path: ['page', path], 'output': lambda path: ['output', path, '-'], 'trace': lambda path: ['trace', 'f', path, 'Main', '100', '-'],
     'agree': lambda path: ['agree', path, 'report'], 'agree, the other one': lambda path: ['agree', 'report', path],
     'check': lambda path: ['check', path], 'check, what is expected': lambda path: ['check', 'report', path],
+    'compare': lambda path: ['compare', path, 'report'], 'compare, the other one': lambda path: ['compare', 'report', path],
     'join': lambda path: ['join', path, 'report'], 'join, the other one': lambda path: ['join', 'report', path],
     'cut': lambda path: ['cut', path, '1'], 'cut, the report': lambda path: ['cut', 'model', '1', path]}
 # The files that are no reports.

@@ -50,6 +50,8 @@ OWN = {
     'list': ['list-two-options', 'list-where-ends-overlap'],
     'check': ['check-as-expected', 'check-other-than-expected', 'check-where-ends-overlap', 'check-expected-no-end',
               'check-expected-of-unknown-option', 'check-expected-without-rule'],
+    'compare': ['compare-another-line', 'compare-another-order-of-streams', 'compare-mended-and-over-more-options', 'compare-with-a-part',
+                'compare-with-itself'],
     'output': ['output-named', 'output-of-err', 'output-unknown-option'],
     'load': ['workload-summary-3-options']}
 
@@ -77,6 +79,7 @@ def report_runs():
             yield Run(case, [command, REPORT])
     for case in REPORTED[:8]:
         yield Run(case, ['agree', REPORT, REPORT])
+        yield Run(case, ['compare', REPORT, REPORT])
         yield Run(case, ['join', REPORT, REPORT])
     for case in REPORTED[:5]:
         yield Run(case, ['project', REPORT, '-'])

@@ -24,7 +24,7 @@ LINE = b'write fault\n'
 SMALL = ['print-a-number', 'print-an-option', 'project-option-on', 'assemble-class-with-option', 'verify-branches', 'interact-one-option',
          'agree-with-itself', 'picture-one-option', 'cover-one-option', 'explain-one-option', 'replay-with-lines',
          'cut-clauses', 'join-two-parts', 'trace-cause', 'count-two-options', 'list-two-options', 'output-named', 'picture-ends', 'check-as-expected',
-         'check-other-than-expected', 'workload-summary-3-options']
+         'check-other-than-expected', 'compare-with-itself', 'compare-another-line', 'workload-summary-3-options']
 LARGE = 'equal-pairs-24-options'
 REFUSED = 'no-configuration'
 

@@ -28,7 +28,7 @@ equal_of Equal t = refl
 equal_of Less t = cc (t)
 equal_of Greater t = cc (t)
 
-agree_of : (one other : Report) (c : List Bool) → output_at one c ≡ output_at other c → (a b : Option End) → end_at one c ≡ a → end_at other c ≡ b → are_one_end a b ≡ true → AgreeAt one other c
+pub agree_of : (one other : Report) (c : List Bool) → output_at one c ≡ output_at other c → (a b : Option End) → end_at one c ≡ a → end_at other c ≡ b → are_one_end a b ≡ true → AgreeAt one other c
 agree_of one other c o None b e f t = cc (t)
 agree_of one other c o (Some x) None e f t = cc (t)
 agree_of one other c o (Some x) (Some y) e f t = record { end = x; of_one = e; of_other = f ∙ ap Some (sym (end_equal x y (equal_of (compare_ends x y) t))); output = o }
@@ -75,7 +75,7 @@ IsAgreementText-of sets one other id text n a l = record {
 }
 
 -- two tests that are true together are one
-both_ways : (a b : Bool) → (a ≡ true → b ≡ true) → (b ≡ true → a ≡ true) → a ≡ b
+pub both_ways : (a b : Bool) → (a ≡ true → b ≡ true) → (b ≡ true → a ≡ true) → a ≡ b
 both_ways true b f g = sym (f refl)
 both_ways false true f g = g refl
 both_ways false false f g = refl

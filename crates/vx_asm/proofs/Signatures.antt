@@ -1,6 +1,6 @@
 -- A table of signatures has a key for just those that are taken.
-use Rattle.std.proofs.Common.{◌≡◌, ℕ, List, [], ◌∷◌, ◌++◌, Bool, true, false, ◌||◌, refl, sym, ap, ◌∙◌, Vec, Global, if◌then◌else◌}
-use Rattle.std.specs.Prelude.{◌&&◌}
+use Rattle.std.proofs.Common.{◌≡◌, ℕ, List, [], ◌∷◌, ◌++◌, Bool, true, false, ◌||◌, length, refl, sym, take, ap, ◌∙◌, Vec, Global, if◌then◌else◌}
+use Rattle.std.specs.Prelude.{◌&&◌, Err, Ok, OnErr, OnOk, Result}
 use Rattle.std.specs.List.{list_any}
 use Rattle.std.specs.Str.{bytes_eq}
 use Rattle.std.proofs.lemmas.Bool.Decides.{Decides-and}
@@ -8,6 +8,7 @@ use Rattle.std.proofs.lemmas.Cmp.{nat_list_eq_equiv}
 use Rattle.std.proofs.lemmas.List.Folds.{list_any-append}
 use Rattle.std.proofs.lemmas.Slice.Eq.{bytes_eq-Decides}
 use Rattle.indexmap.specs.IndexSet.{insert_key}
+use Rattle.vx_list.proofs.CutLaws.{cut_back}
 use Rattle.vx_asm.specs.Signatures.{AreTaken, has_key, is_taken}
 use Rattle.vx_asm.specs.declared.signature_table.Signature.{Signature}
 
@@ -65,6 +66,15 @@ AreTaken-more signatures old new own taken more = record { same = same }
         ∙ (λ i. taken.same name descriptor i || turned name descriptor i)
         ∙ ap (λ b. is_taken signatures name descriptor || b) (sym (false_behind (bytes_eq own.name name && bytes_eq own.descriptor descriptor)))
         ∙ sym (list_any-append (λ (s : Signature). bytes_eq s.name name && bytes_eq s.descriptor descriptor) signatures (own ∷ []))
+
+-- a signature more with its key, or neither
+pub AreTaken-put : {E : Type 0} (r put : Result (Unit {0}) E) (signatures mid new : List Signature) (old keys : List Key) (own : Signature) (held : ℕ) → r ≡ put → OnOk r (new ≡ mid)
+    → OnErr r (new ≡ take held mid) → mid ≡ signatures ++ own ∷ [] → length signatures ≡ held → AreTaken signatures old
+    → OnOk put ((name descriptor : List ℕ) → has_key keys name descriptor ≡ (has_key old name descriptor || (bytes_eq name own.name && bytes_eq descriptor own.descriptor)))
+    → OnErr put (keys ≡ old) → AreTaken new keys
+AreTaken-put (Ok x) put signatures mid new old keys own held same kept cut is count taken more none = rw (kept ∙ is) (AreTaken-more signatures old keys own taken (rw (← same) at more))
+AreTaken-put (Err x) put signatures mid new old keys own held same kept cut is count taken more none =
+    rw (cut_back signatures mid mid new (own ∷ []) held cut refl is count, (rw (← same) at none)) taken
 
 pub none_taken : (signatures : List Signature) (keys : List Key) → signatures ≡ [] → keys ≡ [] → AreTaken signatures keys
 none_taken signatures keys e f = rw (e, f) (record { same = λ name descriptor. refl })

@@ -25,7 +25,7 @@ fn put_needed(
 {
     match needed {
         None => Ok(()),
-        Some(constant) => put_constant(alloc, pool, constant),
+        Some(constant) => Ok(put_constant(alloc, pool, constant)?),
     }
 }
 

@@ -45,7 +45,7 @@ fn put_caught(
 {
     match class {
         None => Ok(()),
-        Some(name) => put_class(alloc, pool, name.bytes()),
+        Some(name) => Ok(put_class(alloc, pool, name.bytes())?),
     }
 }
 

@@ -13,6 +13,7 @@ use vx_class_parts::{
     Constant, ConstantTable, in_file_or_zero, is_lawful_field, may_have_value, put_constant,
     put_text, text_index,
 };
+use vx_list::GivenUp;
 use vx_source::{FieldLine, Value};
 use vx_source_words::{LineFault, refused};
 use vx_value::Name;
@@ -41,11 +42,11 @@ pub fn put_signature(
     pool: &mut ConstantTable,
     name: &[u8],
     descriptor: &[u8],
-) -> Result<(), AllocError>
+) -> Result<(), GivenUp>
     ensures { OnOk result (pool.new ≡ with_signature pool.old name.now descriptor.now) }
 {
     put_text(alloc, pool, name)?;
-    put_text(alloc, pool, descriptor)
+    Ok(put_text(alloc, pool, descriptor)?)
 }
 
 /// The name of the attribute, then the value.
@@ -60,7 +61,7 @@ fn put_value(
         None => Ok(()),
         Some(constant) => {
             put_text(alloc, pool, b"ConstantValue")?;
-            put_constant(alloc, pool, constant)
+            Ok(put_constant(alloc, pool, constant)?)
         }
     }
 }

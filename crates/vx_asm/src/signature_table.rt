@@ -1,15 +1,13 @@
 //! The names and descriptors of members, found by their hashes.
 
-ghost use Rattle.std.specs.Prelude.{◌≡◌, ◌++◌, ◌∷◌, [], ℕ, List, ◌&&◌, ◌||◌, IfOk, OnOk};
+ghost use Rattle.std.specs.Prelude.{◌≡◌, ◌++◌, ◌∷◌, [], ℕ, List, ◌&&◌, ◌||◌, IfOk, OnErr, OnOk};
 ghost use Rattle.std.specs.Str.{bytes_eq};
 ghost use Rattle.vx_asm.specs.Signatures.{has_key, is_taken};
 
 use indexmap::IndexSet;
 use std::alloc::{AllocError, Global};
 use std::marker::Model;
-use std::mem;
-use vx_code_parts::pushed;
-use vx_list::{Items, Keyed};
+use vx_list::{Keyed, or_cut_back};
 use vx_value::Name;
 
 /// The name and the descriptor of a member.
@@ -22,7 +20,7 @@ pub struct Signature {
 /// Signatures in order, each found by its hash. Contracts see the list of them.
 #[derive(Drop)]
 pub struct SignatureTable {
-    signatures: Items<Signature>,
+    signatures: Vec<Signature>,
     taken: IndexSet<(Vec<u8>, Vec<u8>), Keyed>,
 }
 
@@ -33,9 +31,9 @@ impl Model for SignatureTable {
 
     ghost Value = { List Signature };
 
-    ghost view = { λ table. table.signatures };
+    ghost view = { λ table. table.signatures.items };
 
-    ghost invariant = { λ table. AreTaken table.signatures table.taken.keys };
+    ghost invariant = { λ table. AreTaken table.signatures.items table.taken.keys };
 }
 
 /// The name and the descriptor of a member as a key.
@@ -47,19 +45,19 @@ fn key_of(alloc: Global, name: &[u8], descriptor: &[u8]) -> Result<(Vec<u8>, Vec
     Ok((name, descriptor))
 }
 
-/// Keys with one more, which may be there.
-fn with_key(
+/// Puts a key among the others, where it may be already. Want of memory leaves them as they were.
+fn put_key(
     alloc: Global,
-    taken: IndexSet<(Vec<u8>, Vec<u8>), Keyed>,
+    taken: &mut IndexSet<(Vec<u8>, Vec<u8>), Keyed>,
     name: &[u8],
     descriptor: &[u8],
-) -> Result<IndexSet<(Vec<u8>, Vec<u8>), Keyed>, AllocError>
-    ensures { IfOk result (λ s. (n d : List ℕ) → has_key s.keys n d ≡ (has_key taken.keys n d || (bytes_eq n name.now && bytes_eq d descriptor.now))) }
+) -> Result<(), AllocError>
+    ensures ok { OnOk result ((n d : List ℕ) → has_key taken.new.keys n d ≡ (has_key taken.old.keys n d || (bytes_eq n name.now && bytes_eq d descriptor.now))) }
+    ensures err { OnErr result (taken.new.keys ≡ taken.old.keys) }
 {
     let key = key_of(alloc, name, descriptor)?;
-    let mut taken = taken;
     taken.insert(key)?;
-    Ok(taken)
+    Ok(())
 }
 
 fn signature_of(alloc: Global, name: &[u8], descriptor: &[u8]) -> Result<Signature, AllocError>
@@ -77,7 +75,7 @@ impl SignatureTable {
         ensures { result ≡ [] }
     {
         SignatureTable {
-            signatures: Items::of(Vec::new(alloc)),
+            signatures: Vec::new(alloc),
             taken: IndexSet::with_hasher(alloc, key),
         }
     }
@@ -95,28 +93,15 @@ impl SignatureTable {
         Ok(self.taken.contains(&key))
     }
 
-    fn with(
-        self,
-        alloc: Global,
-        name: &[u8],
-        descriptor: &[u8],
-    ) -> Result<SignatureTable, AllocError>
-        ensures { IfOk result (λ table. table ≡ self ++ record { name = name.now; descriptor = descriptor.now } ∷ []) }
-    {
-        let SignatureTable { signatures, taken } = self;
-        let taken = with_key(alloc, taken, name, descriptor)?;
-        let signature = signature_of(alloc, name, descriptor)?;
-        let signatures = pushed(signatures, signature)?;
-        Ok(SignatureTable { signatures, taken })
-    }
-
-    /// A signature behind the others. Where memory runs out the table is empty.
+    /// A signature behind the others, which want of memory leaves as they were.
     pub fn push(&mut self, alloc: Global, name: &[u8], descriptor: &[u8]) -> Result<(), AllocError>
-        ensures { OnOk result (self.new ≡ self.old ++ record { name = name.now; descriptor = descriptor.now } ∷ []) }
+        ensures ok { OnOk result (self.new ≡ self.old ++ record { name = name.now; descriptor = descriptor.now } ∷ []) }
+        ensures err { OnErr result (self.new ≡ self.old) }
     {
-        let key = *self.taken.hasher();
-        let before = mem::replace(self, SignatureTable::new(alloc, key));
-        *self = before.with(alloc, name, descriptor)?;
-        Ok(())
+        let signature = signature_of(alloc, name, descriptor)?;
+        let held = self.signatures.len();
+        self.signatures.push(signature)?;
+        let put = put_key(alloc, &mut self.taken, name, descriptor);
+        or_cut_back(put, &mut self.signatures, held)
     }
 }

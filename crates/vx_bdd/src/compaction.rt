@@ -12,9 +12,10 @@ use crate::table::Table;
 use slab::Slab;
 use std::alloc::{AllocError, Global};
 use std::collections::HashMap;
+use vx_list::GivenUp;
 
 /// Marks an id and all that is below it.
-fn mark(table: &Table, marks: &mut Marks, id: usize) -> Result<(), AllocError>
+fn mark(table: &Table, marks: &mut Marks, id: usize) -> Result<(), GivenUp>
     requires stored { is_stored table.now.nodes.slots id ≡ true }
     requires closed { IsClosed table.now.nodes.slots (is_marked marks.old) }
     ensures closed { OnOk result (IsClosed table.now.nodes.slots (is_marked marks.new)) }
@@ -36,7 +37,7 @@ fn mark(table: &Table, marks: &mut Marks, id: usize) -> Result<(), AllocError>
 }
 
 /// Marks a root and all that is below it. Never and always, which most roots are, are marked before all roots.
-fn mark_root(table: &Table, marks: &mut Marks, root: usize) -> Result<(), AllocError>
+fn mark_root(table: &Table, marks: &mut Marks, root: usize) -> Result<(), GivenUp>
     requires stored { is_stored table.now.nodes.slots root ≡ true }
     requires closed { IsClosed table.now.nodes.slots (is_marked marks.old) }
     requires never { is_marked marks.old 0 ≡ true }
@@ -52,7 +53,7 @@ fn mark_root(table: &Table, marks: &mut Marks, root: usize) -> Result<(), AllocE
 }
 
 /// Marks never, always, the roots and all that is below them, and nothing else.
-pub(crate) fn mark_all(table: &Table, marks: &mut Marks, roots: &[usize]) -> Result<(), AllocError>
+pub(crate) fn mark_all(table: &Table, marks: &mut Marks, roots: &[usize]) -> Result<(), GivenUp>
     requires { AreStored table.now.nodes.slots roots.now }
     ensures { OnOk result (IsMarking table.now.nodes.slots roots.now (is_marked marks.new)) }
 {

@@ -1,6 +1,6 @@
 //! Marks of ids.
 
-ghost use Rattle.std.specs.Prelude.{◌≡◌, ℕ, [], true, false, OnOk, ◌<◌, if◌then◌else◌, length, nat_eq, slice_index_or};
+ghost use Rattle.std.specs.Prelude.{◌≡◌, ℕ, [], true, false, OnErr, OnOk, ◌<◌, if◌then◌else◌, length, nat_eq, slice_index_or};
 ghost use Rattle.std.proofs.Props.{props};
 ghost use Rattle.vx_bdd.specs.Stamps.{has_stamp, AreUpTo};
 
@@ -59,9 +59,10 @@ impl Marks {
         Ok(())
     }
 
-    /// Marks an id.
+    /// Marks an id. Want of memory leaves the marks as they were.
     pub fn add(&mut self, id: usize) -> Result<(), AllocError>
-        ensures { OnOk result ((x : ℕ) → has_stamp self.new.stamps.items self.new.current x ≡ (if nat_eq id x then true else has_stamp self.old.stamps.items self.old.current x)) }
+        ensures ok { OnOk result ((x : ℕ) → has_stamp self.new.stamps.items self.new.current x ≡ (if nat_eq id x then true else has_stamp self.old.stamps.items self.old.current x)) }
+        ensures err { OnErr result ((x : ℕ) → has_stamp self.new.stamps.items self.new.current x ≡ has_stamp self.old.stamps.items self.old.current x) }
     {
         self.reach(id)?;
         self.stamps[id] = self.current;

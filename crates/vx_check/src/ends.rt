@@ -1,10 +1,11 @@
 //! Ends, and words that stand first in them.
 
-ghost use Rattle.std.specs.Prelude.{◌≡◌, ◌++◌, IfOk, OnOk, codes};
+ghost use Rattle.std.specs.Prelude.{◌≡◌, ◌++◌, IfOk, OnErr, OnOk, codes};
 ghost use Rattle.vx_words.specs.Lines.{words};
 ghost use Rattle.vx_check.specs.Ends.{begin, begin_an_end, behind_blanks, is_whole, passes, rank};
 
 use std::alloc::{AllocError, Global};
+use vx_list::or_cut_back;
 use vx_report_line::line_in;
 use vx_value::{End, Name};
 use vx_words::next_word;
@@ -56,13 +57,16 @@ pub fn begin(front: &[Name], text: &[u8]) -> bool
     true
 }
 
-/// Puts words, each behind a blank.
+/// Puts words, each behind a blank. Want of memory leaves the text as it was.
+#[tactic(auto, using(std::proofs::lemmas::List::append_assoc, std::proofs::lemmas::List::take_at))]
 pub fn put_words(out: &mut Vec<u8>, words: &[Name]) -> Result<(), AllocError>
-    ensures { OnOk result (out.new.items ≡ out.old.items ++ behind_blanks words.now) }
+    ensures ok { OnOk result (out.new.items ≡ out.old.items ++ behind_blanks words.now) }
+    ensures err { OnErr result (out.new.items ≡ out.old.items) }
 {
+    let held = out.len();
     for word in words {
-        out.extend_from_slice(b" ")?;
-        out.extend_from_slice(word.bytes())?;
+        or_cut_back(out.extend_from_slice(b" "), out, held)?;
+        or_cut_back(out.extend_from_slice(word.bytes()), out, held)?;
     }
     Ok(())
 }

@@ -1,6 +1,6 @@
 //! The constants of a class that is assembled, in the order in which they are first needed.
 
-ghost use Rattle.std.specs.Prelude.{◌≡◌, ◌%◌, ◌≤◌, ◌<◌, ◌++◌, ◌∷◌, fold, option_copied, OnOk, IfOk};
+ghost use Rattle.std.specs.Prelude.{◌≡◌, ◌%◌, ◌≤◌, ◌<◌, ◌++◌, ◌∷◌, fold, option_copied, OnErr, OnOk, IfOk};
 ghost use Rattle.std.specs.List.{flat_map, AllByRecursion};
 ghost use Rattle.std.specs.Str.{bytes_eq};
 ghost use Rattle.vx_pool.specs.Spelling.{IsPool};
@@ -10,7 +10,7 @@ ghost use Rattle.vx_class_parts.specs.Keys.{hashed_text};
 use crate::table::ConstantTable;
 use std::alloc::{AllocError, Global};
 use std::hash::{Hash, Hasher};
-use vx_list::Items;
+use vx_list::{GivenUp, Items};
 use vx_pool::{Entry, Pool, Utf8};
 use vx_value::Name;
 
@@ -132,38 +132,39 @@ fn is_same(first: &Constant, second: &Constant) -> bool
     }
 }
 
-/// A text behind the others, unless it is there.
+/// A text behind the others, unless it is there. Want of memory leaves them as they were.
 pub fn put_text(alloc: Global, pool: &mut ConstantTable, text: &[u8]) -> Result<(), AllocError>
-    ensures { OnOk result (pool.new ≡ with_text pool.old text.now) }
+    ensures ok { OnOk result (pool.new ≡ with_text pool.old text.now) }
+    ensures err { OnErr result (pool.new ≡ pool.old) }
 {
     pool.put(Constant::Text(Name::of(alloc, text)?))
 }
 
-fn put_number(pool: &mut ConstantTable, number: i32) -> Result<(), AllocError>
+fn put_number(pool: &mut ConstantTable, number: i32) -> Result<(), GivenUp>
     ensures { OnOk result (pool.new ≡ with pool.old (Constant.Integer number)) }
 {
-    pool.put(Constant::Integer(number))
+    Ok(pool.put(Constant::Integer(number))?)
 }
 
-fn put_long(pool: &mut ConstantTable, number: i64) -> Result<(), AllocError>
+fn put_long(pool: &mut ConstantTable, number: i64) -> Result<(), GivenUp>
     ensures { OnOk result (pool.new ≡ with pool.old (Constant.Long number)) }
 {
-    pool.put(Constant::Long(number))
+    Ok(pool.put(Constant::Long(number))?)
 }
 
 /// A class and its name behind the others, unless they are there.
-pub fn put_class(alloc: Global, pool: &mut ConstantTable, name: &[u8]) -> Result<(), AllocError>
+pub fn put_class(alloc: Global, pool: &mut ConstantTable, name: &[u8]) -> Result<(), GivenUp>
     ensures { OnOk result (pool.new ≡ with_class pool.old name.now) }
 {
     pool.put(Constant::Class(Name::of(alloc, name)?))?;
-    put_text(alloc, pool, name)
+    Ok(put_text(alloc, pool, name)?)
 }
 
-fn put_literal(alloc: Global, pool: &mut ConstantTable, text: &[u8]) -> Result<(), AllocError>
+fn put_literal(alloc: Global, pool: &mut ConstantTable, text: &[u8]) -> Result<(), GivenUp>
     ensures { OnOk result (pool.new ≡ with_literal pool.old text.now) }
 {
     pool.put(Constant::Literal(Name::of(alloc, text)?))?;
-    put_text(alloc, pool, text)
+    Ok(put_text(alloc, pool, text)?)
 }
 
 fn put_name_and_type(
@@ -171,14 +172,14 @@ fn put_name_and_type(
     pool: &mut ConstantTable,
     name: &[u8],
     descriptor: &[u8],
-) -> Result<(), AllocError>
+) -> Result<(), GivenUp>
     ensures { OnOk result (pool.new ≡ with_name_and_type pool.old name.now descriptor.now) }
 {
     let first = Name::of(alloc, name)?;
     let second = Name::of(alloc, descriptor)?;
     pool.put(Constant::NameAndType(first, second))?;
     put_text(alloc, pool, name)?;
-    put_text(alloc, pool, descriptor)
+    Ok(put_text(alloc, pool, descriptor)?)
 }
 
 fn put_member(
@@ -188,7 +189,7 @@ fn put_member(
     class: &[u8],
     name: &[u8],
     descriptor: &[u8],
-) -> Result<(), AllocError>
+) -> Result<(), GivenUp>
     ensures { OnOk result (pool.new ≡ with_member pool.old kind class.now name.now descriptor.now) }
 {
     let first = Name::of(alloc, class)?;
@@ -343,11 +344,11 @@ pub fn put_constant(
     alloc: Global,
     pool: &mut ConstantTable,
     constant: &Constant,
-) -> Result<(), AllocError>
+) -> Result<(), GivenUp>
     ensures { OnOk result (pool.new ≡ with_constant pool.old constant.now) }
 {
     match constant {
-        Constant::Text(text) => put_text(alloc, pool, text.bytes()),
+        Constant::Text(text) => Ok(put_text(alloc, pool, text.bytes())?),
         Constant::Integer(number) => put_number(pool, *number),
         Constant::Long(number) => put_long(pool, *number),
         Constant::Class(name) => put_class(alloc, pool, name.bytes()),

@@ -1,6 +1,6 @@
 //! Constants in order, each once, with their indices in the pool.
 
-ghost use Rattle.std.specs.Prelude.{◌≡◌, ◌<◌, ◌^◌, [], OnOk};
+ghost use Rattle.std.specs.Prelude.{◌≡◌, ◌<◌, ◌^◌, [], OnErr, OnOk};
 ghost use Rattle.vx_class_parts.specs.Constants.{with, index_of, places};
 
 use crate::constants::{Constant, width};
@@ -51,10 +51,11 @@ impl ConstantTable {
         self.places
     }
 
-    /// Puts a constant behind the others, unless it is there.
+    /// Puts a constant behind the others, unless it is there. Want of memory leaves the table as it was.
     #[tactic(auto, unfolding(crate::specs::Constants::with))]
     pub(crate) fn put(&mut self, constant: Constant) -> Result<(), AllocError>
-        ensures { OnOk result (self.new ≡ with self.old constant) }
+        ensures ok { OnOk result (self.new ≡ with self.old constant) }
+        ensures err { OnErr result (self.new ≡ self.old) }
     {
         if self.indices.contains_key(&constant) {
             return Ok(());

@@ -3,7 +3,7 @@ use Rattle.std.proofs.Common.{◌≡◌, ℕ, List, Some, inl, inr, ◌⊎◌, r
 use Rattle.vx_io.specs.Held.{Held, FilesState}
 use Rattle.vx_io.specs.Sink.{SinkState}
 use Rattle.vx_plans.specs.declared.status.Status.{Status}
-use Rattle.vx_plans.specs.declared.status.Status.TheVariants.{Done, Failing, NoMemory, WriteFault}
+use Rattle.vx_plans.specs.declared.status.Status.TheVariants.{Differing, Done, Failing, NoMemory, WriteFault}
 use Rattle.vx_report_commands.specs.Agree.{agree_plan, unlike}
 use Rattle.vx_cli.specs.Causes.{IsGood, IsShown, NothingFails, Shows}
 use Rattle.vx_cli.specs.Command.{Agree}
@@ -33,4 +33,5 @@ agree_completes old new out out' path other held status told good fails shown = 
     by_status NoMemory h = inr refl
     by_status WriteFault h = absurd (fails.2 h.0)
     by_status Failing h = absurd h.0
+    by_status Differing h = absurd h.0
     by_status s h = absurd (no_pair_cause unlike held old new path other s pair h.0)

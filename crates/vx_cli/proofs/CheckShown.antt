@@ -12,7 +12,7 @@ use Rattle.vx_io.specs.Sink.{Gains, SinkState}
 use Rattle.vx_model.specs.Text.{BadLine}
 use Rattle.vx_report.specs.declared.report.Report.{Report}
 use Rattle.vx_plans.specs.declared.status.Status.{Status}
-use Rattle.vx_plans.specs.declared.status.Status.TheVariants.{BadExpected, BadReport, Done, Failing, NoMemory, ReadFault, TooLarge, WriteFault}
+use Rattle.vx_plans.specs.declared.status.Status.TheVariants.{BadExpected, BadReport, Differing, Done, Failing, NoMemory, ReadFault, TooLarge, WriteFault}
 use Rattle.vx_cli.specs.Causes.{CheckCause, HasReport, IsBadAt, IsBadExpected, IsChecking, IsExpectedIn, IsFailed, IsFailing, IsGood, IsReportIn, IsShown, NoFileRose, NothingFails, Shows}
 use Rattle.vx_cli.specs.Command.{Check}
 use Rattle.vx_inputs.specs.Reports.{most_report_bytes}
@@ -132,6 +132,7 @@ check_completes old new out out' path file held status told good fails_not shown
     by_status NoMemory h = inr refl
     by_status WriteFault h = absurd (fails_not.2 h.0)
     by_status Failing h = let k = here (λ held. (text : List ℕ) × IsFailed held path file text × Gains out out' text) h.1 in absurd (no_one k.0 k.1)
+    by_status Differing h = cc (h.0)
     by_status (ReadFault p) h = absurd (faulted p h.0)
     by_status (TooLarge p room) h = absurd (too_large p room h.0)
     by_status (BadReport line) h = absurd (not_bad held path line good.0.0 good.0.1 (here (λ held. IsBadAt held path line) h.0))

@@ -16,7 +16,7 @@ use Rattle.vx_reporting.proofs.OneText.{one_text}
 use Rattle.vx_reporting.specs.Reported.{IsReported}
 use Rattle.vx_summary.specs.Summary.{summary_text}
 use Rattle.vx_cli.specs.Causes.{AreClasses, AreGiven, HasOneResult, IsAgreeing, IsJoining, IsReport, IsResult, IsRetelling, IsSaidOf, IsShown, IsTold, IsVerification}
-use Rattle.vx_cli.specs.Command.{Agree, Asm, Check, Command, Cut, Join, Load, Output, Project, Retell, Run, Show, Tell, Verify}
+use Rattle.vx_cli.specs.Command.{Agree, Asm, Check, Command, Compare, Cut, Join, Load, Output, Project, Retell, Run, Show, Tell, Verify}
 use Rattle.vx_cli.specs.Ends.{Ends}
 use Rattle.vx_plans.specs.Job.{names_of, program_in}
 use Rattle.vx_plans.specs.Load.{IsSummary, load_limit, load_model, load_program}
@@ -120,6 +120,7 @@ one_result held (Verify folder path main) one other p h k = one_verification hel
 one_result held (Retell retelling folder path main limit word) one other p h k = one_retelling held retelling folder path main limit word one other h k
 one_result held (Cut model choice report) one other p h k = one_parted held model choice report one other p h k
 one_result held (Check report file) one other p h k = absurd p
+one_result held (Compare report against) one other p h k = absurd p
 one_result held (Show page) one other p h k = h ∙ sym k
 
 -- a call that is done has written each text that its command asks for, of which there is one

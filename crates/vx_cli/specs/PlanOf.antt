@@ -1,6 +1,7 @@
 -- The plan of each command.
-use Rattle.vx_cli.specs.Command.{Command, Run, Project, Output, Tell, Agree, Join, Asm, Load, Verify, Retell, Cut, Check, Show}
+use Rattle.vx_cli.specs.Command.{Command, Run, Project, Output, Tell, Agree, Join, Asm, Load, Verify, Retell, Cut, Check, Compare, Show}
 use Rattle.vx_check_commands.specs.Check.{check_plan}
+use Rattle.vx_check_commands.specs.Compare.{compare_plan}
 use Rattle.vx_cut_command.specs.Cut.{cut_plan}
 use Rattle.vx_report_commands.specs.Agree.{agree_plan}
 use Rattle.vx_report_commands.specs.Assemble.{asm_plan}
@@ -28,4 +29,5 @@ plan_of (Verify folder model main) = verify_plan folder model main
 plan_of (Retell retelling folder model main limit configuration) = retell_plan retelling folder model main limit configuration
 plan_of (Cut model choice report) = cut_plan model choice report
 plan_of (Check report expected) = check_plan report expected
+plan_of (Compare report other) = compare_plan report other
 plan_of (Show page) = Write (Exactly (page_text page))

@@ -30,6 +30,7 @@ const HELP: &[u8] =
 \x20 varexj picture REPORT [ends|N]   a diagram of it, its ends or piece N, for Graphviz\n\
 \x20 varexj page REPORT               a page that shows it in a browser\n\
 \x20 varexj agree REPORT OTHER        where two reports say the same\n\
+\x20 varexj compare REPORT OTHER      where two reports differ, and how\n\
 \x20 varexj join REPORT OTHER..       one report out of several, of parts of a model\n\
 \x20 varexj asm SOURCE                the class file that a source names\n\
 \x20 varexj load SEED OPTIONS         the size of a report of a program made for trials\n\
@@ -55,7 +56,7 @@ Exit codes, with one line on the standard error for each but 0:\n\
 \x20 1 no memory     5 bad model         10 bad report    13 too large\n\
 \x20 2 usage         6 no configuration  11 not allowed   14 unlike\n\
 \x20 3 read fault    7 bad class         15 failing       17 bad expected\n\
-\x20                                                      18 not joinable\n\
+\x20                                     16 differing     18 not joinable\n\
 \n\
 Example: varexj run classes shop.cnf shop.Main 100000 > shop.report\n\
 \x20        varexj explain shop.report\n";

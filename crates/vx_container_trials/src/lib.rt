@@ -1,5 +1,5 @@
-//! Numbers, keys, tables of texts, sets of configurations, and conditional values, rows and frames on small examples, over
-//! the space of masks and the space of diagrams.
+//! Sets of configurations on small examples, over the space of masks and the space of diagrams, and conditional values, rows and frames
+//! over masks: each run of the built program has those over diagrams.
 #![tactic(auto)]
 
 #[cfg(test)]
@@ -9,12 +9,6 @@ mod diagrams;
 #[cfg(test)]
 mod frames;
 #[cfg(test)]
-mod keys;
-#[cfg(test)]
-mod masks;
-#[cfg(test)]
-mod numbers;
-#[cfg(test)]
 mod options;
 #[cfg(test)]
 mod rows;
@@ -22,7 +16,5 @@ mod rows;
 mod sets;
 #[cfg(test)]
 mod tests;
-#[cfg(test)]
-mod texts;
 #[cfg(test)]
 mod tools;

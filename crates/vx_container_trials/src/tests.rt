@@ -5,25 +5,19 @@ use vx_space::MaskSpace;
 
 #[test]
 fn conditional_values(rt: HostRuntime) -> Result<(), Fail> {
-    let alloc = rt.alloc();
-    assert!(rt; conds::are_right(alloc, &mut MaskSpace::new(2))?);
-    assert!(rt; conds::are_right(alloc, &mut BddSpace::new(alloc, 2)?)?);
+    assert!(rt; conds::are_right(rt.alloc(), &mut MaskSpace::new(2))?);
     Ok(())
 }
 
 #[test]
 fn rows_of_values(rt: HostRuntime) -> Result<(), Fail> {
-    let alloc = rt.alloc();
-    assert!(rt; rows::are_right(alloc, &mut MaskSpace::new(2))?);
-    assert!(rt; rows::are_right(alloc, &mut BddSpace::new(alloc, 2)?)?);
+    assert!(rt; rows::are_right(rt.alloc(), &mut MaskSpace::new(2))?);
     Ok(())
 }
 
 #[test]
 fn frames_of_a_method(rt: HostRuntime) -> Result<(), Fail> {
-    let alloc = rt.alloc();
-    assert!(rt; frames::are_right(alloc, &mut MaskSpace::new(2))?);
-    assert!(rt; frames::are_right(alloc, &mut BddSpace::new(alloc, 2)?)?);
+    assert!(rt; frames::are_right(rt.alloc(), &mut MaskSpace::new(2))?);
     Ok(())
 }
 

@@ -9,7 +9,7 @@ use crate::row::{ClassRow, How, MethodRow};
 use crate::table::{ERRORS, EXCEPTIONS, FIRST, GENERAL, SYSTEM_CLASSES, TEXTS, VALUES};
 use std::alloc::{AllocError, Global};
 use vx_class::ClassFile;
-use vx_list::Items;
+use vx_list::{GivenUp, Items};
 
 /// The first core classes, and for each of them and each of its methods the number of a native one.
 #[derive(Drop)]
@@ -57,7 +57,7 @@ impl Draft {
 
 /// The classes of rows, behind those that are there.
 #[tactic(auto, unfolding(crate::specs::Rows::row_numbers))]
-fn put_rows(alloc: Global, draft: &mut Draft, rows: &[ClassRow]) -> Result<(), AllocError>
+fn put_rows(alloc: Global, draft: &mut Draft, rows: &[ClassRow]) -> Result<(), GivenUp>
     ensures { OnOk result (Adds draft.old draft.new (map row_file rows.now) (map row_numbers rows.now)) }
 {
     for row in rows {
@@ -70,7 +70,7 @@ fn put_rows(alloc: Global, draft: &mut Draft, rows: &[ClassRow]) -> Result<(), A
 }
 
 /// Object and the interfaces.
-pub fn put_first(alloc: Global, draft: &mut Draft) -> Result<(), AllocError>
+pub fn put_first(alloc: Global, draft: &mut Draft) -> Result<(), GivenUp>
     requires { HasFirst 0 draft.old }
     ensures { OnOk result (HasFirst 8 draft.new) }
 {
@@ -79,7 +79,7 @@ pub fn put_first(alloc: Global, draft: &mut Draft) -> Result<(), AllocError>
 }
 
 /// The classes of texts.
-pub fn put_texts(alloc: Global, draft: &mut Draft) -> Result<(), AllocError>
+pub fn put_texts(alloc: Global, draft: &mut Draft) -> Result<(), GivenUp>
     requires { HasFirst 8 draft.old }
     ensures { OnOk result (HasFirst 10 draft.new) }
 {
@@ -88,7 +88,7 @@ pub fn put_texts(alloc: Global, draft: &mut Draft) -> Result<(), AllocError>
 }
 
 /// Class, PrintStream and System.
-pub fn put_system(alloc: Global, draft: &mut Draft) -> Result<(), AllocError>
+pub fn put_system(alloc: Global, draft: &mut Draft) -> Result<(), GivenUp>
     requires { HasFirst 10 draft.old }
     ensures { OnOk result (HasFirst 13 draft.new) }
 {
@@ -97,7 +97,7 @@ pub fn put_system(alloc: Global, draft: &mut Draft) -> Result<(), AllocError>
 }
 
 /// The classes of numbers and of enums.
-pub fn put_values(alloc: Global, draft: &mut Draft) -> Result<(), AllocError>
+pub fn put_values(alloc: Global, draft: &mut Draft) -> Result<(), GivenUp>
     requires { HasFirst 13 draft.old }
     ensures { OnOk result (HasFirst 18 draft.new) }
 {
@@ -106,7 +106,7 @@ pub fn put_values(alloc: Global, draft: &mut Draft) -> Result<(), AllocError>
 }
 
 /// Throwable and the throwables with its four constructors.
-pub fn put_general(alloc: Global, draft: &mut Draft) -> Result<(), AllocError>
+pub fn put_general(alloc: Global, draft: &mut Draft) -> Result<(), GivenUp>
     requires { HasFirst 18 draft.old }
     ensures { OnOk result (HasFirst 25 draft.new) }
 {
@@ -115,7 +115,7 @@ pub fn put_general(alloc: Global, draft: &mut Draft) -> Result<(), AllocError>
 }
 
 /// The other exceptions.
-pub fn put_exceptions(alloc: Global, draft: &mut Draft) -> Result<(), AllocError>
+pub fn put_exceptions(alloc: Global, draft: &mut Draft) -> Result<(), GivenUp>
     requires { HasFirst 25 draft.old }
     ensures { OnOk result (HasFirst 35 draft.new) }
 {
@@ -124,7 +124,7 @@ pub fn put_exceptions(alloc: Global, draft: &mut Draft) -> Result<(), AllocError
 }
 
 /// The other errors, which are the last.
-pub fn put_errors(alloc: Global, draft: &mut Draft) -> Result<(), AllocError>
+pub fn put_errors(alloc: Global, draft: &mut Draft) -> Result<(), GivenUp>
     requires { HasFirst 35 draft.old }
     ensures { OnOk result (HasFirst 46 draft.new) }
 {

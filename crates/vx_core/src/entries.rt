@@ -4,7 +4,8 @@ ghost use Rattle.std.specs.Prelude.{◌≡◌, ◌^◌, ◌<◌, OnOk, length, f
 ghost use Rattle.vx_core.specs.Rows.{low, index_ahead, with_text, with_class, with_unusable, with_super, with_member, with_field, with_method, with_typed, with_reference};
 
 use crate::row::{FieldRow, MethodRow, Reference};
-use std::alloc::{AllocError, Global};
+use std::alloc::Global;
+use vx_list::GivenUp;
 use vx_pool::{Entry, Utf8};
 
 /// The lowest two bytes of a number.
@@ -36,7 +37,7 @@ fn kept_bytes<'a>(text: &'a str) -> &'a [u8]
 
 /// A text.
 #[tactic(auto, unfolding(crate::specs::Rows::with_text))]
-fn put_text(alloc: Global, pool: &mut Vec<Entry>, text: &str) -> Result<(), AllocError>
+fn put_text(alloc: Global, pool: &mut Vec<Entry>, text: &str) -> Result<(), GivenUp>
     ensures { OnOk result (pool.new.items ≡ with_text pool.old.items text.now) }
 {
     let bytes = Vec::from_slice(alloc, kept_bytes(text))?;
@@ -46,7 +47,7 @@ fn put_text(alloc: Global, pool: &mut Vec<Entry>, text: &str) -> Result<(), Allo
 
 /// A class, with its name right behind it.
 #[tactic(auto, unfolding(crate::specs::Rows::with_class))]
-pub fn put_class(alloc: Global, pool: &mut Vec<Entry>, name: &str) -> Result<(), AllocError>
+pub fn put_class(alloc: Global, pool: &mut Vec<Entry>, name: &str) -> Result<(), GivenUp>
     ensures { OnOk result (pool.new.items ≡ with_class pool.old.items name.now) }
 {
     pool.push(Entry::Class(index_ahead(pool, 1)))?;
@@ -55,7 +56,7 @@ pub fn put_class(alloc: Global, pool: &mut Vec<Entry>, name: &str) -> Result<(),
 
 /// Two unusable entries.
 #[tactic(auto, unfolding(crate::specs::Rows::with_unusable))]
-fn put_unusable(pool: &mut Vec<Entry>) -> Result<(), AllocError>
+fn put_unusable(pool: &mut Vec<Entry>) -> Result<(), GivenUp>
     ensures { OnOk result (pool.new.items ≡ with_unusable pool.old.items) }
 {
     pool.push(Entry::Unusable)?;
@@ -69,7 +70,7 @@ pub fn put_super(
     alloc: Global,
     pool: &mut Vec<Entry>,
     superclass: Option<&str>,
-) -> Result<(), AllocError>
+) -> Result<(), GivenUp>
     ensures { OnOk result (pool.new.items ≡ with_super pool.old.items superclass.entry) }
 {
     match superclass {
@@ -85,7 +86,7 @@ fn put_member(
     pool: &mut Vec<Entry>,
     name: &str,
     descriptor: &str,
-) -> Result<(), AllocError>
+) -> Result<(), GivenUp>
     ensures { OnOk result (pool.new.items ≡ with_member pool.old.items name.now descriptor.now) }
 {
     put_text(alloc, pool, name)?;
@@ -99,7 +100,7 @@ fn put_typed(
     pool: &mut Vec<Entry>,
     name: &str,
     descriptor: &str,
-) -> Result<(), AllocError>
+) -> Result<(), GivenUp>
     ensures { OnOk result (pool.new.items ≡ with_typed pool.old.items name.now descriptor.now) }
 {
     pool.push(Entry::NameAndType(index_ahead(pool, 1), index_ahead(pool, 2)))?;
@@ -108,11 +109,7 @@ fn put_typed(
 
 /// A reference, in six entries.
 #[tactic(auto, unfolding(crate::specs::Rows::with_reference))]
-fn put_reference(
-    alloc: Global,
-    pool: &mut Vec<Entry>,
-    reference: &Reference,
-) -> Result<(), AllocError>
+fn put_reference(alloc: Global, pool: &mut Vec<Entry>, reference: &Reference) -> Result<(), GivenUp>
     ensures { OnOk result (pool.new.items ≡ with_reference pool.old.items reference.now) }
 {
     match *reference {
@@ -136,11 +133,7 @@ fn put_reference(
 }
 
 /// The interfaces.
-pub fn put_interfaces(
-    alloc: Global,
-    pool: &mut Vec<Entry>,
-    names: &[&str],
-) -> Result<(), AllocError>
+pub fn put_interfaces(alloc: Global, pool: &mut Vec<Entry>, names: &[&str]) -> Result<(), GivenUp>
     ensures { OnOk result (pool.new.items ≡ fold (λ pool name. with_class pool name.now) pool.old.items names.now) }
 {
     for name in names {
@@ -151,11 +144,7 @@ pub fn put_interfaces(
 
 /// The names and descriptors of the fields.
 #[tactic(auto, unfolding(crate::specs::Rows::with_field))]
-pub fn put_fields(
-    alloc: Global,
-    pool: &mut Vec<Entry>,
-    fields: &[FieldRow],
-) -> Result<(), AllocError>
+pub fn put_fields(alloc: Global, pool: &mut Vec<Entry>, fields: &[FieldRow]) -> Result<(), GivenUp>
     ensures { OnOk result (pool.new.items ≡ fold with_field pool.old.items fields.now) }
 {
     for field in fields {
@@ -170,7 +159,7 @@ pub fn put_methods(
     alloc: Global,
     pool: &mut Vec<Entry>,
     methods: &[MethodRow],
-) -> Result<(), AllocError>
+) -> Result<(), GivenUp>
     ensures { OnOk result (pool.new.items ≡ fold with_method pool.old.items methods.now) }
 {
     for method in methods {
@@ -184,7 +173,7 @@ pub fn put_references(
     alloc: Global,
     pool: &mut Vec<Entry>,
     references: &[Reference],
-) -> Result<(), AllocError>
+) -> Result<(), GivenUp>
     ensures { OnOk result (pool.new.items ≡ fold with_reference pool.old.items references.now) }
 {
     for reference in references {

@@ -1,3 +1,4 @@
+pub mod CutBack
 pub mod Adding
 pub mod Bytes
 pub mod Fronts

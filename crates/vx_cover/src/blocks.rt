@@ -169,7 +169,7 @@ fn meet_targets<S: Space>(
     numbers: &mut Vec<u64>,
     targets: &[Target<S::Id>],
     c: &Config,
-) -> Result<Vec<Target<S::Id>>, AllocError>
+) -> Result<Vec<Target<S::Id>>, SpaceFault>
     requires { AreOpen (S.sets space.now) targets.now }
     ensures numbers { OnOk result (numbers.new.items ≡ numbers.old.items ++ covered (S.sets space.now) c.now targets.now) }
     ensures rest { IfOk result (λ rest. rest.items ≡ left_open (S.sets space.now) c.now targets.now) }
@@ -188,7 +188,7 @@ fn meet_block<S: Space>(
     numbers: &mut Vec<u64>,
     block: &mut Block<S::Id>,
     c: &Config,
-) -> Result<(), AllocError>
+) -> Result<(), SpaceFault>
     requires { IsBlock (S.sets space.now) block.old }
     ensures numbers { OnOk result (numbers.new.items ≡ numbers.old.items ++ covered (S.sets space.now) c.now block.old.targets.items) }
     ensures rest { OnOk result (block.new.targets.items ≡ left_open (S.sets space.now) c.now block.old.targets.items) }
@@ -211,7 +211,7 @@ pub fn meet<S: Space>(
     space: &S,
     blocks: &mut [Block<S::Id>],
     c: &Config,
-) -> Result<Vec<u64>, AllocError>
+) -> Result<Vec<u64>, SpaceFault>
     requires { AreBlocks (S.sets space.now) blocks.old }
     ensures blocks { OnOk result (AreBlocks (S.sets space.now) blocks.new) }
     ensures numbers { IfOk result (λ numbers. numbers.items ≡ covered (S.sets space.now) c.now (flat blocks.old)) }

@@ -15,7 +15,7 @@ use crate::scope::ended;
 use crate::target::{push_ends, push_pieces};
 use crate::tries::{Covering, Try};
 use crate::trying::{Patience, configuration, full_patience};
-use std::alloc::{AllocError, Global};
+use std::alloc::Global;
 use vx_bdd_tools::sets_of;
 use vx_list::Items;
 use vx_report::Report;
@@ -51,7 +51,7 @@ fn take_line<S: Space>(
     space: &S,
     covering: &mut Covering<S::Id>,
     configuration: Config,
-) -> Result<Try, AllocError>
+) -> Result<Try, SpaceFault>
     requires ends { AreBlocks (S.sets space.now) covering.old.ends.items }
     requires pieces { AreBlocks (S.sets space.now) covering.old.pieces.items }
     ensures line { IfOk result (λ line. IsTaken (S.sets space.now) configuration line covering.old covering.new) }

@@ -1,11 +1,12 @@
 //! The text of a cover.
 
-ghost use Rattle.std.specs.Prelude.{◌≡◌, ◌++◌, ◌≤◌, ◌<◌, ◌^◌, IfOk, OnOk, decimal, length};
+ghost use Rattle.std.specs.Prelude.{◌≡◌, ◌++◌, ◌≤◌, ◌<◌, ◌^◌, IfOk, OnErr, OnOk, decimal, length};
 ghost use Rattle.std.specs.List.{flat_map};
 ghost use Rattle.vx_cover.specs.Text.{configuration_text, cover_text, joined, name_of, options_on, try_text};
 
 use crate::tries::Try;
 use std::alloc::{AllocError, Global};
+use vx_list::or_cut_back;
 use vx_report::{Report, name_of};
 use vx_space::Config;
 use vx_value::Name;
@@ -24,23 +25,26 @@ fn options_on(alloc: Global, options: u32, c: &Config) -> Result<Vec<u32>, Alloc
     Ok(found)
 }
 
-/// Puts the names of options, joined by commas, or a dash for none.
+/// Puts the names of options, joined by commas, or a dash for none. Want of memory leaves the text as it was.
+#[tactic(auto, using(std::proofs::lemmas::List::append_assoc, std::proofs::lemmas::List::take_at))]
 fn put_names(out: &mut Vec<u8>, names: &[Name], options: &[u32]) -> Result<(), AllocError>
-    ensures { OnOk result (out.new.items ≡ out.old.items ++ joined (name_of names.now) options.now) }
+    ensures ok { OnOk result (out.new.items ≡ out.old.items ++ joined (name_of names.now) options.now) }
+    ensures err { OnErr result (out.new.items ≡ out.old.items) }
 {
     let Some((first, rest)) = options.split_first() else {
         return out.extend_from_slice(b"-");
     };
+    let held = out.len();
     out.extend_from_slice(name_of(names, *first))?;
     for option in rest {
-        out.extend_from_slice(b",")?;
-        out.extend_from_slice(name_of(names, *option))?;
+        or_cut_back(out.extend_from_slice(b","), out, held)?;
+        or_cut_back(out.extend_from_slice(name_of(names, *option)), out, held)?;
     }
     Ok(())
 }
 
 /// Puts the names of the options that are on, joined by commas, or a dash for none: the word of a configuration that commands
-/// take.
+/// take. Want of memory leaves the text as it was.
 pub fn put_configuration(
     alloc: Global,
     out: &mut Vec<u8>,
@@ -48,7 +52,8 @@ pub fn put_configuration(
     c: &Config,
 ) -> Result<(), AllocError>
     requires { length names.now < 2 ^ 32 }
-    ensures { OnOk result (out.new.items ≡ out.old.items ++ configuration_text names.now c.now) }
+    ensures ok { OnOk result (out.new.items ≡ out.old.items ++ configuration_text names.now c.now) }
+    ensures err { OnErr result (out.new.items ≡ out.old.items) }
 {
     let on = options_on(alloc, names.len() as u32, c)?;
     put_names(out, names, on.as_slice())

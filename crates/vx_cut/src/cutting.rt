@@ -1,7 +1,7 @@
 //! Cutting a model.
 
 ghost use Rattle.std.specs.Prelude.{◌≡◌, ◌⊎◌, ◌++◌, ◌-◌, ◌<◌, ◌≤◌, ◌^◌, true, false, length, nat_lt, IfOk, MatchResult, Ok};
-ghost use Rattle.vx_space.specs.Sets.{IsSet};
+ghost use Rattle.vx_space.specs.Sets.{Extends, IsSet};
 ghost use Rattle.vx_model.specs.Models.{HasOptionNames, is_allowed};
 ghost use Rattle.vx_cut.specs.Cuts.{ArePut, IsCutText, is_large, most_part_bytes, spelled};
 ghost use Rattle.vx_cut.specs.Texts.{part_text, parts_from, parts_of};
@@ -118,6 +118,7 @@ pub fn cut_text<S: Space>(
     requires chosen { length chosen.now ≡ length model.now.options }
     ensures cut { IfOk result (λ bytes. IsCutText dimacs text.now model.now chosen.now bytes.items) }
     ensures sized { ArePut (parts_of dimacs text.now model.now chosen.now) result }
+    ensures extends { Extends (S.sets space.old) (S.sets space.new) }
 {
     rules_are_read_back();
     let terms = terms_of(alloc, space, model, allowed, chosen)?;

@@ -1,11 +1,12 @@
 //! The lines of a model's text, with the header of a DIMACS text changed.
 
-ghost use Rattle.std.specs.Prelude.{◌≡◌, ◌≢◌, ◌∷◌, ◌++◌, ◌<◌, ◌≤◌, [], drop, length, OnOk};
+ghost use Rattle.std.specs.Prelude.{◌≡◌, ◌≢◌, ◌∷◌, ◌++◌, ◌<◌, ◌≤◌, [], drop, length, OnErr, OnOk, codes};
 ghost use Rattle.std.specs.List.{position_or_len};
 ghost use Rattle.vx_words.specs.Lines.{is_line_feed, parts, without_return};
 ghost use Rattle.vx_cut.specs.Texts.{header_with, is_header, line_with, lines_with};
 
 use std::alloc::AllocError;
+use vx_list::or_cut_back;
 use vx_model::Model;
 use vx_words::{next_word, put_number};
 
@@ -60,18 +61,21 @@ fn is_header(line: &[u8]) -> bool
     }
 }
 
-/// Puts the header of a model with so many clauses more.
-#[tactic(auto, unfolding(crate::specs::Texts::header_with))]
+/// Puts the header of a model with so many clauses more. Want of memory leaves the text as it was.
+#[tactic(auto, unfolding(crate::specs::Texts::header_with), using(std::proofs::lemmas::List::append_assoc, std::proofs::lemmas::List::take_at))]
 fn put_header(out: &mut Vec<u8>, model: &Model, more: usize) -> Result<(), AllocError>
-    ensures { OnOk result (out.new.items ≡ out.old.items ++ header_with model.now more) }
+    ensures ok { OnOk result (out.new.items ≡ out.old.items ++ header_with model.now more) }
+    ensures err { OnErr result (out.new.items ≡ out.old.items) }
 {
+    let held = out.len();
     out.extend_from_slice(b"p cnf ")?;
-    put_number(out, model.options.len())?;
-    out.extend_from_slice(b" ")?;
-    put_number(out, model.rules.len() as u128 + more as u128)
+    or_cut_back(put_number(out, model.options.len()), out, held)?;
+    or_cut_back(out.extend_from_slice(b" "), out, held)?;
+    let clauses = model.rules.len() as u128 + more as u128;
+    or_cut_back(put_number(out, clauses), out, held)
 }
 
-/// Puts a line of the model's text; in DIMACS the header counts so many clauses more.
+/// Puts a line of the model's text; in DIMACS the header counts so many clauses more. Want of memory leaves the text as it was.
 fn put_line(
     out: &mut Vec<u8>,
     dimacs: bool,
@@ -79,7 +83,8 @@ fn put_line(
     more: usize,
     line: &[u8],
 ) -> Result<(), AllocError>
-    ensures { OnOk result (out.new.items ≡ out.old.items ++ line_with dimacs model.now more line.now) }
+    ensures ok { OnOk result (out.new.items ≡ out.old.items ++ line_with dimacs model.now more line.now) }
+    ensures err { OnErr result (out.new.items ≡ out.old.items) }
 {
     if dimacs && is_header(line) {
         put_header(out, model, more)
@@ -88,7 +93,24 @@ fn put_line(
     }
 }
 
-/// Puts each line of the model's text, ended.
+/// Puts such a line, ended. Want of memory leaves the text as it was.
+#[tactic(auto, using(std::proofs::lemmas::List::append_assoc, std::proofs::lemmas::List::take_at))]
+fn put_ended_line(
+    out: &mut Vec<u8>,
+    dimacs: bool,
+    model: &Model,
+    more: usize,
+    line: &[u8],
+) -> Result<(), AllocError>
+    ensures ok { OnOk result (out.new.items ≡ (out.old.items ++ line_with dimacs model.now more line.now) ++ codes "\n") }
+    ensures err { OnErr result (out.new.items ≡ out.old.items) }
+{
+    let held = out.len();
+    put_line(out, dimacs, model, more, line)?;
+    or_cut_back(out.extend_from_slice(b"\n"), out, held)
+}
+
+/// Puts each line of the model's text, ended. Want of memory leaves the text as it was.
 #[tactic(auto, unfolding(crate::specs::Texts::lines_with))]
 pub fn put_lines(
     out: &mut Vec<u8>,
@@ -97,13 +119,14 @@ pub fn put_lines(
     more: usize,
     text: &[u8],
 ) -> Result<(), AllocError>
-    ensures { OnOk result (out.new.items ≡ out.old.items ++ lines_with dimacs model.now more text.now) }
+    ensures ok { OnOk result (out.new.items ≡ out.old.items ++ lines_with dimacs model.now more text.now) }
+    ensures err { OnErr result (out.new.items ≡ out.old.items) }
 {
+    let held = out.len();
     let mut rest = text;
     while !rest.is_empty() {
         let (line, after) = split_line(rest);
-        put_line(out, dimacs, model, more, line)?;
-        out.push(b'\n')?;
+        or_cut_back(put_ended_line(out, dimacs, model, more, line), out, held)?;
         rest = after;
     }
     Ok(())

@@ -1,6 +1,6 @@
 //! The text of a part of a model.
 
-ghost use Rattle.std.specs.Prelude.{◌≡◌, ◌++◌, [], OnOk, codes};
+ghost use Rattle.std.specs.Prelude.{◌≡◌, ◌++◌, [], OnErr, OnOk, codes};
 ghost use Rattle.std.specs.List.{flat_map};
 ghost use Rattle.vx_list.specs.Places.{item_or};
 ghost use Rattle.vx_model.specs.Models.{names_of};
@@ -10,6 +10,7 @@ ghost use Rattle.vx_cut.specs.Texts.{clause_text, comment_mark, demand, heading,
 use crate::lines::put_lines;
 use std::alloc::AllocError;
 use vx_explain::Literal;
+use vx_list::or_cut_back;
 use vx_model::Model;
 use vx_words::put_number;
 
@@ -29,26 +30,32 @@ fn mark(on: bool) -> &'static [u8]
     if on { b"" } else { b"!" }
 }
 
-/// Puts a literal: the name of its option, behind a `!` where it is to be off.
+/// Puts a literal: the name of its option, behind a `!` where it is to be off. Want of memory leaves the text as it was.
+#[tactic(auto, using(std::proofs::lemmas::List::append_assoc, std::proofs::lemmas::List::take_at))]
 fn put_literal(out: &mut Vec<u8>, model: &Model, literal: &Literal) -> Result<(), AllocError>
-    ensures { OnOk result (out.new.items ≡ out.old.items ++ literal_text (names_of model.now) literal.now) }
+    ensures ok { OnOk result (out.new.items ≡ out.old.items ++ literal_text (names_of model.now) literal.now) }
+    ensures err { OnErr result (out.new.items ≡ out.old.items) }
 {
+    let held = out.len();
     out.extend_from_slice(mark(literal.on))?;
-    out.extend_from_slice(name_of(model, literal.option))
+    let name = name_of(model, literal.option);
+    or_cut_back(out.extend_from_slice(name), out, held)
 }
 
-/// Puts a term: its literals, with `&` between them, or `true` for none.
-#[tactic(auto, unfolding(vx_explain::specs::Text::term_text))]
+/// Puts a term: its literals, with `&` between them, or `true` for none. Want of memory leaves the text as it was.
+#[tactic(auto, unfolding(vx_explain::specs::Text::term_text), using(std::proofs::lemmas::List::append_assoc, std::proofs::lemmas::List::take_at))]
 fn put_term(out: &mut Vec<u8>, model: &Model, term: &[Literal]) -> Result<(), AllocError>
-    ensures { OnOk result (out.new.items ≡ out.old.items ++ term_text (names_of model.now) term.now) }
+    ensures ok { OnOk result (out.new.items ≡ out.old.items ++ term_text (names_of model.now) term.now) }
+    ensures err { OnErr result (out.new.items ≡ out.old.items) }
 {
     let Some((first, rest)) = term.split_first() else {
         return out.extend_from_slice(b"true");
     };
+    let held = out.len();
     put_literal(out, model, first)?;
     for literal in rest {
-        out.extend_from_slice(b" & ")?;
-        put_literal(out, model, literal)?;
+        or_cut_back(out.extend_from_slice(b" & "), out, held)?;
+        or_cut_back(put_literal(out, model, literal), out, held)?;
     }
     Ok(())
 }
@@ -59,8 +66,8 @@ fn comment_mark(dimacs: bool) -> &'static [u8]
     if dimacs { b"c" } else { b"#" }
 }
 
-/// Puts the line of comment before a part.
-#[tactic(auto, unfolding(crate::specs::Texts::heading))]
+/// Puts the line of comment before a part. Want of memory leaves the text as it was.
+#[tactic(auto, unfolding(crate::specs::Texts::heading), using(std::proofs::lemmas::List::append_assoc, std::proofs::lemmas::List::take_at))]
 fn put_heading(
     out: &mut Vec<u8>,
     dimacs: bool,
@@ -68,14 +75,16 @@ fn put_heading(
     number: usize,
     term: &[Literal],
 ) -> Result<(), AllocError>
-    ensures { OnOk result (out.new.items ≡ out.old.items ++ heading dimacs model.now number term.now) }
+    ensures ok { OnOk result (out.new.items ≡ out.old.items ++ heading dimacs model.now number term.now) }
+    ensures err { OnErr result (out.new.items ≡ out.old.items) }
 {
+    let held = out.len();
     out.extend_from_slice(comment_mark(dimacs))?;
-    out.extend_from_slice(b" part ")?;
-    put_number(out, number)?;
-    out.extend_from_slice(b" ")?;
-    put_term(out, model, term)?;
-    out.extend_from_slice(b"\n")
+    or_cut_back(out.extend_from_slice(b" part "), out, held)?;
+    or_cut_back(put_number(out, number), out, held)?;
+    or_cut_back(out.extend_from_slice(b" "), out, held)?;
+    or_cut_back(put_term(out, model, term), out, held)?;
+    or_cut_back(out.extend_from_slice(b"\n"), out, held)
 }
 
 fn sign(on: bool) -> &'static [u8]
@@ -84,36 +93,45 @@ fn sign(on: bool) -> &'static [u8]
     if on { b"" } else { b"-" }
 }
 
-/// Puts a clause of one literal; variables are counted from 1.
+/// Puts a clause of one literal; variables are counted from 1. Want of memory leaves the text as it was.
+#[tactic(auto, using(std::proofs::lemmas::List::append_assoc, std::proofs::lemmas::List::take_at))]
 fn put_clause(out: &mut Vec<u8>, literal: &Literal) -> Result<(), AllocError>
-    ensures { OnOk result (out.new.items ≡ out.old.items ++ clause_text literal.now) }
+    ensures ok { OnOk result (out.new.items ≡ out.old.items ++ clause_text literal.now) }
+    ensures err { OnErr result (out.new.items ≡ out.old.items) }
 {
+    let held = out.len();
     out.extend_from_slice(sign(literal.on))?;
-    put_number(out, u64::from(literal.option) + 1)?;
-    out.extend_from_slice(b" 0")?;
-    out.extend_from_slice(b"\n")
+    or_cut_back(put_number(out, u64::from(literal.option) + 1), out, held)?;
+    or_cut_back(out.extend_from_slice(b" 0"), out, held)?;
+    or_cut_back(out.extend_from_slice(b"\n"), out, held)
 }
 
-/// Puts a clause for each literal.
+/// Puts a clause for each literal. Want of memory leaves the text as it was.
+#[tactic(auto, using(std::proofs::lemmas::List::append_assoc, std::proofs::lemmas::List::take_at))]
 fn put_clauses(out: &mut Vec<u8>, term: &[Literal]) -> Result<(), AllocError>
-    ensures { OnOk result (out.new.items ≡ out.old.items ++ flat_map clause_text term.now) }
+    ensures ok { OnOk result (out.new.items ≡ out.old.items ++ flat_map clause_text term.now) }
+    ensures err { OnErr result (out.new.items ≡ out.old.items) }
 {
+    let held = out.len();
     for literal in term {
-        put_clause(out, literal)?;
+        or_cut_back(put_clause(out, literal), out, held)?;
     }
     Ok(())
 }
 
-/// Puts the rule that a term is to hold.
+/// Puts the rule that a term is to hold. Want of memory leaves the text as it was.
+#[tactic(auto, using(std::proofs::lemmas::List::append_assoc, std::proofs::lemmas::List::take_at))]
 fn put_rule(out: &mut Vec<u8>, model: &Model, term: &[Literal]) -> Result<(), AllocError>
-    ensures { OnOk result (out.new.items ≡ out.old.items ++ (codes "rule " ++ term_text (names_of model.now) term.now ++ codes "\n")) }
+    ensures ok { OnOk result (out.new.items ≡ out.old.items ++ (codes "rule " ++ term_text (names_of model.now) term.now ++ codes "\n")) }
+    ensures err { OnErr result (out.new.items ≡ out.old.items) }
 {
+    let held = out.len();
     out.extend_from_slice(b"rule ")?;
-    put_term(out, model, term)?;
-    out.extend_from_slice(b"\n")
+    or_cut_back(put_term(out, model, term), out, held)?;
+    or_cut_back(out.extend_from_slice(b"\n"), out, held)
 }
 
-/// Puts what demands a term.
+/// Puts what demands a term. Want of memory leaves the text as it was.
 #[tactic(auto, unfolding(crate::specs::Texts::demand))]
 fn put_demand(
     out: &mut Vec<u8>,
@@ -121,7 +139,8 @@ fn put_demand(
     model: &Model,
     term: &[Literal],
 ) -> Result<(), AllocError>
-    ensures { OnOk result (out.new.items ≡ out.old.items ++ demand dimacs model.now term.now) }
+    ensures ok { OnOk result (out.new.items ≡ out.old.items ++ demand dimacs model.now term.now) }
+    ensures err { OnErr result (out.new.items ≡ out.old.items) }
 {
     if dimacs {
         put_clauses(out, term)
@@ -131,6 +150,8 @@ fn put_demand(
 }
 
 /// Puts the part of a term: a line of comment with its number and the term, the model's text, and what demands the term.
+/// Want of memory leaves the text as it was.
+#[tactic(auto, using(std::proofs::lemmas::List::append_assoc, std::proofs::lemmas::List::take_at))]
 pub fn put_part(
     out: &mut Vec<u8>,
     dimacs: bool,
@@ -139,9 +160,11 @@ pub fn put_part(
     number: usize,
     term: &[Literal],
 ) -> Result<(), AllocError>
-    ensures { OnOk result (out.new.items ≡ out.old.items ++ part_text dimacs text.now model.now number term.now) }
+    ensures ok { OnOk result (out.new.items ≡ out.old.items ++ part_text dimacs text.now model.now number term.now) }
+    ensures err { OnErr result (out.new.items ≡ out.old.items) }
 {
+    let held = out.len();
     put_heading(out, dimacs, model, number, term)?;
-    put_lines(out, dimacs, model, term.len(), text)?;
-    put_demand(out, dimacs, model, term)
+    or_cut_back(put_lines(out, dimacs, model, term.len(), text), out, held)?;
+    or_cut_back(put_demand(out, dimacs, model, term), out, held)
 }

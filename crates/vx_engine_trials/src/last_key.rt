@@ -7,7 +7,7 @@ use vx_value::Key;
 
 /// Chooses the group whose key is last.
 #[derive(Clone, Copy, Debug)]
-pub(crate) struct LastKey;
+pub struct LastKey;
 
 impl Picker for LastKey {
     ghost picks = { λ keys place. place < length keys };

@@ -1,19 +1,11 @@
-//! Programs of one class or a few run whole, from assembler sources to the text of a report, with groups picked in two orders, over
-//! the space of masks and the space of diagrams.
+//! Programs of one class run whole over the space of masks, from an assembler source to the text of a report, with groups picked in two
+//! orders. Over the space of diagrams the built program runs them.
 #![tactic(auto)]
 
 #[cfg(test)]
-mod callers;
-#[cfg(test)]
 mod cases;
-#[cfg(test)]
-mod findings;
-#[cfg(test)]
-mod last_key;
-#[cfg(test)]
-mod least_key;
-pub mod long_run;
-mod programs;
+pub mod last_key;
+pub mod programs;
 #[cfg(test)]
 mod runs;
 #[cfg(test)]

@@ -1,26 +1,24 @@
 //! From the sources of classes to a program with the model of its options.
 
-ghost use Rattle.std.specs.Prelude.{◌≡◌, All, IfOk, length, map, true};
+ghost use Rattle.std.specs.Prelude.{◌≡◌, All, IfOk, length, true};
 ghost use Rattle.vx_class.specs.File.{Holds};
 ghost use Rattle.vx_families.specs.Bounds.{IsBounded};
 ghost use Rattle.vx_heap.specs.Heap.{has_options};
 ghost use Rattle.vx_model.specs.Models.{IsModel};
 
-use std::alloc::{AllocError, Global};
+use std::alloc::Global;
 use std::test::Fail;
 use vx_asm::assemble;
 use vx_class::{ClassFile, read_class};
 use vx_core::core;
 use vx_link::Program;
 use vx_linker::link;
-use vx_list::Items;
 use vx_model::{Model, read_model};
 use vx_program_bounds::linked_are_bounded;
-use vx_value::Name;
 
 /// A linked program, and the model of its options.
 #[derive(Drop)]
-pub(crate) struct Example {
+pub struct Example {
     pub program: Program,
     pub model: Model,
 }
@@ -46,7 +44,7 @@ fn folder(alloc: Global, source: &[u8]) -> Result<Vec<ClassFile>, Fail>
 }
 
 /// The program of the source of the class `Main` and a model, linked with the core classes.
-pub(crate) fn linked(alloc: Global, source: &[u8], model: &[u8]) -> Result<Example, Fail>
+pub fn linked(alloc: Global, source: &[u8], model: &[u8]) -> Result<Example, Fail>
     ensures bounded { IfOk result (λ example. IsBounded example.program) }
     ensures options { IfOk result (λ example. has_options (length example.model.options) example.program.fields ≡ true) }
     ensures lawful { IfOk result (λ example. IsModel example.model) }
@@ -57,15 +55,4 @@ pub(crate) fn linked(alloc: Global, source: &[u8], model: &[u8]) -> Result<Examp
     linked_are_bounded();
     let program = link(alloc, classes, core, &model, b"Main")?;
     Ok(Example { program, model })
-}
-
-/// The names of a model's options.
-pub(crate) fn names_of(alloc: Global, model: &Model) -> Result<Items<Name>, AllocError>
-    ensures { IfOk result (λ names. names ≡ map (λ o. o.name) model.now.options) }
-{
-    let mut names = Vec::new(alloc);
-    for option in model.options.as_slice() {
-        names.push(Name::of(alloc, option.name.bytes())?)?;
-    }
-    Ok(Items::of(names))
 }

@@ -1,26 +1,38 @@
-//! Whole runs: the text of a report in both spaces, and what two reports say of each configuration.
+//! Whole runs: the text of a report over the space of masks, and what two reports say of each configuration.
 
-ghost use Rattle.std.specs.Prelude.{◌≡◌, length, true};
+ghost use Rattle.std.specs.Prelude.{◌≡◌, IfOk, length, map, true};
 ghost use Rattle.vx_families.specs.Bounds.{IsBounded};
 ghost use Rattle.vx_heap.specs.Heap.{has_options};
 ghost use Rattle.vx_model.specs.Models.{IsModel};
 
 use crate::cases::Case;
-use crate::programs::{Example, linked, names_of};
+use crate::programs::{Example, linked};
 use std::alloc::{AllocError, Global};
 use std::process::Abort;
 use std::test::Fail;
-use vx_bdd::BddSpace;
 use vx_engine::run_with;
-use vx_model::allowed;
+use vx_list::Items;
+use vx_model::{Model, allowed};
 use vx_report::{Report, project_text};
 use vx_report_reader::read_report;
 use vx_reporting::report_findings;
 use vx_sched::Picker;
 use vx_space::{Config, MaskSpace, Space};
+use vx_value::Name;
 
 /// The most attempts that a run may have.
 const MOST_ATTEMPTS: u64 = 1_000_000_000;
+
+/// The names of a model's options.
+fn names_of(alloc: Global, model: &Model) -> Result<Items<Name>, AllocError>
+    ensures { IfOk result (λ names. names ≡ map (λ o. o.name) model.now.options) }
+{
+    let mut names = Vec::new(alloc);
+    for option in model.options.as_slice() {
+        names.push(Name::of(alloc, option.name.bytes())?)?;
+    }
+    Ok(Items::of(names))
+}
 
 /// The text of the report of a case over a space.
 fn report_in<S: Space, K: Picker>(
@@ -46,42 +58,6 @@ fn report_in<S: Space, K: Picker>(
 }
 
 /// The text of the report of a case over the space of masks.
-fn report_over_masks<K: Picker>(
-    rt: &impl Abort,
-    alloc: Global,
-    case: &Case,
-    example: &Example,
-    picker: &mut K,
-) -> Result<Vec<u8>, Fail>
-    requires bounded { IsBounded example.now.program }
-    requires fields { has_options (length example.now.model.options) example.now.program.fields ≡ true }
-    requires lawful { IsModel example.now.model }
-{
-    let options = example.model.options.len();
-    assert!(rt; options <= 6);
-    let mut masks = MaskSpace::new(options as u32);
-    report_in(rt, alloc, case, example, &mut masks, picker)
-}
-
-/// The text of the report of a case over the space of diagrams.
-fn report_over_diagrams<K: Picker>(
-    rt: &impl Abort,
-    alloc: Global,
-    case: &Case,
-    example: &Example,
-    picker: &mut K,
-) -> Result<Vec<u8>, Fail>
-    requires bounded { IsBounded example.now.program }
-    requires fields { has_options (length example.now.model.options) example.now.program.fields ≡ true }
-    requires lawful { IsModel example.now.model }
-{
-    let options = example.model.options.len();
-    assert!(rt; options <= 64);
-    let mut diagrams = BddSpace::new(alloc, options as u32)?;
-    report_in(rt, alloc, case, example, &mut diagrams, picker)
-}
-
-/// The text of the report of a case, which is the same over both spaces.
 pub(crate) fn report_of<K: Picker>(
     rt: &impl Abort,
     alloc: Global,
@@ -89,10 +65,10 @@ pub(crate) fn report_of<K: Picker>(
     picker: &mut K,
 ) -> Result<Vec<u8>, Fail> {
     let example = linked(alloc, case.source, case.model)?;
-    let text = report_over_masks(rt, alloc, case, &example, picker)?;
-    let again = report_over_diagrams(rt, alloc, case, &example, picker)?;
-    assert!(rt; again.as_slice() == text.as_slice());
-    Ok(text)
+    let options = example.model.options.len();
+    assert!(rt; options <= 6);
+    let mut masks = MaskSpace::new(options as u32);
+    report_in(rt, alloc, case, &example, &mut masks, picker)
 }
 
 /// Whether two reports hold a configuration of four options, and say the same of it.

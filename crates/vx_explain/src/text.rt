@@ -1,6 +1,6 @@
 //! The text of explanations.
 
-ghost use Rattle.std.specs.Prelude.{◌≡◌, ◌++◌, ◌≤◌, ◌<◌, ◌^◌, IfOk, OnOk, length, option_map};
+ghost use Rattle.std.specs.Prelude.{◌≡◌, ◌++◌, ◌≤◌, ◌<◌, ◌^◌, IfOk, OnErr, OnOk, length, option_map};
 ghost use Rattle.std.specs.List.{flat_map};
 ghost use Rattle.vx_explain.specs.Text.{example_text, explained_text, explanation_text, literal_text, mark, rule_text, term_text, when_text};
 
@@ -8,7 +8,7 @@ use crate::explained::Explained;
 use crate::literal::{Literal, Term};
 use std::alloc::{AllocError, Global};
 use vx_cover::put_configuration;
-use vx_list::Items;
+use vx_list::{Items, or_cut_back};
 use vx_report::{Report, name_of};
 use vx_space::Config;
 use vx_value::Name;
@@ -20,42 +20,50 @@ fn mark(on: bool) -> &'static [u8]
     if on { b"" } else { b"!" }
 }
 
-/// Puts a literal: the name of its option, behind a `!` where it is to be off.
+/// Puts a literal: the name of its option, behind a `!` where it is to be off. Want of memory leaves the text as it was.
+#[tactic(auto, using(std::proofs::lemmas::List::append_assoc, std::proofs::lemmas::List::take_at))]
 fn put_literal(out: &mut Vec<u8>, names: &[Name], literal: &Literal) -> Result<(), AllocError>
-    ensures { OnOk result (out.new.items ≡ out.old.items ++ literal_text names.now literal.now) }
+    ensures ok { OnOk result (out.new.items ≡ out.old.items ++ literal_text names.now literal.now) }
+    ensures err { OnErr result (out.new.items ≡ out.old.items) }
 {
+    let held = out.len();
     out.extend_from_slice(mark(literal.on))?;
-    out.extend_from_slice(name_of(names, literal.option))
+    let name = name_of(names, literal.option);
+    or_cut_back(out.extend_from_slice(name), out, held)
 }
 
-/// Puts a term: its literals, with `&` between them, or `true` for none.
-#[tactic(auto, unfolding(crate::specs::Text::term_text))]
+/// Puts a term: its literals, with `&` between them, or `true` for none. Want of memory leaves the text as it was.
+#[tactic(auto, unfolding(crate::specs::Text::term_text), using(std::proofs::lemmas::List::append_assoc, std::proofs::lemmas::List::take_at))]
 fn put_term(out: &mut Vec<u8>, names: &[Name], term: &[Literal]) -> Result<(), AllocError>
-    ensures { OnOk result (out.new.items ≡ out.old.items ++ term_text names.now term.now) }
+    ensures ok { OnOk result (out.new.items ≡ out.old.items ++ term_text names.now term.now) }
+    ensures err { OnErr result (out.new.items ≡ out.old.items) }
 {
     let Some((first, rest)) = term.split_first() else {
         return out.extend_from_slice(b"true");
     };
+    let held = out.len();
     put_literal(out, names, first)?;
     for literal in rest {
-        out.extend_from_slice(b" & ")?;
-        put_literal(out, names, literal)?;
+        or_cut_back(out.extend_from_slice(b" & "), out, held)?;
+        or_cut_back(put_literal(out, names, literal), out, held)?;
     }
     Ok(())
 }
 
-/// Puts a rule: its terms, with `|` between them, or `false` for none.
-#[tactic(auto, unfolding(crate::specs::Text::rule_text))]
+/// Puts a rule: its terms, with `|` between them, or `false` for none. Want of memory leaves the text as it was.
+#[tactic(auto, unfolding(crate::specs::Text::rule_text), using(std::proofs::lemmas::List::append_assoc, std::proofs::lemmas::List::take_at))]
 pub fn put_rule(out: &mut Vec<u8>, names: &[Name], terms: &[Term]) -> Result<(), AllocError>
-    ensures { OnOk result (out.new.items ≡ out.old.items ++ rule_text names.now terms.now) }
+    ensures ok { OnOk result (out.new.items ≡ out.old.items ++ rule_text names.now terms.now) }
+    ensures err { OnErr result (out.new.items ≡ out.old.items) }
 {
     let Some((first, rest)) = terms.split_first() else {
         return out.extend_from_slice(b"false");
     };
+    let held = out.len();
     put_term(out, names, first.as_slice())?;
     for term in rest {
-        out.extend_from_slice(b" | ")?;
-        put_term(out, names, term.as_slice())?;
+        or_cut_back(out.extend_from_slice(b" | "), out, held)?;
+        or_cut_back(put_term(out, names, term.as_slice()), out, held)?;
     }
     Ok(())
 }

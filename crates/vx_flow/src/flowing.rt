@@ -18,7 +18,7 @@ use vx_class::Code;
 use vx_java::Operation;
 use vx_java::decoding::operation;
 use vx_link::Program;
-use vx_list::Items;
+use vx_list::{GivenUp, Items};
 use vx_opcode::decode;
 use vx_type_rows::{row_of, targets_of};
 use vx_types::{Row, VerType};
@@ -87,8 +87,7 @@ fn led_to(
     }
 }
 
-/// What a row makes of a state by the numbers of a store, or `None` where the state hasn't what it needs. After want of memory the store is
-/// given up.
+/// What a row makes of a state by the numbers of a store, or `None` where the state hasn't what it needs.
 fn made_in(
     alloc: Global,
     store: &mut Store,
@@ -96,7 +95,7 @@ fn made_in(
     frame: Frame,
     row: &Row,
     before: &VerState,
-) -> Result<Option<VerState>, AllocError>
+) -> Result<Option<VerState>, GivenUp>
     requires classes { HasClassNumbers program.now }
     requires store { IsStore store.old }
     requires few { frame.levels ≤ 16 }

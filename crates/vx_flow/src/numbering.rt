@@ -5,15 +5,16 @@ ghost use Rattle.vx_flow.specs.Flowing.{plain};
 ghost use Rattle.vx_verify.specs.States.{HasMade, HasNumbers, IsStore};
 
 use crate::types::VerState;
-use std::alloc::{AllocError, Global};
+use std::alloc::Global;
+use vx_list::GivenUp;
 use vx_numbered::EMPTY;
 use vx_types::VerType;
 use vx_verify::rows::{Frame, State, on_top};
 use vx_verify::start::filled;
 use vx_verify::store::Store;
 
-/// The numbers of these types, one after the other. After want of memory the store is given up.
-fn numbers_of(alloc: Global, store: &mut Store, items: &[VerType]) -> Result<Vec<u32>, AllocError>
+/// The numbers of these types, one after the other.
+fn numbers_of(alloc: Global, store: &mut Store, items: &[VerType]) -> Result<Vec<u32>, GivenUp>
     requires { IsStore store.old }
     ensures { IfOk result (λ numbers. HasNumbers store.old store.new numbers.items items.now) }
 {
@@ -25,13 +26,13 @@ fn numbers_of(alloc: Global, store: &mut Store, items: &[VerType]) -> Result<Vec
     Ok(numbers)
 }
 
-/// A state by the numbers of its types. After want of memory the store is given up.
+/// A state by the numbers of its types.
 pub(crate) fn numbered(
     alloc: Global,
     store: &mut Store,
     frame: Frame,
     state: &VerState,
-) -> Result<State, AllocError>
+) -> Result<State, GivenUp>
     requires store { IsStore store.old }
     requires few { frame.levels ≤ 16 }
     requires room { frame.locals ≤ 2 ^ frame.levels }

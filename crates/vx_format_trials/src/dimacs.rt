@@ -1,8 +1,7 @@
 //! Rows of the format, with what they give.
 
-use std::alloc::Global;
 use vx_dimacs::read_dimacs;
-use vx_model::{Form, Model, ModelFault};
+use vx_model::{Form, Model};
 
 /// Whether a model has so many options and rules, and at a place an option of this name.
 fn has(model: &Model, options: usize, rules: usize, place: usize, name: &[u8]) -> bool {
@@ -67,32 +66,4 @@ fn reads_64_variables_and_clauses_on_a_line(rt: HostRuntime) {
     let text = b"p cnf 64 3\n1 0 -2 0 3 64 0\n";
     let model = read_dimacs(rt.alloc(), text).expect(&rt, "a model");
     assert!(rt; has(&model, 64, 3, 63, b"v64"));
-}
-
-/// Texts, with the line and the reason for which each is refused.
-const REFUSED: [(&[u8], u64, u8); 10] = [
-    (b"p cnf 65 0", 1, 6),
-    (b"p cnf 65 x", 1, 6),
-    (b"", 1, 7),
-    (b"1 0\np cnf 1 1\n", 1, 7),
-    (b"x\np cnf 1 1\n", 1, 8),
-    (b"c 1 A\nc 1 B\np cnf 1 0\n", 2, 3),
-    (b"p cnf 1 1\n2 0\n", 2, 8),
-    (b"p cnf 1 1\n1 0\n-0\n", 3, 9),
-    (b"p cnf 1 1\n1\n", 3, 9),
-    (b"p cnf 1 0\np cnf 1 0\n", 2, 7),
-];
-
-fn refusal(alloc: Global, text: &[u8]) -> (u64, u8) {
-    match read_dimacs(alloc, text) {
-        Err(ModelFault::Line { line, reason }) => (line, reason),
-        _ => (0, 0),
-    }
-}
-
-#[test]
-fn refuses_bad_lines(rt: HostRuntime) {
-    for (text, line, reason) in REFUSED {
-        assert_eq!(rt; refusal(rt.alloc(), text), (line, reason));
-    }
 }

@@ -2,8 +2,6 @@
 #![tactic(auto)]
 
 #[cfg(test)]
-mod asm;
-#[cfg(test)]
 mod class;
 #[cfg(test)]
 mod configurations;
@@ -16,11 +14,7 @@ mod files;
 #[cfg(test)]
 mod model;
 #[cfg(test)]
-mod report;
-#[cfg(test)]
 mod report_line;
-#[cfg(test)]
-mod report_reader;
 #[cfg(test)]
 mod source;
 #[cfg(test)]

@@ -24,27 +24,3 @@ newarray long\nmultianewarray [[I 2\ncatch L L L any\nend";
     assert_eq!(rt; first_refused(rt.alloc(), text)?, (20, 0, 0));
     Ok(())
 }
-
-/// Lines, with the reason for which each is refused.
-const REFUSED: [(&[u8], u8); 12] = [
-    (b"clas 0021 Main java/lang/Object", 1),
-    (b":", 1),
-    (b"fload 3", 1),
-    (b"iload 3 \xc3", 1),
-    (b"class 021 Main java/lang/Object", 2),
-    (b"iinc 300", 2),
-    (b"bipush 0x3", 2),
-    (b"ldc string", 2),
-    (b"newarray float", 2),
-    (b"wide iadd", 2),
-    (b"bipush 128", 3),
-    (b"tableswitch 2147483647 L L L", 3),
-];
-
-#[test]
-fn refuses_with_the_least_reason(rt: HostRuntime) -> Result<(), Fail> {
-    for (text, reason) in REFUSED {
-        assert_eq!(rt; first_refused(rt.alloc(), text)?, (1, 1, reason));
-    }
-    Ok(())
-}

@@ -22,7 +22,7 @@ use crate::pushing::push_chain;
 use crate::rise::Rise;
 use crate::rising::rises;
 use crate::upward::{first_above, too_many};
-use std::alloc::{AllocError, Global};
+use std::alloc::Global;
 use vx_cond::Leaf;
 use vx_families::{CLASS_WORD, raise, unsupported};
 use vx_group::{Callers, Group};
@@ -55,7 +55,7 @@ fn pushed_part<S: Space>(
     group: Group<S>,
     class: ClassId,
     most: usize,
-) -> Result<Outcomes<S>, AllocError>
+) -> Result<Outcomes<S>, SpaceFault>
     requires classes { HasClassNumbers program.now }
     requires group { IsGroupIn (S.sets space.now) callers.old group }
     ensures keeps { Keeps callers.old callers.new }
@@ -63,10 +63,12 @@ fn pushed_part<S: Space>(
 {
     let chain = first_above(alloc, program, class, most)?;
     if too_many(group.depth(), &chain) {
-        return raise(alloc, program, group, b"java/lang/StackOverflowError");
+        let raised = raise(alloc, program, group, b"java/lang/StackOverflowError")?;
+        return Ok(raised);
     }
     let above = push_chain(alloc, program, space, callers, group, &chain)?;
-    Outcomes::go(alloc, above)
+    let made = Outcomes::go(alloc, above)?;
+    Ok(made)
 }
 
 /// What comes of the part of a group of one rise.
@@ -87,13 +89,9 @@ fn begun_part<S: Space>(
     match rise {
         Rise::Open => {
             let all = program.classes.len();
-            let made = pushed_part(alloc, program, space, callers, part, class, all)?;
-            Ok(made)
+            pushed_part(alloc, program, space, callers, part, class, all)
         }
-        Rise::Begins(below) => {
-            let made = pushed_part(alloc, program, space, callers, part, class, below)?;
-            Ok(made)
-        }
+        Rise::Begins(below) => pushed_part(alloc, program, space, callers, part, class, below),
         Rise::Fails(_) => {
             let raised = raise(alloc, program, part, b"java/lang/NoClassDefFoundError")?;
             Ok(raised)

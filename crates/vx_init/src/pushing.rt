@@ -6,11 +6,11 @@ ghost use Rattle.vx_group.specs.Group.{IsGroupIn, depth_of};
 ghost use Rattle.vx_link.specs.Parts.{class_at};
 ghost use Rattle.vx_init.specs.Beginning.{IsChainPushed, kind_of};
 
-use std::alloc::{AllocError, Global};
+use std::alloc::Global;
 use vx_frames::entered;
 use vx_group::{Callers, Group};
 use vx_link::Program;
-use vx_space::Space;
+use vx_space::{Space, SpaceFault};
 use vx_value::{ClassId, Kind, MethodId};
 
 /// The method that initialises a class.
@@ -32,7 +32,7 @@ fn kind_of(is_last: bool) -> Kind
 
 /// Pushes a frame on a group for each class of a chain, from a class upward: the frame of the last class is on top and is the next to
 /// initialise, and those of the others wait. The frame that was on top stays where it stands under them (JVMS 5.5). The bound on frames
-/// is asked before. After want of memory the group is given up.
+/// is asked before.
 pub fn push_chain<S: Space>(
     alloc: Global,
     program: &Program,
@@ -40,7 +40,7 @@ pub fn push_chain<S: Space>(
     callers: &mut Callers<S>,
     group: Group<S>,
     chain: &[ClassId],
-) -> Result<Group<S>, AllocError>
+) -> Result<Group<S>, SpaceFault>
     requires group { IsGroupIn (S.sets space.now) callers.old group }
     requires depth { depth_of group + length chain.now < 2 ^ 32 }
     ensures keeps { Keeps callers.old callers.new }

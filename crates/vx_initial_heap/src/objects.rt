@@ -1,6 +1,6 @@
 //! The first objects in their order (JVMS 5.1, 5.3).
 
-ghost use Rattle.std.specs.Prelude.{◌≡◌, ◌++◌, IfOk, OnOk};
+ghost use Rattle.std.specs.Prelude.{◌≡◌, ◌++◌, IfOk, OnErr, OnOk};
 ghost use Rattle.std.specs.List.{AllZip};
 ghost use Rattle.vx_initial_heap.specs.First.{empty_text, AreFirstObjects};
 ghost use Rattle.vx_initial_heap.specs.Literals.{first_of};
@@ -14,6 +14,7 @@ use crate::literal::Literal;
 use crate::literals::Literals;
 use std::alloc::{AllocError, Global};
 use vx_link::Program;
+use vx_list::GivenUp;
 use vx_value::{ClassId, Slot, TextTable};
 
 /// A first object, with its one cell or without cells. The array for main has no elements, so it has no cells either.
@@ -57,7 +58,7 @@ fn objects_before_literals(
     Ok(objects)
 }
 
-/// The String of a text, which is put into the table of texts, or the class object of a name.
+/// The String of a text, which is put into the table of texts, or the class object of a name. Want of memory leaves the texts as they were.
 fn literal_object(
     classes: &CoreClasses,
     literal: &Literal,
@@ -65,6 +66,7 @@ fn literal_object(
 ) -> Result<FirstObject, AllocError>
     ensures object { IfOk result (IsObjectFor classes.now texts.new.texts (first_of literal.now)) }
     ensures extends { Extends texts.old.texts texts.new.texts }
+    ensures err { OnErr result (texts.new.texts ≡ texts.old.texts) }
 {
     match literal {
         Literal::Text(units) => Ok(FirstObject {
@@ -84,7 +86,7 @@ fn literal_objects(
     classes: &CoreClasses,
     listed: &[Literal],
     texts: &mut TextTable,
-) -> Result<Vec<FirstObject>, AllocError>
+) -> Result<Vec<FirstObject>, GivenUp>
     ensures objects { IfOk result (λ objects. AllZip (IsLiteralObject classes.now texts.new.texts) listed.now objects.items) }
     ensures extends { Extends texts.old.texts texts.new.texts }
 {
@@ -112,7 +114,7 @@ pub fn first_objects(
     program: &Program,
     listed: &Literals,
     texts: &mut TextTable,
-) -> Result<Vec<FirstObject>, AllocError>
+) -> Result<Vec<FirstObject>, GivenUp>
     requires classes { HasClassNumbers program.now }
     requires literals { listed.now ≡ literals program.now }
     requires texts { texts.old.texts ≡ empty_text }

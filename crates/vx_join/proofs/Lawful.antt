@@ -1,9 +1,6 @@
 -- The report of what was collected is lawful.
-use Rattle.std.proofs.Common.{◌≡◌, ◌≢◌, ℕ, ◌+◌, ◌-◌, ◌<◌, ◌≤◌, ◌^◌, zero, suc, Bool, true, false, List, [], ◌∷◌, ◌++◌, map, length, drop, take, refl, sym, ◌∙◌, ap, subst, arith}
-use Rattle.std.proofs.lemmas.Bool.Decides.{nat_tests}
+use Rattle.std.proofs.Common.{◌≡◌, ◌≢◌, ℕ, ◌+◌, ◌-◌, ◌<◌, ◌≤◌, ◌^◌, zero, suc, Bool, true, false, List, [], ◌∷◌, map, length, drop, take, refl, sym, ◌∙◌, ap, subst, arith}
 use Rattle.std.proofs.lemmas.Bool.{le-leb, leb-true, lt-ltb}
-use Rattle.std.proofs.lemmas.List.Folds.{list_all-append}
-use Rattle.std.proofs.lemmas.List.{length-take}
 use Rattle.std.proofs.lemmas.Option.{same_Some}
 use Rattle.std.specs.Cmp.Derive.{both_true}
 use Rattle.std.specs.List.{AllByRecursion, list_all}
@@ -15,14 +12,14 @@ use Rattle.vx_space.specs.Sets.{Sets, IsLawful as IsLawfulSpace}
 use Rattle.vx_cond.specs.Leaves.{AreLeaves, IsBelow}
 use Rattle.vx_bdd_tools.proofs.OneNumbering.{Numbers-within}
 use Rattle.vx_bdd_tools.specs.declared.node.Node.{Node}
-use Rattle.vx_bdd_tools.specs.Nodes.{IsReducedList, holds}
+use Rattle.vx_bdd_tools.specs.Nodes.{holds}
 use Rattle.vx_bdd_tools.specs.Numbering.{HoldAll, IsNumbered, NumbersAll}
 use Rattle.vx_findings.specs.declared.shared.Shared.{Shared}
 use Rattle.vx_findings.specs.Shared.{leaves_of}
 use Rattle.vx_one_report.proofs.Alike.{all_split}
-use Rattle.vx_report.specs.Text.{found_lines, front_lines, numbered as numbered_lines, report_lines}
+use Rattle.vx_report.specs.Text.{front_lines}
 use Rattle.vx_report.specs.declared.line.Line.{Line}
-use Rattle.vx_report.specs.declared.line.Line.TheVariants.{Count, Done, Ended, Head, Limit, Named, Numbered, Printed, Rounds, Spent}
+use Rattle.vx_report.specs.declared.line.Line.TheVariants.{Count, Head, Limit, Named, Rounds}
 use Rattle.vx_report.specs.declared.report.Report.{Report}
 use Rattle.vx_report_line.proofs.Numbers.{both_true as parts_true}
 use Rattle.vx_report_line.specs.Forms.{is_line, is_root}
@@ -30,6 +27,7 @@ use Rattle.vx_report_reader.specs.Lawful.{EachFollows}
 use Rattle.vx_report_reader.specs.Rules.{last_of, roots_of}
 use Rattle.vx_join.specs.Steps.{lines_with}
 use Rattle.vx_join.proofs.Settings.{member_of}
+use Rattle.std.proofs.lemmas.Bool.Decides.{nat_tests}
 
 -- ---- order
 
@@ -82,32 +80,6 @@ module _ {V L S I : Type 0} (order : V → V → Ordering) (line : ℕ → V →
 
 -- ---- numbers
 
-record IsSmall (node : Node) : Type 0 where
-  option : node.option < 2 ^ 32
-  low : node.low < 2 ^ 64
-  high : node.high < 2 ^ 64
-
-node_lawful : (id : ℕ) (node : Node) → id < 2 ^ 64 → IsSmall node → is_line (Numbered id node) ≡ true
-unfolding is_line
-node_lawful id node few small =
-    both_true (both_true (both_true (lt-ltb id (2 ^ 64) few) (lt-ltb node.option (2 ^ 32) small.option)) (lt-ltb node.low (2 ^ 64) small.low)) (lt-ltb node.high (2 ^ 64) small.high)
-
-nodes_lawful : (id : ℕ) (nodes : List Node) → id + length nodes < 2 ^ 64 → ((place : ℕ) (node : Node) → slice_get nodes place ≡ Some node → IsSmall node) → list_all is_line (numbered_lines id nodes) ≡ true
-nodes_lawful id [] few small = refl
-nodes_lawful id (node ∷ nodes) few small =
-    both_true (node_lawful id node (omega (arith, few)) (small zero node refl))
-    (nodes_lawful (suc id) nodes (omega (arith, few)) (λ place other e. small (suc place) other e))
-
-reduced_small : (options : ℕ) (nodes : List Node) → options < 65 → length nodes < 2 ^ 63 → IsReducedList options nodes → (place : ℕ) (node : Node) → slice_get nodes place ≡ Some node → IsSmall node
-reduced_small options nodes few short reduced place node e =
-    let next = reduced.each place node e in
-    let front = length-take place nodes in
-    record {
-      option = omega (arith, next.in_range, few);
-      low = omega (arith, next.low_given, front, short);
-      high = omega (arith, next.high_given, front, short);
-    }
-
 roots_below : (nodes : List Node) (n : ℕ) (roots : List ℕ) (m : ℕ) → n ≤ length nodes + 2 → length nodes < 2 ^ 63 → NumbersAll nodes n roots m → list_all (λ root. nat_lt root (2 ^ 64)) roots ≡ true
 roots_below nodes n [] m few short all = refl
 roots_below nodes n (root ∷ roots) m few short (NumbersAll.first _ _ between _ _ walk later) =
@@ -147,40 +119,6 @@ lines_lawful line node passes law (x ∷ xs) p r =
     let here = parts_true (passes x) (list_all passes xs) p in
     let root = parts_true (is_root (node x)) (list_all is_root (map node xs)) r in
     both_true (law x here.0 root.0) (lines_lawful line node passes law xs here.1 root.1)
-
-joined : (xs ys : List Line) → list_all is_line xs ≡ true → list_all is_line ys ≡ true → list_all is_line (xs ++ ys) ≡ true
-joined xs ys e f = list_all-append is_line xs ys ∙ both_true e f
-
-done_lawful : list_all is_line (Done ∷ []) ≡ true
-unfolding is_line
-done_lawful = refl
-
-rounds_lawful : (n : ℕ) → n < 2 ^ 128 → is_line (Rounds n) ≡ true
-unfolding is_line
-rounds_lawful n few = lt-ltb n (2 ^ 128) few
-
--- the front of a report with other rounds
-front_lawful : (like r : Report) → r.version ≡ like.version → r.options ≡ like.options → r.limit ≡ like.limit → r.rounds < 2 ^ 128 → list_all is_line (front_lines like) ≡ true → list_all is_line (front_lines r) ≡ true
-unfolding front_lines
-front_lawful like r version options limit few h =
-    let names : List (List ℕ) → List Line = λ options. Head like.version ∷ Count (length options) ∷ map Named options in
-    let p = all_split is_line (Head like.version ∷ Count (length like.options) ∷ map Named like.options) (Limit like.limit ∷ Rounds like.rounds ∷ []) h in
-    let last = parts_true (is_line (Limit like.limit)) (list_all is_line (Rounds like.rounds ∷ [])) p.1 in
-    rw (version, options, limit) (joined (Head like.version ∷ Count (length like.options) ∷ map Named like.options) (Limit like.limit ∷ Rounds r.rounds ∷ []) p.0 (both_true last.0 (both_true (rounds_lawful r.rounds few) refl)))
-
-found_lawful : (r : Report) → list_all is_line (map Printed r.pieces) ≡ true → list_all is_line (map Ended r.ends) ≡ true → list_all is_line (map Spent r.attempts) ≡ true → list_all is_line (found_lines r) ≡ true
-unfolding found_lines
-found_lawful r p e a = joined (map Printed r.pieces ++ map Ended r.ends) (map Spent r.attempts) (joined (map Printed r.pieces) (map Ended r.ends) p e) a
-
--- all lines of a report with the front of another one
-pub all_lawful : (like r : Report) → r.version ≡ like.version → r.options ≡ like.options → r.limit ≡ like.limit → r.rounds < 2 ^ 128 → list_all is_line (front_lines like) ≡ true
-    → length r.options < 65 → length r.nodes < 2 ^ 63 → IsReducedList (length r.options) r.nodes
-    → list_all is_line (map Printed r.pieces) ≡ true → list_all is_line (map Ended r.ends) ≡ true → list_all is_line (map Spent r.attempts) ≡ true → list_all is_line (report_lines r) ≡ true
-all_lawful like r version options limit few front options_few short reduced p e a =
-    let nodes = nodes_lawful 2 r.nodes (omega (arith, short)) (reduced_small (length r.options) r.nodes options_few short reduced) in
-    joined (front_lines r ++ numbered_lines 2 r.nodes ++ found_lines r) (Done ∷ [])
-    (joined (front_lines r ++ numbered_lines 2 r.nodes) (found_lines r) (joined (front_lines r) (numbered_lines 2 r.nodes) (front_lawful like r version options limit few front) nodes) (found_lawful r p e a))
-    done_lawful
 
 -- the limit of a report, by its front
 limit_line : (like : Report) → list_all is_line (front_lines like) ≡ true → is_line (Limit like.limit) ≡ true

@@ -35,13 +35,13 @@ use Rattle.vx_report_reader.proofs.Read.{good_lawful}
 use Rattle.vx_report_reader.specs.Lawful.{IsLawful}
 use Rattle.vx_report_reader.specs.Rules.{comes_after, is_above, is_less, last_of, roots_of}
 use Rattle.vx_join.specs.Joined.{IsEndSaid, IsJoined, IsNumberSaid, IsTold, Told, all_told, attempts_said, end_said, first_said}
-use Rattle.vx_join.specs.Steps.{first_in}
 use Rattle.vx_join.specs.Text.{IsJoinedText, IsOnlyJoined}
 use Rattle.vx_join.proofs.Ascending.{AreOwn, HasMember, IsAlike, IsAscending, alike_lines, found_said}
 use Rattle.vx_join.proofs.Reports.{said_with}
-use Rattle.vx_join.proofs.Said.{attempts_root, end_root, parts_of}
+use Rattle.vx_one_report.proofs.LawfulLines.{attempts_root, end_root, parts_of, roots_within}
 use Rattle.vx_join.proofs.Settings.{length_firsts, some_setting}
-use Rattle.vx_join.proofs.Whole.{roots_within, some_end}
+use Rattle.vx_join.proofs.Whole.{some_end}
+use Rattle.vx_join.specs.Steps.{first_in}
 
 -- ---- numbers that hold a configuration
 

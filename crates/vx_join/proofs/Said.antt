@@ -1,29 +1,27 @@
 -- What several reports say of a configuration, by their texts, and that it is lawful.
-use Rattle.std.proofs.Common.{◌≡◌, ◌≢◌, ℕ, ◌<◌, ◌≤◌, ◌^◌, zero, suc, Bool, true, false, cond, List, [], ◌∷◌, ◌++◌, map, filter, refl, sym, ◌∙◌, ap, subst, append-nil, arith, take}
+use Rattle.std.proofs.Common.{◌≡◌, ◌≢◌, ℕ, ◌<◌, ◌≤◌, zero, suc, Bool, true, false, cond, List, [], ◌∷◌, ◌++◌, map, filter, refl, sym, ◌∙◌, ap, subst, append-nil, arith, take}
 use Rattle.std.proofs.lemmas.Grind.{flat_map-append}
 use Rattle.std.proofs.lemmas.List.Folds.{list_all-append}
 use Rattle.std.proofs.lemmas.Option.{same_Some}
 use Rattle.std.specs.Cmp.Derive.{both_true}
 use Rattle.std.specs.List.{AllByRecursion, list_all}
 use Rattle.std.specs.Option.{option_or}
-use Rattle.std.specs.Prelude.{◌&&◌, not, find, flat_map, nat_eq, nat_le, nat_lt, slice_get, Option, None, Some, is_some, option_and_then, option_map, if◌then◌else◌}
+use Rattle.std.specs.Prelude.{◌&&◌, not, find, flat_map, nat_eq, nat_le, slice_get, Option, None, Some, is_some, option_and_then, option_map, if◌then◌else◌}
 use Rattle.vx_value.specs.declared.end.End.{End}
 use Rattle.vx_value.specs.declared.end.Stream.{Stream}
 use Rattle.vx_bdd_tools.specs.declared.node.Node.{Node}
 use Rattle.vx_bdd_tools.specs.Nodes.{holds}
 use Rattle.vx_report.specs.declared.line.Line.{Line}
-use Rattle.vx_report.specs.declared.line.Line.TheVariants.{Done, Ended, Printed, Spent}
+use Rattle.vx_report.specs.declared.line.Line.TheVariants.{Ended, Printed}
 use Rattle.vx_report.specs.declared.report.AttemptLine.{AttemptLine}
-use Rattle.vx_report.specs.declared.report.EndLine.{EndLine}
 use Rattle.vx_report.specs.declared.report.Piece.{Piece}
 use Rattle.vx_report.specs.declared.report.Report.{Report}
 use Rattle.vx_report.specs.Projection.{Projection, attempts_at, bytes_of, end_at, output_at, project}
-use Rattle.vx_report.specs.Text.{found_lines, front_lines, numbered, report_lines}
 use Rattle.vx_report_line.proofs.Numbers.{both_true as parts_true}
-use Rattle.vx_report_line.specs.Forms.{is_end, is_line, is_root, is_text}
+use Rattle.vx_report_line.specs.Forms.{is_end, is_line, is_text}
 use Rattle.vx_report_reader.specs.Lawful.{EachFollows, IsLawful}
 use Rattle.vx_report_reader.specs.Rules.{is_above, last_of}
-use Rattle.vx_one_report.proofs.Alike.{all_split}
+use Rattle.vx_one_report.proofs.LawfulLines.{end_words, parts_of, piece_text}
 use Rattle.vx_cover.specs.Covers.{has_end}
 use Rattle.vx_findings.specs.declared.piece.Piece as written
 use Rattle.vx_findings.specs.declared.shared.Shared.{Shared}
@@ -32,6 +30,7 @@ use Rattle.vx_join.specs.Joined.{IsLike, Told, attempts_said, end_said, first_sa
 use Rattle.vx_join.specs.Steps.{AreTold}
 use Rattle.vx_join.proofs.Numbered.{told_bytes}
 use Rattle.vx_join.proofs.Reports.{is_some_project, said_with}
+use Rattle.vx_report.specs.Text.{report_lines}
 
 -- ---- texts
 
@@ -91,44 +90,6 @@ told_output unsaid (r ∷ reports) c =
     ∙ both_outputs (unsaid c) r c (first_said reports c)
 
 -- ---- lawful parts
-
--- the lines of a lawful report, by their kinds
-pub record HasParts (r : Report) : Type 0 where
-  pub front : list_all is_line (front_lines r) ≡ true
-  pub pieces : list_all is_line (map Printed r.pieces) ≡ true
-  pub ends : list_all is_line (map Ended r.ends) ≡ true
-  pub attempts : list_all is_line (map Spent r.attempts) ≡ true
-
-found_split : (r : Report) → list_all is_line (found_lines r) ≡ true → (list_all is_line (map Printed r.pieces) ≡ true) × (list_all is_line (map Ended r.ends) ≡ true) × (list_all is_line (map Spent r.attempts) ≡ true)
-unfolding found_lines
-found_split r h =
-    let first = all_split is_line (map Printed r.pieces ++ map Ended r.ends) (map Spent r.attempts) h in
-    let second = all_split is_line (map Printed r.pieces) (map Ended r.ends) first.0 in
-    (second.0, second.1, first.1)
-
-pub parts_of : (r : Report) → IsLawful r → HasParts r
-parts_of r lawful =
-    let first = all_split is_line (front_lines r ++ numbered 2 r.nodes ++ found_lines r) (Done ∷ []) lawful.lines in
-    let second = all_split is_line (front_lines r ++ numbered 2 r.nodes) (found_lines r) first.0 in
-    let third = all_split is_line (front_lines r) (numbered 2 r.nodes) second.0 in
-    let found = found_split r second.1 in
-    record { front = third.0; pieces = found.0; ends = found.1; attempts = found.2 }
-
-pub piece_text : (piece : Piece) → is_line (Printed piece) ≡ true → is_text piece.text ≡ true
-unfolding is_line
-piece_text piece h = (parts_true (is_root piece.node) (is_text piece.text) h).1
-
-pub end_words : (line : EndLine) → is_line (Ended line) ≡ true → is_end line.end ≡ true
-unfolding is_line
-end_words line h = (parts_true (is_root line.node) (is_end line.end) h).1
-
-pub end_root : (line : EndLine) → is_line (Ended line) ≡ true → is_root line.node ≡ true
-unfolding is_line
-end_root line h = (parts_true (is_root line.node) (is_end line.end) h).0
-
-pub attempts_root : (line : AttemptLine) → is_line (Spent line) ≡ true → is_root line.node ≡ true
-unfolding is_line
-attempts_root line h = (parts_true (is_root line.node) (nat_lt line.attempts (2 ^ 64)) h).0
 
 own_texts : (scope : List Bool → Bool) (nodes : List Node) (pieces : List Piece) → list_all is_line (map Printed pieces) ≡ true → list_all (λ t. is_text t.text) (map (told_of scope nodes) pieces) ≡ true
 own_texts scope nodes [] h = refl

@@ -16,15 +16,15 @@ use Rattle.vx_value.specs.declared.end.Stream.{Stream}
 use Rattle.vx_space.specs.Sets.{AreKnown, Sets, IsLawful as IsLawfulSpace}
 use Rattle.vx_cond.specs.Leaves.{AreLeaves, value_at}
 use Rattle.vx_bdd_tools.proofs.NodeSets.{canonical}
-use Rattle.vx_bdd_tools.proofs.OneNumbering.{Numbers-within}
 use Rattle.vx_bdd_tools.specs.declared.node.Node.{Node}
 use Rattle.vx_bdd_tools.specs.Listing.{IsListing}
 use Rattle.vx_bdd_tools.specs.Nodes.{holds}
-use Rattle.vx_bdd_tools.specs.Numbering.{HoldAll, IsNumbered, NumbersAll}
+use Rattle.vx_bdd_tools.specs.Numbering.{HoldAll, IsNumbered}
 use Rattle.vx_findings.specs.declared.piece.Piece as written
 use Rattle.vx_findings.specs.declared.shared.Shared.{Shared}
 use Rattle.vx_findings.specs.Shared.{leaves_of}
 use Rattle.vx_one_report.proofs.Alike.{all_split}
+use Rattle.vx_one_report.proofs.LawfulLines.{all_lawful, end_root, parts_of, roots_within}
 use Rattle.vx_report.specs.declared.line.Line.TheVariants.{Ended, Printed, Spent}
 use Rattle.vx_report.specs.declared.report.AttemptLine.{AttemptLine}
 use Rattle.vx_report.specs.declared.report.EndLine.{EndLine}
@@ -38,10 +38,10 @@ use Rattle.vx_report_reader.specs.Rules.{comes_after, is_above, is_less, is_nil,
 use Rattle.vx_join.specs.declared.collecting.Collected.{Collected}
 use Rattle.vx_join.specs.Joined.{IsJoined, IsLike, Told, attempts_said, end_said, first_said, is_joinable, rounds_of, told_by}
 use Rattle.vx_join.specs.Steps.{AreCollected, AreTold, attempts_line, collected_ids, end_line, lines_with, piece_line, report_by, shared_ids}
-use Rattle.vx_join.proofs.Lawful.{IsSome, all_lawful, follows_too, limit_most, lines_lawful, lines_rise, roots_lawful}
+use Rattle.vx_join.proofs.Lawful.{IsSome, follows_too, limit_most, lines_lawful, lines_rise, roots_lawful}
 use Rattle.vx_join.proofs.Numbered.{Hold, hold_behind, hold_first, hold_none, lines_said, numbers_of, output_same, pieces_told, said_each, value_same}
 use Rattle.vx_join.proofs.Reports.{always, said_with}
-use Rattle.vx_join.proofs.Said.{attempts_shown, attempts_within, end_root, ends_lawful, found_texts, parts_of, said_output, told_output, told_texts}
+use Rattle.vx_join.proofs.Said.{attempts_shown, attempts_within, ends_lawful, found_texts, said_output, told_output, told_texts}
 use Rattle.vx_count.specs.Settings.{settings}
 use Rattle.vx_join.proofs.Settings.{member_of, no_setting, some_setting}
 
@@ -118,12 +118,6 @@ says sets first others rounds collected nodes numbers like are h c =
 some_none : (b : Bool) (line : EndLine) (o : Option EndLine) → option_map (λ (l : EndLine). l.end) (cond b (Some line) o) ≡ None → b ≡ false
 some_none true line o e = absurd cc
 some_none false line o e = refl
-
-pub roots_within : (nodes : List Node) (n : ℕ) (roots : List ℕ) (m : ℕ) → n ≤ length nodes + 2 → NumbersAll nodes n roots m → list_all (λ root. nat_lt root (length nodes + 2)) roots ≡ true
-roots_within nodes n [] m few all = refl
-roots_within nodes n (root ∷ roots) m few (NumbersAll.first _ _ between _ _ walk later) =
-    let within = Numbers-within nodes n root between few walk in
-    both_true (lt-ltb root (length nodes + 2) (omega (arith, within.0, within.2))) (roots_within nodes between roots m within.2 later)
 
 -- a lawful report has an end at some configuration
 pub some_end : (r : Report) → IsLawful r → ((c : List Bool) → end_at r c ≡ None) → ⊥

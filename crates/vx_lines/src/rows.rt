@@ -1,10 +1,11 @@
 //! The rows in the content of a line table (JVMS 4.7.12).
 
-ghost use Rattle.std.specs.Prelude.{◌≡◌, ◌+◌, ◌*◌, ◌<◌, [], ◌∷◌, ◌++◌, length, MatchOption, OnOk};
+ghost use Rattle.std.specs.Prelude.{◌≡◌, ◌+◌, ◌*◌, ◌<◌, [], ◌∷◌, ◌++◌, length, MatchOption, OnErr, OnOk};
 ghost use Rattle.vx_lines.specs.Tables.{rows_in, table_rows};
 
 use crate::table::LineRow;
 use std::alloc::AllocError;
+use vx_list::{or_cut_back, put_one};
 
 /// A number of two bytes, the high one first.
 pub(crate) fn number_of(high: u8, low: u8) -> u16
@@ -31,13 +32,15 @@ fn first_row(bytes: &[u8]) -> Option<(LineRow, &[u8])>
     }
 }
 
-/// Puts the rows in some bytes behind others.
+/// Puts the rows in some bytes behind others. Here as below want of memory leaves those as they were.
 fn put_rows(bytes: &[u8], rows: &mut Vec<LineRow>) -> Result<(), AllocError>
-    ensures { OnOk result (rows.new.items ≡ rows.old.items ++ rows_in bytes.now) }
+    ensures ok { OnOk result (rows.new.items ≡ rows.old.items ++ rows_in bytes.now) }
+    ensures err { OnErr result (rows.new.items ≡ rows.old.items) }
 {
+    let held = rows.len();
     let mut left = bytes;
     while let Some((row, behind)) = first_row(left) {
-        rows.push(row)?;
+        or_cut_back(put_one(rows, row), rows, held)?;
         left = behind;
     }
     Ok(())
@@ -62,7 +65,8 @@ fn row_bytes(content: &[u8]) -> &[u8]
 
 /// Puts the rows of a table behind others.
 pub fn put_table(content: &[u8], rows: &mut Vec<LineRow>) -> Result<(), AllocError>
-    ensures { OnOk result (rows.new.items ≡ rows.old.items ++ table_rows content.now) }
+    ensures ok { OnOk result (rows.new.items ≡ rows.old.items ++ table_rows content.now) }
+    ensures err { OnErr result (rows.new.items ≡ rows.old.items) }
 {
     put_rows(row_bytes(content), rows)
 }

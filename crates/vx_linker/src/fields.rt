@@ -1,6 +1,6 @@
 //! The fields of a program, from those of class files. Their cells are laid out later.
 
-ghost use Rattle.std.specs.Prelude.{◌≡◌, ◌<◌, ◌^◌, ◌++◌, length, map, position, IfOk, IfSome, OnOk};
+ghost use Rattle.std.specs.Prelude.{◌≡◌, ◌<◌, ◌^◌, ◌++◌, length, map, position, IfOk, IfSome, OnErr, OnOk};
 ghost use Rattle.vx_link.specs.Faults.{name_of};
 ghost use Rattle.vx_link.specs.Names.{utf8};
 ghost use Rattle.vx_link.specs.Linked.{is_place, option_of, field_flags, linked_field};
@@ -82,7 +82,29 @@ fn linked_field(
     })
 }
 
-/// Puts the fields of a class file behind others.
+/// The fields of a class file.
+fn linked_fields(
+    alloc: Global,
+    options: &[OptionField],
+    number: ClassId,
+    class: &ClassFile,
+) -> Result<Vec<LinkedField>, AllocError>
+    requires { length options.now < 2 ^ 16 }
+    ensures { IfOk result (λ linked. linked.items ≡ map (linked_field options.now number.0 class.now) class.now.fields) }
+{
+    let mut linked = Vec::new(alloc);
+    let fields = class.fields.as_slice();
+    if fields.is_empty() {
+        return Ok(linked);
+    }
+    let mut texts = SharedTexts::none(alloc, &class.pool)?;
+    for field in fields {
+        linked.push(linked_field(alloc, options, number, class, &mut texts, *field)?)?;
+    }
+    Ok(linked)
+}
+
+/// Puts the fields of a class file behind others, which want of memory leaves as they were.
 pub fn add_fields(
     alloc: Global,
     options: &[OptionField],
@@ -91,15 +113,9 @@ pub fn add_fields(
     linked: &mut Vec<LinkedField>,
 ) -> Result<(), AllocError>
     requires { length options.now < 2 ^ 16 }
-    ensures { OnOk result (linked.new.items ≡ linked.old.items ++ map (linked_field options.now number.0 class.now) class.now.fields) }
+    ensures ok { OnOk result (linked.new.items ≡ linked.old.items ++ map (linked_field options.now number.0 class.now) class.now.fields) }
+    ensures err { OnErr result (linked.new.items ≡ linked.old.items) }
 {
-    let fields = class.fields.as_slice();
-    if fields.is_empty() {
-        return Ok(());
-    }
-    let mut texts = SharedTexts::none(alloc, &class.pool)?;
-    for field in fields {
-        linked.push(linked_field(alloc, options, number, class, &mut texts, *field)?)?;
-    }
-    Ok(())
+    let mut fields = linked_fields(alloc, options, number, class)?;
+    linked.append(&mut fields)
 }

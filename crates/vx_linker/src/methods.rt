@@ -1,6 +1,6 @@
 //! The methods of a program, from those of class files.
 
-ghost use Rattle.std.specs.Prelude.{◌≡◌, ◌<◌, ◌++◌, drop, length, IfOk, IfSome, OnOk, unwrap_or};
+ghost use Rattle.std.specs.Prelude.{◌≡◌, ◌<◌, ◌++◌, drop, length, IfOk, IfSome, OnErr, OnOk, unwrap_or};
 ghost use Rattle.vx_list.specs.Places.{item_or};
 ghost use Rattle.vx_link.specs.Linked.{is_clinit_file, own_clinit, method_flags, linked_method, linked_methods, empty_clinit};
 ghost use Rattle.vx_linker.specs.Texts.{AreTexts};
@@ -87,19 +87,19 @@ pub fn behind_first<T>(items: &[T]) -> &[T]
     if items.is_empty() { items } else { &items[1..] }
 }
 
-/// Puts the methods of a class file behind others, with the numbers of the native ones.
-pub fn add_methods(
+/// The methods of a class file, with the numbers of the native ones.
+fn linked_methods(
     alloc: Global,
     class: ClassId,
     pool: &Pool,
     methods: Vec<Method>,
     natives: &[u32],
-    linked: &mut Vec<LinkedMethod>,
-) -> Result<(), AllocError>
-    ensures { OnOk result (linked.new.items ≡ linked.old.items ++ linked_methods class.0 pool.now methods.items natives.now) }
+) -> Result<Vec<LinkedMethod>, AllocError>
+    ensures { IfOk result (λ linked. linked.items ≡ linked_methods class.0 pool.now methods.items natives.now) }
 {
+    let mut linked = Vec::new(alloc);
     if methods.is_empty() {
-        return Ok(());
+        return Ok(linked);
     }
     let mut texts = SharedTexts::none(alloc, pool)?;
     let mut numbers = natives;
@@ -108,7 +108,23 @@ pub fn add_methods(
         linked.push(linked_method(alloc, class, pool, &mut texts, method, native)?)?;
         numbers = behind_first(numbers);
     }
-    Ok(())
+    Ok(linked)
+}
+
+/// Puts the methods of a class file behind others, with the numbers of the native ones. Want of memory leaves the others as they were.
+pub fn add_methods(
+    alloc: Global,
+    class: ClassId,
+    pool: &Pool,
+    methods: Vec<Method>,
+    natives: &[u32],
+    linked: &mut Vec<LinkedMethod>,
+) -> Result<(), AllocError>
+    ensures ok { OnOk result (linked.new.items ≡ linked.old.items ++ linked_methods class.0 pool.now methods.items natives.now) }
+    ensures err { OnErr result (linked.new.items ≡ linked.old.items) }
+{
+    let mut methods = linked_methods(alloc, class, pool, methods, natives)?;
+    linked.append(&mut methods)
 }
 
 /// The method of a class without `<clinit>`, whose code is one `return`.

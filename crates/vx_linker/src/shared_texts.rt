@@ -1,6 +1,6 @@
 //! The texts of a constant pool that the members of a class name, each kept once.
 
-ghost use Rattle.std.specs.Prelude.{◌≡◌, IfOk};
+ghost use Rattle.std.specs.Prelude.{◌≡◌, IfOk, OnErr};
 ghost use Rattle.vx_link.specs.Names.{utf8};
 ghost use Rattle.vx_linker.specs.Texts.{AreTexts};
 
@@ -40,11 +40,12 @@ impl SharedTexts {
         }
     }
 
-    /// The text of an entry. It is copied only where no member has named it yet.
+    /// The text of an entry. It is copied only where no member has named it yet. Want of memory leaves the table as it was.
     pub fn text(&mut self, alloc: Global, pool: &Pool, index: u16) -> Result<SharedName, AllocError>
         requires { AreTexts pool.now self.old.known.items }
         ensures text { IfOk result (λ text. text ≡ utf8 pool.now index) }
         ensures texts { AreTexts pool.now self.new.known.items }
+        ensures err { OnErr result (self.new ≡ self.old) }
     {
         if let Some(Some(text)) = self.known.get(index as usize) {
             return text.share();

@@ -14,11 +14,11 @@ pub fn put_one<T: Copy>(list: &mut Vec<T>, item: T) -> Result<(), AllocError>
 }
 
 /// The answer of a call that appended to a list. Where it is want of memory, the list is cut back to so many values.
-pub fn or_cut_back<T: Copy>(
-    put: Result<(), AllocError>,
+pub fn or_cut_back<T: Drop, R>(
+    put: Result<R, AllocError>,
     list: &mut Vec<T>,
     held: usize,
-) -> Result<(), AllocError>
+) -> Result<R, AllocError>
     ensures same { result ≡ put }
     ensures ok { OnOk result (list.new.items ≡ list.old.items) }
     ensures err { OnErr result (list.new.items ≡ take held list.old.items) }

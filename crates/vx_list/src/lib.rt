@@ -5,9 +5,11 @@
 ghost use Rattle.std.specs.Prelude.{◌≡◌, length, slice_get, option_copied};
 
 mod appending;
+mod given_up;
 mod keyed;
 
 pub use appending::{or_cut_back, put_one};
+pub use given_up::GivenUp;
 pub use keyed::Keyed;
 use std::marker::Model;
 

@@ -8,8 +8,9 @@ ghost use Rattle.vx_plain.specs.Views.{state_of};
 ghost use Rattle.vx_plain_here.specs.Rows.{outcome_over};
 ghost use Rattle.vx_plain_tables.specs.Tables.{AreTables};
 
-use std::alloc::{AllocError, Global};
+use std::alloc::Global;
 use vx_link::Program;
+use vx_list::GivenUp;
 use vx_plain::State;
 use vx_plain_here::Outcome;
 use vx_plain_rows::row;
@@ -30,7 +31,7 @@ fn pass_all(
     program: &Program,
     state: &mut State,
     object: u64,
-) -> Result<Option<u64>, AllocError>
+) -> Result<Option<u64>, GivenUp>
     requires { HasClassNumbers program.now }
     ensures { let s = state_of state.old in IfOk result (HasLeft (leaves program.now s object s.callers) (state_of state.new)) }
 {
@@ -50,7 +51,7 @@ fn leave_by(
     program: &Program,
     state: &mut State,
     outcome: Outcome,
-) -> Result<Option<u64>, AllocError>
+) -> Result<Option<u64>, GivenUp>
     requires { HasClassNumbers program.now }
     ensures { IfOk result (HasLeft (left_by program.now (outcome_over (state_of state.old) outcome)) (state_of state.new)) }
 {
@@ -74,7 +75,7 @@ pub(crate) fn leave(
     program: &Program,
     tables: &Tables,
     state: &mut State,
-) -> Result<Option<u64>, AllocError>
+) -> Result<Option<u64>, GivenUp>
     requires classes { HasClassNumbers program.now }
     requires tables { AreTables program.now tables.now }
     ensures { IfOk result (HasLeft (left_at program.now (state_of state.old)) (state_of state.new)) }

@@ -14,6 +14,7 @@ use crate::frames::{Standing, standings_of};
 use crate::wrapping::below_wrapped;
 use std::alloc::{AllocError, Global};
 use vx_link::Program;
+use vx_list::GivenUp;
 use vx_plain::{State, Value};
 use vx_plain_here::Outcome;
 use vx_plain_rows::row;
@@ -227,7 +228,7 @@ fn note_carried(
     state: &mut State,
     carried: Outcome,
     object: u64,
-) -> Result<Noting, AllocError>
+) -> Result<Noting, GivenUp>
     requires { HasClassNumbers program.now }
     ensures { IfOk result (IsNotingBy program.now object (outcome_over (state_of state.old) carried) (state_of state.new)) }
 {
@@ -239,15 +240,14 @@ fn note_carried(
     Ok(lead(attempted.next))
 }
 
-/// One attempt of a run, unless it notes frames in an object. The only refusal is want of memory, after which nothing is said of the
-/// state.
+/// One attempt of a run, unless it notes frames in an object. The only refusal is want of memory.
 pub(crate) fn note(
     alloc: Global,
     program: &Program,
     tables: &Tables,
     state: &mut State,
     object: u64,
-) -> Result<Noting, AllocError>
+) -> Result<Noting, GivenUp>
     requires classes { HasClassNumbers program.now }
     requires tables { AreTables program.now tables.now }
     ensures { IfOk result (IsNoting program.now object (state_of state.old) (state_of state.new)) }

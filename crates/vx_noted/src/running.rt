@@ -16,6 +16,7 @@ use crate::leaving::{Left, leave};
 use crate::noting::{Noting, note};
 use std::alloc::{AllocError, Global};
 use vx_link::Program;
+use vx_list::GivenUp;
 use vx_plain::State;
 use vx_plain_tables::Tables;
 use vx_plain_throw::Next;
@@ -28,7 +29,7 @@ fn advance(
     tables: &Tables,
     state: &mut State,
     count: u64,
-) -> Result<(), AllocError>
+) -> Result<(), GivenUp>
     requires classes { HasClassNumbers program.now }
     requires tables { AreTables program.now tables.now }
     ensures { OnOk result (IsAfter program.now (state_of state.old) count (state_of state.new)) }

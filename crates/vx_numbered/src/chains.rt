@@ -1,6 +1,6 @@
 //! Stacks of numbers as numbered chains, so that stacks share what they have in common.
 
-ghost use Rattle.std.specs.Prelude.{◌≡◌, ◌<◌, ◌≤◌, ◌∷◌, [], IfOk, IfSome, IfNone, length};
+ghost use Rattle.std.specs.Prelude.{◌≡◌, ◌<◌, ◌≤◌, ◌∷◌, [], IfOk, IfSome, IfNone, OnErr, length};
 ghost use Rattle.std.proofs.Props.{props};
 ghost use Rattle.vx_numbered.specs.Chains.{DoFall, IsKnownStack, IsPushed, chain_of, words_at};
 
@@ -69,10 +69,11 @@ impl Chains {
         Some(stack)
     }
 
-    /// A number on a stack, with a number that is kept with the whole, as a new stack.
+    /// A number on a stack, with a number that is kept with the whole, as a new stack. Want of memory leaves the links as they were.
     pub fn pushed(&mut self, top: u32, under: u32, words: u32) -> Result<u32, AllocError>
         requires { under ≤ length self.old.links.items }
-        ensures { IfOk result (IsPushed self.old.links.items self.new.links.items (record { top = top; under = under; words = words })) }
+        ensures ok { IfOk result (IsPushed self.old.links.items self.new.links.items (record { top = top; under = under; words = words })) }
+        ensures err { OnErr result (self.new.links.items ≡ self.old.links.items) }
     {
         let stack = next_number(self.links.len() + 1)?;
         self.stacks.insert((top, under), stack)?;

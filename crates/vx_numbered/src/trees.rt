@@ -1,12 +1,13 @@
 //! Rows of numbers as the leaves of numbered trees, so that rows share what they have in common: a row that differs from another in one place
 //! has one path of its own.
 
-ghost use Rattle.std.specs.Prelude.{◌≡◌, ◌<◌, ◌≤◌, ◌-◌, ◌^◌, IfOk, IfSome, OnOk, ◌++◌, ◌∷◌, [], length, replicate, slice_index, slice_set};
+ghost use Rattle.std.specs.Prelude.{◌≡◌, ◌<◌, ◌≤◌, ◌-◌, ◌^◌, IfOk, IfSome, OnErr, OnOk, ◌++◌, ◌∷◌, [], length, replicate, slice_index, slice_set, take};
 ghost use Rattle.vx_numbered.specs.Trees.{IsKnownPair, IsMade, IsPaired, IsTree, leaves, pair_at};
 
 use crate::numbers::next_number;
 use indexmap::IndexMap;
 use std::alloc::{AllocError, Global};
+use vx_list::or_cut_back;
 
 /// Two trees with as many leaves each, by their numbers.
 #[derive(Clone, Copy)]
@@ -67,10 +68,11 @@ impl Trees {
         Some(number)
     }
 
-    /// A new pair.
+    /// A new pair. Want of memory leaves the pairs as they were.
     fn put(&mut self, low: u32, high: u32) -> Result<u32, AllocError>
         ensures number { IfOk result (λ number. number ≡ length self.old.pairs.items) }
         ensures pairs { OnOk result (self.new.pairs.items ≡ self.old.pairs.items ++ record { low = low; high = high } ∷ []) }
+        ensures err { OnErr result (self.new.pairs.items ≡ self.old.pairs.items) }
     {
         let number = next_number(self.pairs.len())?;
         self.numbers.insert((low, high), number)?;
@@ -78,9 +80,10 @@ impl Trees {
         Ok(number)
     }
 
-    /// The number of a pair of trees, which may be known.
+    /// The number of a pair of trees, which may be known. Want of memory leaves the pairs as they were.
     pub fn paired(&mut self, low: u32, high: u32) -> Result<u32, AllocError>
-        ensures { IfOk result (IsPaired self.old.pairs.items self.new.pairs.items low high) }
+        ensures ok { IfOk result (IsPaired self.old.pairs.items self.new.pairs.items low high) }
+        ensures err { OnErr result (self.new.pairs.items ≡ self.old.pairs.items) }
     {
         match self.known(low, high) {
             Some(number) => Ok(number),
@@ -88,14 +91,24 @@ impl Trees {
         }
     }
 
-    /// A tree of so many levels whose leaves are all of one number.
+    /// The number of a pair of trees, which may be known. Want of memory cuts the pairs back to so many.
+    fn paired_or_back(&mut self, low: u32, high: u32, held: usize) -> Result<u32, AllocError>
+        ensures ok { IfOk result (IsPaired self.old.pairs.items self.new.pairs.items low high) }
+        ensures err { OnErr result (self.new.pairs.items ≡ take held self.old.pairs.items) }
+    {
+        or_cut_back(self.paired(low, high), &mut self.pairs, held)
+    }
+
+    /// A tree of so many levels whose leaves are all of one number. Want of memory leaves the pairs as they were.
     pub fn row_of(&mut self, leaf: u32, levels: u32) -> Result<u32, AllocError>
         requires { levels ≤ 16 }
-        ensures { IfOk result (λ tree. IsMade self.old.pairs.items self.new.pairs.items levels tree (replicate (2 ^ levels) leaf)) }
+        ensures ok { IfOk result (λ tree. IsMade self.old.pairs.items self.new.pairs.items levels tree (replicate (2 ^ levels) leaf)) }
+        ensures err { OnErr result (self.new.pairs.items ≡ self.old.pairs.items) }
     {
+        let held = self.pairs.len();
         let mut tree = leaf;
         for _level in 0..levels {
-            tree = self.paired(tree, tree)?;
+            tree = self.paired_or_back(tree, tree, held)?;
         }
         Ok(tree)
     }
@@ -119,7 +132,7 @@ impl Trees {
         }
     }
 
-    /// The tree with another number as one of its leaves; the same tree where nothing changes.
+    /// The tree with another number as one of its leaves; the same tree where nothing changes. Want of memory leaves the pairs as they were.
     pub fn with_leaf(
         &mut self,
         tree: u32,
@@ -130,11 +143,13 @@ impl Trees {
         requires few { levels ≤ 16 }
         requires tree { IsTree self.old.pairs.items levels tree }
         requires place { place < 2 ^ levels }
-        ensures { IfOk result (λ made. IsMade self.old.pairs.items self.new.pairs.items levels made (slice_set (leaves self.old.pairs.items levels tree) place leaf)) }
+        ensures ok { IfOk result (λ made. IsMade self.old.pairs.items self.new.pairs.items levels made (slice_set (leaves self.old.pairs.items levels tree) place leaf)) }
+        ensures err { OnErr result (self.new.pairs.items ≡ self.old.pairs.items) }
     {
         if levels == 0 {
             return Ok(leaf);
         }
+        let held = self.pairs.len();
         let pair = self.pair(tree);
         let half = half_of(levels);
         if place < half {
@@ -142,12 +157,12 @@ impl Trees {
             if low == pair.low {
                 return Ok(tree);
             }
-            return self.paired(low, pair.high);
+            return self.paired_or_back(low, pair.high, held);
         }
         let high = self.with_leaf(pair.high, levels - 1, place - half, leaf)?;
         if high == pair.high {
             return Ok(tree);
         }
-        self.paired(pair.low, high)
+        self.paired_or_back(pair.low, high, held)
     }
 }

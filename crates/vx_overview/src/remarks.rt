@@ -1,6 +1,6 @@
 //! The comments of a DIMACS text that begin as a name line does, and are none.
 
-ghost use Rattle.std.specs.Prelude.{◌≡◌, ◌++◌, ◌∷◌, ◌==◌, ◌&&◌, ◌+◌, [], OnOk, nat_le, not};
+ghost use Rattle.std.specs.Prelude.{◌≡◌, ◌++◌, ◌∷◌, ◌==◌, ◌&&◌, ◌+◌, [], OnErr, OnOk, nat_le, not};
 ghost use Rattle.std.specs.List.{list_all};
 ghost use Rattle.std.specs.Char.{is_ascii_digit};
 ghost use Rattle.std.specs.Str.{bytes_eq};
@@ -9,6 +9,7 @@ ghost use Rattle.vx_dimacs.specs.Dimacs.{is_numbered, is_variable_name, is_visib
 ghost use Rattle.vx_overview.specs.Remarks.{place_line, reason_line, reason_of, remark_behind, remark_in, remark_lines, remark_of, remarks_from, remarks_text};
 
 use std::alloc::AllocError;
+use vx_list::or_cut_back;
 use vx_report::put_spelled;
 use vx_words::{TEXT, decimal_up_to, is_name, next_line, next_word, put_number};
 
@@ -138,43 +139,48 @@ fn reason_of(remark: Remark) -> &'static [u8]
     }
 }
 
-/// Puts a line with its number.
-#[tactic(auto, unfolding(crate::specs::Remarks::place_line))]
+/// Puts a line with its number. Want of memory leaves the text as it was.
+#[tactic(auto, unfolding(crate::specs::Remarks::place_line), using(std::proofs::lemmas::List::append_assoc, std::proofs::lemmas::List::take_at))]
 fn put_place(out: &mut Vec<u8>, line: u64, text: &[u8]) -> Result<(), AllocError>
-    ensures { OnOk result (out.new.items ≡ out.old.items ++ place_line line text.now) }
+    ensures ok { OnOk result (out.new.items ≡ out.old.items ++ place_line line text.now) }
+    ensures err { OnErr result (out.new.items ≡ out.old.items) }
 {
+    let held = out.len();
     out.extend_from_slice(b"comment line ")?;
-    put_number(out, line)?;
-    out.extend_from_slice(b": ")?;
-    put_spelled(out, TEXT, text)?;
-    out.push(b'\n')?;
-    Ok(())
+    or_cut_back(put_number(out, line), out, held)?;
+    or_cut_back(out.extend_from_slice(b": "), out, held)?;
+    or_cut_back(put_spelled(out, TEXT, text), out, held)?;
+    or_cut_back(out.extend_from_slice(b"\n"), out, held)
 }
 
-/// Puts why a line is no name line.
-#[tactic(auto, unfolding(crate::specs::Remarks::reason_line))]
+/// Puts why a line is no name line. Want of memory leaves the text as it was.
+#[tactic(auto, unfolding(crate::specs::Remarks::reason_line), using(std::proofs::lemmas::List::append_assoc, std::proofs::lemmas::List::take_at))]
 fn put_reason(out: &mut Vec<u8>, remark: Remark) -> Result<(), AllocError>
-    ensures { OnOk result (out.new.items ≡ out.old.items ++ reason_line remark) }
+    ensures ok { OnOk result (out.new.items ≡ out.old.items ++ reason_line remark) }
+    ensures err { OnErr result (out.new.items ≡ out.old.items) }
 {
+    let held = out.len();
     out.extend_from_slice(b"reason: ")?;
-    out.extend_from_slice(reason_of(remark))?;
-    out.push(b'\n')?;
-    Ok(())
+    or_cut_back(out.extend_from_slice(reason_of(remark)), out, held)?;
+    or_cut_back(out.extend_from_slice(b"\n"), out, held)
 }
 
-/// Puts a line by its number, and what is remarked of it.
+/// Puts a line by its number, and what is remarked of it. Want of memory leaves the text as it was.
+#[tactic(auto, using(std::proofs::lemmas::List::append_assoc, std::proofs::lemmas::List::take_at))]
 fn put_remark(
     out: &mut Vec<u8>,
     line: u64,
     text: &[u8],
     remark: Option<Remark>,
 ) -> Result<(), AllocError>
-    ensures { OnOk result (out.new.items ≡ out.old.items ++ remark_lines line text.now remark) }
+    ensures ok { OnOk result (out.new.items ≡ out.old.items ++ remark_lines line text.now remark) }
+    ensures err { OnErr result (out.new.items ≡ out.old.items) }
 {
     match remark {
         Some(remark) => {
+            let held = out.len();
             put_place(out, line, text)?;
-            put_reason(out, remark)
+            or_cut_back(put_reason(out, remark), out, held)
         }
         None => Ok(()),
     }
@@ -182,14 +188,17 @@ fn put_remark(
 
 /// Puts behind a text the comments of a DIMACS text that are no name lines, though their first three words are `c`, a number and another
 /// one: each with its number and why, for a model of so many variables. They say nothing of the model, so a variable that was to be
-/// bound by one isn't.
+/// bound by one isn't. Want of memory leaves the text as it was.
 pub fn put_remarks(out: &mut Vec<u8>, most: u64, text: &[u8]) -> Result<(), AllocError>
-    ensures { OnOk result (out.new.items ≡ out.old.items ++ remarks_text most text.now) }
+    ensures ok { OnOk result (out.new.items ≡ out.old.items ++ remarks_text most text.now) }
+    ensures err { OnErr result (out.new.items ≡ out.old.items) }
 {
+    let held = out.len();
     let mut rest = text;
     let mut number = 1;
     while let Some((line, behind)) = next_line(rest) {
-        put_remark(out, number, line, remark_in(most, line))?;
+        let remark = remark_in(most, line);
+        or_cut_back(put_remark(out, number, line, remark), out, held)?;
         rest = behind;
         number += 1;
     }

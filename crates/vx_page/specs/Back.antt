@@ -1,5 +1,6 @@
 -- The back of a page: the end of the report, and the script.
-use Rattle.std.specs.Prelude.{ℕ, List, ◌++◌, codes}
+use Rattle.std.specs.Prelude.{ℕ, List, ◌∷◌, ◌++◌, [], codes}
+use Rattle.vx_page.specs.Parts.{joined}
 
 unfoldable pub part_1 : List ℕ
 part_1 =
@@ -553,14 +554,8 @@ part_24 =
     ++ codes "</body>\n"
     ++ codes "</html>\n"
 
-unfoldable pub parts_1 : List ℕ
-parts_1 = part_1 ++ part_2 ++ part_3 ++ part_4 ++ part_5 ++ part_6 ++ part_7 ++ part_8
-
-unfoldable pub parts_2 : List ℕ
-parts_2 = part_9 ++ part_10 ++ part_11 ++ part_12 ++ part_13 ++ part_14 ++ part_15 ++ part_16
-
-unfoldable pub parts_3 : List ℕ
-parts_3 = part_17 ++ part_18 ++ part_19 ++ part_20 ++ part_21 ++ part_22 ++ part_23 ++ part_24
-
 abbrev pub back : List ℕ
-back = parts_1 ++ parts_2 ++ parts_3
+back =
+    joined (part_1 ∷ part_2 ∷ part_3 ∷ part_4 ∷ part_5 ∷ part_6 ∷ part_7 ∷ part_8
+    ∷ part_9 ∷ part_10 ∷ part_11 ∷ part_12 ∷ part_13 ∷ part_14 ∷ part_15 ∷ part_16
+    ∷ part_17 ∷ part_18 ∷ part_19 ∷ part_20 ∷ part_21 ∷ part_22 ∷ part_23 ∷ part_24 ∷ [])

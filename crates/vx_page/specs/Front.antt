@@ -1,5 +1,6 @@
 -- The front of a page: all that stands before the report.
-use Rattle.std.specs.Prelude.{ℕ, List, ◌++◌, codes}
+use Rattle.std.specs.Prelude.{ℕ, List, ◌∷◌, ◌++◌, [], codes}
+use Rattle.vx_page.specs.Parts.{joined}
 
 unfoldable pub part_1 : List ℕ
 part_1 =
@@ -183,8 +184,6 @@ part_8 =
     ++ codes "</main>\n"
     ++ codes "<pre id=\"report\" hidden>\n"
 
-unfoldable pub parts_1 : List ℕ
-parts_1 = part_1 ++ part_2 ++ part_3 ++ part_4 ++ part_5 ++ part_6 ++ part_7 ++ part_8
-
 abbrev pub front : List ℕ
-front = parts_1
+front =
+    joined (part_1 ∷ part_2 ∷ part_3 ∷ part_4 ∷ part_5 ∷ part_6 ∷ part_7 ∷ part_8 ∷ [])

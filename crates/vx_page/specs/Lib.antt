@@ -2,3 +2,4 @@ pub mod Back
 pub mod Escapes
 pub mod Front
 pub mod Page
+pub mod Parts

@@ -1,8 +1,9 @@
 //! The back of a page: the end of the report, and the script. It is made by page/make.py.
 
-ghost use Rattle.std.specs.Prelude.{◌≡◌, ◌++◌, OnOk};
-ghost use Rattle.vx_page.specs.Back.{part_1, part_2, part_3, part_4, part_5, part_6, part_7, part_8, part_9, part_10, part_11, part_12, part_13, part_14, part_15, part_16, part_17, part_18, part_19, part_20, part_21, part_22, part_23, part_24, parts_1, parts_2, parts_3, back};
+ghost use Rattle.std.specs.Prelude.{◌≡◌, ◌++◌, OnErr, OnOk};
+ghost use Rattle.vx_page.specs.Back.{part_1, part_2, part_3, part_4, part_5, part_6, part_7, part_8, part_9, part_10, part_11, part_12, part_13, part_14, part_15, part_16, part_17, part_18, part_19, part_20, part_21, part_22, part_23, part_24, back};
 
+use crate::parts::put_parts;
 use std::alloc::AllocError;
 
 #[tactic(auto, unfolding(crate::specs::Back::part_1))]
@@ -653,57 +654,36 @@ followAddress();
 "##
 }
 
-/// Puts parts 1 to 8.
-fn put_parts_1(out: &mut Vec<u8>) -> Result<(), AllocError>
-    ensures { OnOk result (out.new.items ≡ out.old.items ++ parts_1) }
-{
-    out.extend_from_slice(part_1())?;
-    out.extend_from_slice(part_2())?;
-    out.extend_from_slice(part_3())?;
-    out.extend_from_slice(part_4())?;
-    out.extend_from_slice(part_5())?;
-    out.extend_from_slice(part_6())?;
-    out.extend_from_slice(part_7())?;
-    out.extend_from_slice(part_8())?;
-    Ok(())
-}
-
-/// Puts parts 9 to 16.
-fn put_parts_2(out: &mut Vec<u8>) -> Result<(), AllocError>
-    ensures { OnOk result (out.new.items ≡ out.old.items ++ parts_2) }
-{
-    out.extend_from_slice(part_9())?;
-    out.extend_from_slice(part_10())?;
-    out.extend_from_slice(part_11())?;
-    out.extend_from_slice(part_12())?;
-    out.extend_from_slice(part_13())?;
-    out.extend_from_slice(part_14())?;
-    out.extend_from_slice(part_15())?;
-    out.extend_from_slice(part_16())?;
-    Ok(())
-}
-
-/// Puts parts 17 to 24.
-fn put_parts_3(out: &mut Vec<u8>) -> Result<(), AllocError>
-    ensures { OnOk result (out.new.items ≡ out.old.items ++ parts_3) }
-{
-    out.extend_from_slice(part_17())?;
-    out.extend_from_slice(part_18())?;
-    out.extend_from_slice(part_19())?;
-    out.extend_from_slice(part_20())?;
-    out.extend_from_slice(part_21())?;
-    out.extend_from_slice(part_22())?;
-    out.extend_from_slice(part_23())?;
-    out.extend_from_slice(part_24())?;
-    Ok(())
-}
-
-/// Puts the whole.
+/// Puts the whole. Want of memory leaves the text as it was.
 pub fn put_back(out: &mut Vec<u8>) -> Result<(), AllocError>
-    ensures { OnOk result (out.new.items ≡ out.old.items ++ back) }
+    ensures ok { OnOk result (out.new.items ≡ out.old.items ++ back) }
+    ensures err { OnErr result (out.new.items ≡ out.old.items) }
 {
-    put_parts_1(out)?;
-    put_parts_2(out)?;
-    put_parts_3(out)?;
-    Ok(())
+    let parts = [
+        part_1(),
+        part_2(),
+        part_3(),
+        part_4(),
+        part_5(),
+        part_6(),
+        part_7(),
+        part_8(),
+        part_9(),
+        part_10(),
+        part_11(),
+        part_12(),
+        part_13(),
+        part_14(),
+        part_15(),
+        part_16(),
+        part_17(),
+        part_18(),
+        part_19(),
+        part_20(),
+        part_21(),
+        part_22(),
+        part_23(),
+        part_24(),
+    ];
+    put_parts(out, &parts)
 }

@@ -1,8 +1,9 @@
 //! The front of a page: all that stands before the report. It is made by page/make.py.
 
-ghost use Rattle.std.specs.Prelude.{◌≡◌, ◌++◌, OnOk};
-ghost use Rattle.vx_page.specs.Front.{part_1, part_2, part_3, part_4, part_5, part_6, part_7, part_8, parts_1, front};
+ghost use Rattle.std.specs.Prelude.{◌≡◌, ◌++◌, OnErr, OnOk};
+ghost use Rattle.vx_page.specs.Front.{part_1, part_2, part_3, part_4, part_5, part_6, part_7, part_8, front};
 
+use crate::parts::put_parts;
 use std::alloc::AllocError;
 
 #[tactic(auto, unfolding(crate::specs::Front::part_1))]
@@ -219,25 +220,20 @@ fn part_8() -> &'static [u8]
 "##
 }
 
-/// Puts parts 1 to 8.
-fn put_parts_1(out: &mut Vec<u8>) -> Result<(), AllocError>
-    ensures { OnOk result (out.new.items ≡ out.old.items ++ parts_1) }
-{
-    out.extend_from_slice(part_1())?;
-    out.extend_from_slice(part_2())?;
-    out.extend_from_slice(part_3())?;
-    out.extend_from_slice(part_4())?;
-    out.extend_from_slice(part_5())?;
-    out.extend_from_slice(part_6())?;
-    out.extend_from_slice(part_7())?;
-    out.extend_from_slice(part_8())?;
-    Ok(())
-}
-
-/// Puts the whole.
+/// Puts the whole. Want of memory leaves the text as it was.
 pub fn put_front(out: &mut Vec<u8>) -> Result<(), AllocError>
-    ensures { OnOk result (out.new.items ≡ out.old.items ++ front) }
+    ensures ok { OnOk result (out.new.items ≡ out.old.items ++ front) }
+    ensures err { OnErr result (out.new.items ≡ out.old.items) }
 {
-    put_parts_1(out)?;
-    Ok(())
+    let parts = [
+        part_1(),
+        part_2(),
+        part_3(),
+        part_4(),
+        part_5(),
+        part_6(),
+        part_7(),
+        part_8(),
+    ];
+    put_parts(out, &parts)
 }

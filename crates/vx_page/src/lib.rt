@@ -6,6 +6,7 @@ mod escapes;
 mod front;
 pub mod law;
 pub mod page;
+mod parts;
 
 pub use law::page_is_read_back;
 pub use page::write_page;

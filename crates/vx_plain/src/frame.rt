@@ -1,6 +1,6 @@
 //! Frames (JVMS 2.6).
 
-ghost use Rattle.std.specs.Prelude.{◌≡◌, ◌<◌, ◌^◌, ◌-◌, ◌++◌, ◌∷◌, IfOk, OnOk, drop, length, option_map, replicate, slice_get, slice_set};
+ghost use Rattle.std.specs.Prelude.{◌≡◌, ◌<◌, ◌^◌, ◌-◌, ◌++◌, ◌∷◌, IfOk, OnErr, OnOk, drop, length, option_map, replicate, slice_get, slice_set};
 ghost use Rattle.vx_java.specs.Initialisation.{max_locals, new_frame};
 ghost use Rattle.vx_java.specs.Machine.{Top as TopValue, stack_size};
 ghost use Rattle.vx_link.specs.Parts.{method_at};
@@ -111,10 +111,11 @@ impl Frame {
         self.operands.truncate(depth);
     }
 
-    /// Puts a value on top of the operands.
+    /// Puts a value on top of the operands. Want of memory leaves the frame as it was.
     #[tactic(auto, using(crate::proofs::Stacks::top_pushed))]
     pub fn push(&mut self, value: Value) -> Result<(), AllocError>
-        ensures { OnOk result (frame_of self.new ≡ record (frame_of self.old) { operands = value_of value ∷ (frame_of self.old).operands }) }
+        ensures ok { OnOk result (frame_of self.new ≡ record (frame_of self.old) { operands = value_of value ∷ (frame_of self.old).operands }) }
+        ensures err { OnErr result (frame_of self.new ≡ frame_of self.old) }
     {
         self.operands.push(value)?;
         Ok(())

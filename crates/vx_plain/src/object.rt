@@ -1,6 +1,6 @@
 //! Objects (JVMS 2.7).
 
-ghost use Rattle.std.specs.Prelude.{◌≡◌, ◌∷◌, [], IfOk, IfSome, OnOk, length, slice_set};
+ghost use Rattle.std.specs.Prelude.{◌≡◌, ◌∷◌, [], IfOk, IfSome, OnErr, OnOk, length, slice_set};
 ghost use Rattle.vx_java.specs.Library.{number_in};
 ghost use Rattle.vx_java.specs.Machine.{Text as TextValue, Top};
 ghost use Rattle.vx_java.specs.Texts.{units_in};
@@ -109,10 +109,11 @@ impl Body {
         }
     }
 
-    /// Writes a cell; one that isn't there stays. A value in place of the text takes memory.
+    /// Writes a cell; one that isn't there stays. A value in place of the text takes memory; want of it leaves the cells as they were.
     #[tactic(auto, using(crate::proofs::Heaps::set_behind))]
     fn write(&mut self, place: usize, value: Value) -> Result<(), AllocError>
-        ensures { OnOk result (cells_of self.new ≡ slice_set (cells_of self.old) place (value_of value)) }
+        ensures ok { OnOk result (cells_of self.new ≡ slice_set (cells_of self.old) place (value_of value)) }
+        ensures err { OnErr result (cells_of self.new ≡ cells_of self.old) }
     {
         match self.text {
             None => {
@@ -223,9 +224,10 @@ impl Object {
         self.body.number(place)
     }
 
-    /// Writes a cell; one that isn't there stays. A value in place of a text takes memory.
+    /// Writes a cell; one that isn't there stays. A value in place of a text takes memory; want of it leaves the object as it was.
     pub fn write(&mut self, place: usize, value: Value) -> Result<(), AllocError>
-        ensures { OnOk result (object_of self.new ≡ record (object_of self.old) { cells = slice_set (object_of self.old).cells place (value_of value) }) }
+        ensures ok { OnOk result (object_of self.new ≡ record (object_of self.old) { cells = slice_set (object_of self.old).cells place (value_of value) }) }
+        ensures err { OnErr result (object_of self.new ≡ object_of self.old) }
     {
         self.body.write(place, value)
     }

@@ -118,10 +118,11 @@ impl State {
         }
     }
 
-    /// Writes a cell; one that isn't there stays. A value in place of a text takes memory.
+    /// Writes a cell; one that isn't there stays. A value in place of a text takes memory; want of it leaves the state as it was.
     #[tactic(auto, using(crate::proofs::Heaps::object_absent), unfolding(crate::specs::Views::state_of))]
     pub fn write_cell(&mut self, object: u64, place: usize, value: Value) -> Result<(), AllocError>
-        ensures { OnOk result (state_of self.new ≡ with_cell (state_of self.old) object place (value_of value)) }
+        ensures ok { OnOk result (state_of self.new ≡ with_cell (state_of self.old) object place (value_of value)) }
+        ensures err { OnErr result (state_of self.new ≡ state_of self.old) }
     {
         let number = object as usize;
         if number < self.heap.len() {
@@ -299,28 +300,32 @@ impl State {
 
     /// Moves so many bytes on, with so many operands taken off. A position from 2^32 on is not held, and the state stays.
     pub fn pass(&mut self, size: u32, taken: usize) -> Result<(), AllocError>
-        ensures { OnOk result (state_of self.new ≡ at_position (state_of self.old) ((state_of self.old).top.position + size) (drop taken (state_of self.old).top.operands)) }
+        ensures ok { OnOk result (state_of self.new ≡ at_position (state_of self.old) ((state_of self.old).top.position + size) (drop taken (state_of self.old).top.operands)) }
+        ensures err { OnErr result (state_of self.new ≡ state_of self.old) }
     {
         let position = held(self.position_behind(size))?;
         self.go_to(position, taken);
         Ok(())
     }
 
-    /// Puts a value on top of the operands.
+    /// Puts a value on top of the operands. Want of memory leaves the state as it was.
     #[tactic(auto, unfolding(crate::specs::Views::state_of))]
     pub fn push(&mut self, value: Value) -> Result<(), AllocError>
-        ensures { OnOk result (state_of self.new ≡ at_position (state_of self.old) (state_of self.old).top.position (value_of value ∷ (state_of self.old).top.operands)) }
+        ensures ok { OnOk result (state_of self.new ≡ at_position (state_of self.old) (state_of self.old).top.position (value_of value ∷ (state_of self.old).top.operands)) }
+        ensures err { OnErr result (state_of self.new ≡ state_of self.old) }
     {
         self.top.push(value)
     }
 
     // ---- frames
 
-    /// A frame is put on top.
+    /// A frame is put on top. Want of memory leaves the state as it was.
     #[tactic(auto, using(crate::proofs::Heaps::frame_added), unfolding(crate::specs::Views::state_of))]
     pub fn enter(&mut self, frame: Frame) -> Result<(), AllocError>
-        ensures { OnOk result (state_of self.new ≡ with_frame (state_of self.old) (frame_of frame)) }
+        ensures ok { OnOk result (state_of self.new ≡ with_frame (state_of self.old) (frame_of frame)) }
+        ensures err { OnErr result (state_of self.new ≡ state_of self.old) }
     {
+        self.callers.reserve(1)?;
         let caller = std::mem::replace(&mut self.top, frame);
         self.callers.push(caller)?;
         Ok(())

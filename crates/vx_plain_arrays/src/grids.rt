@@ -13,6 +13,7 @@ use crate::lengths::{has_negative, int_at, is_large};
 use std::alloc::{AllocError, Global};
 use vx_java::arrays::component_of;
 use vx_link::{Program, class_name};
+use vx_list::GivenUp;
 use vx_plain::{Object, State, Value};
 use vx_plain_here::{Here, Made, natural};
 use vx_plain_tables::Seen;
@@ -86,7 +87,7 @@ fn add_outer(
     class: ClassId,
     length: usize,
     each: u64,
-) -> Result<(), AllocError>
+) -> Result<(), GivenUp>
     requires { length * each < 2 ^ 63 }
     ensures { OnOk result (state_of state.new ≡ with_objects (state_of state.old) (record { class = class.0; size = length; cells = references_to length each (next_object (state_of state.old) + 1) } ∷ [])) }
 {
@@ -96,7 +97,7 @@ fn add_outer(
 }
 
 /// Puts an array of arrays that has no parts at the end of the heap.
-fn add_empty(alloc: Global, state: &mut State, class: ClassId) -> Result<(), AllocError>
+fn add_empty(alloc: Global, state: &mut State, class: ClassId) -> Result<(), GivenUp>
     ensures { OnOk result (state_of state.new ≡ with_objects (state_of state.old) (record { class = class.0; size = 0; cells = [] } ∷ [])) }
 {
     state.add(Object::array(class, Vec::new(alloc)))?;
@@ -110,7 +111,7 @@ fn add_array(
     state: &mut State,
     class: ClassId,
     length: usize,
-) -> Result<(), AllocError>
+) -> Result<(), GivenUp>
     ensures { OnOk result (state_of state.new ≡ with_objects (state_of state.old) (array_of program.now class.0 length ∷ [])) }
 {
     let array = array_of(alloc, program, class, length)?;
@@ -126,7 +127,7 @@ fn add_grid(
     state: &mut State,
     class: ClassId,
     lengths: &[usize],
-) -> Result<(), AllocError>
+) -> Result<(), GivenUp>
     requires { grid_cells lengths.now ≤ length_bound }
     ensures { OnOk result (state_of state.new ≡ with_objects (state_of state.old) (grid program.now class.0 lengths.now (next_object (state_of state.old)))) }
 {

@@ -17,6 +17,7 @@ use vx_class::Code;
 use vx_desc::JavaType;
 use vx_java::Sort;
 use vx_link::Program;
+use vx_list::GivenUp;
 use vx_opcode::decode;
 use vx_plain::{Frame, State, Value};
 use vx_plain_here::{Made, Outcome, words_fit};
@@ -84,14 +85,14 @@ fn fits_caller(program: &Program, frame: &Frame, value: Option<Value>) -> bool
 }
 
 /// The caller moves past its call and gets the value.
-fn resume(program: &Program, frame: &mut Frame, value: Option<Value>) -> Result<(), AllocError>
+fn resume(program: &Program, frame: &mut Frame, value: Option<Value>) -> Result<(), GivenUp>
     requires { IsShort program.now }
     ensures { OnOk result (frame_of frame.new ≡ frame_resumed program.now (frame_of frame.old) (as_list (option_map value_of value))) }
 {
     let size = size_at(program, frame);
     frame.position += size;
     match value {
-        Some(value) => frame.push(value),
+        Some(value) => Ok(frame.push(value)?),
         None => Ok(()),
     }
 }
@@ -171,7 +172,7 @@ fn fits_below(program: &Program, state: &State, value: Option<Value>) -> Option<
 }
 
 #[tactic(auto, unfolding(vx_plain::specs::Views::state_of))]
-fn resume_top(program: &Program, state: &mut State, value: Option<Value>) -> Result<(), AllocError>
+fn resume_top(program: &Program, state: &mut State, value: Option<Value>) -> Result<(), GivenUp>
     requires { IsShort program.now }
     ensures { OnOk result (state_of state.new ≡ record (state_of state.old) { top = frame_resumed program.now (state_of state.old).top (as_list (option_map value_of value)) }) }
 {

@@ -1,6 +1,6 @@
 //! What a row of the instruction table, a native method or a beginning comes to.
 
-use std::alloc::AllocError;
+use vx_list::GivenUp;
 use vx_value::{ClassId, End, MethodId, Stream};
 
 /// What an attempt comes to, over the state that it has changed.
@@ -25,5 +25,5 @@ pub enum Outcome {
 }
 
 /// An outcome, unless memory runs out. What doesn't fit the numbers of the code, as a position from 2^32 on, is refused as want of
-/// memory too; then nothing is said of the state.
-pub type Made = Result<Outcome, AllocError>;
+/// memory too.
+pub type Made = Result<Outcome, GivenUp>;

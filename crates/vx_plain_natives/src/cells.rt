@@ -1,6 +1,6 @@
 //! Cells of an object that are written from a place on.
 
-ghost use Rattle.std.specs.Prelude.{◌≡◌, ◌++◌, IfOk, OnOk};
+ghost use Rattle.std.specs.Prelude.{◌≡◌, ◌++◌, IfOk, OnErr, OnOk};
 ghost use Rattle.vx_java.specs.Library.{cells_with};
 ghost use Rattle.vx_java.specs.Machine.{object_at, with_cells};
 ghost use Rattle.vx_plain.specs.Views.{object_of, state_of, values_of};
@@ -51,19 +51,17 @@ fn set_cells(object: &mut Object, cells: Vec<Value>)
 
 /// Gives an object of the heap other cells; one that isn't there stays so.
 #[tactic(auto, using(vx_plain::proofs::Heaps::object_absent), unfolding(vx_plain::specs::Views::state_of))]
-fn put_cells(state: &mut State, object: u64, cells: Vec<Value>) -> Result<(), AllocError>
-    ensures { OnOk result (state_of state.new ≡ with_cells (state_of state.old) object (values_of cells.items)) }
+fn put_cells(state: &mut State, object: u64, cells: Vec<Value>)
+    ensures { state_of state.new ≡ with_cells (state_of state.old) object (values_of cells.items) }
 {
     let number = object as usize;
-    if number < state.heap.len() {
-        set_cells(&mut state.heap[number], cells);
-        Ok(())
-    } else {
-        Ok(())
+    if number >= state.heap.len() {
+        return;
     }
+    set_cells(&mut state.heap[number], cells);
 }
 
-/// Writes cells of an object, all of which hold values, from a place on.
+/// Writes cells of an object, all of which hold values, from a place on. Want of memory leaves the state as it was.
 pub(crate) fn write_cells(
     alloc: Global,
     state: &mut State,
@@ -71,8 +69,10 @@ pub(crate) fn write_cells(
     place: usize,
     values: &[Value],
 ) -> Result<(), AllocError>
-    ensures { OnOk result (state_of state.new ≡ with_cells (state_of state.old) object (cells_with (object_at (state_of state.old) object).cells place (values_of values.now))) }
+    ensures ok { OnOk result (state_of state.new ≡ with_cells (state_of state.old) object (cells_with (object_at (state_of state.old) object).cells place (values_of values.now))) }
+    ensures err { OnErr result (state_of state.new ≡ state_of state.old) }
 {
     let cells = cells_with(alloc, state.cells(object)?, place, values)?;
-    put_cells(state, object, cells)
+    put_cells(state, object, cells);
+    Ok(())
 }

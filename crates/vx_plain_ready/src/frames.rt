@@ -1,6 +1,6 @@
 //! The frames of a chain of classes whose initialisation begins (JVMS 5.5).
 
-ghost use Rattle.std.specs.Prelude.{◌≡◌, ◌∷◌, OnOk, length, map};
+ghost use Rattle.std.specs.Prelude.{◌≡◌, ◌∷◌, OnErr, OnOk, length, map};
 ghost use Rattle.std.specs.Prelude.{nat_lt, ◌+◌};
 ghost use Rattle.vx_java.specs.Initialisation.{init_frame, pushed_chain};
 ghost use Rattle.vx_java.specs.Machine.{depth, frame_bound};
@@ -12,6 +12,7 @@ ghost use Rattle.vx_value.specs.declared.key.Kind.TheVariants.{Wait};
 
 use std::alloc::{AllocError, Global};
 use vx_link::Program;
+use vx_list::GivenUp;
 use vx_plain::{Frame, State};
 use vx_value::{ClassId, InitState, Kind, MethodId};
 
@@ -27,14 +28,15 @@ fn initialiser_of(program: &Program, class: ClassId) -> MethodId
     }
 }
 
-/// A frame of the initialiser of a class, which waits, is put on top.
+/// A frame of the initialiser of a class, which waits, is put on top. Want of memory leaves the state as it was.
 fn push_waiting(
     alloc: Global,
     program: &Program,
     state: &mut State,
     class: ClassId,
 ) -> Result<(), AllocError>
-    ensures { OnOk result (state_of state.new ≡ with_frame (state_of state.old) (init_frame program.now Wait class.0)) }
+    ensures ok { OnOk result (state_of state.new ≡ with_frame (state_of state.old) (init_frame program.now Wait class.0)) }
+    ensures err { OnErr result (state_of state.new ≡ state_of state.old) }
 {
     let none = Vec::new(alloc);
     let method = initialiser_of(program, class);
@@ -49,7 +51,7 @@ fn push_all(
     program: &Program,
     state: &mut State,
     chain: &[ClassId],
-) -> Result<(), AllocError>
+) -> Result<(), GivenUp>
     ensures { OnOk result (state_of state.new ≡ waiting program.now (state_of state.old) (numbers_of chain.now)) }
 {
     for class in chain {
@@ -73,7 +75,7 @@ pub fn push_chain(
     program: &Program,
     state: &mut State,
     chain: &[ClassId],
-) -> Result<(), AllocError>
+) -> Result<(), GivenUp>
     ensures { OnOk result (state_of state.new ≡ pushed_chain program.now (state_of state.old) (numbers_of chain.now)) }
 {
     state.mark(chain, InitState::Running);

@@ -8,8 +8,8 @@ ghost use Rattle.vx_plain_here.specs.Rows.{here_in};
 ghost use Rattle.vx_plain_ready.specs.Ready.{Readied};
 ghost use Rattle.vx_value.specs.declared.slot.InitState.TheVariants.{Failed, Not};
 
-use std::alloc::AllocError;
 use vx_java::init_chain;
+use vx_list::GivenUp;
 use vx_plain::State;
 use vx_plain_here::{Here, Outcome};
 use vx_value::{ClassId, InitState};
@@ -20,7 +20,7 @@ fn mark_quiet(
     here: &Here<'_>,
     state: &mut State,
     class: ClassId,
-) -> Result<Option<Outcome>, AllocError>
+) -> Result<Option<Outcome>, GivenUp>
     requires not { init_at (state_of state.old).inits class.0 ≡ Not }
     requires quiet { quiet_chain here.now.program.now (state_of state.old).inits class.0 ≡ true }
     ensures { IfOk result (Readied (here_in here.now (state_of state.old)) class.0 (state_of state.new)) }
@@ -35,7 +35,7 @@ fn mark_or_begin(
     here: &Here<'_>,
     state: &mut State,
     class: ClassId,
-) -> Result<Option<Outcome>, AllocError>
+) -> Result<Option<Outcome>, GivenUp>
     requires { init_at (state_of state.old).inits class.0 ≡ Not }
     ensures { IfOk result (Readied (here_in here.now (state_of state.old)) class.0 (state_of state.new)) }
 {
@@ -47,7 +47,7 @@ fn mark_or_begin(
 }
 
 /// A class whose initialisation has failed is not there any more.
-fn not_there(here: &Here<'_>, state: &State, class: ClassId) -> Result<Option<Outcome>, AllocError>
+fn not_there(here: &Here<'_>, state: &State, class: ClassId) -> Result<Option<Outcome>, GivenUp>
     requires { init_at (state_of state.now).inits class.0 ≡ Failed }
     ensures { IfOk result (Readied (here_in here.now (state_of state.now)) class.0 (state_of state.now)) }
 {
@@ -56,11 +56,7 @@ fn not_there(here: &Here<'_>, state: &State, class: ClassId) -> Result<Option<Ou
 }
 
 /// Makes a class ready, where that takes no frame: then the row goes on; else it gives what the attempt comes to.
-pub fn ready(
-    here: &Here<'_>,
-    state: &mut State,
-    class: ClassId,
-) -> Result<Option<Outcome>, AllocError>
+pub fn ready(here: &Here<'_>, state: &mut State, class: ClassId) -> Result<Option<Outcome>, GivenUp>
     ensures { IfOk result (Readied (here_in here.now (state_of state.old)) class.0 (state_of state.new)) }
 {
     match state.init_of(class) {

@@ -98,8 +98,8 @@ pub began_as : {E : Type 0} (r : Result (Option End) E) (told said : Run) (old n
 began_as r told said old new e began = subst (λ run. IfOk r (Began run old new)) e began
 
 -- the run is over in the state in which it stands
-pub over : {E : Type 0} (r : Result (Option End) E) (said : Run) (s : State) (end : End) → said ≡ Over end (fresh_progress s) → IfOk r (λ o. o ≡ Some end) → IfOk r (Began said s s)
-over r said s end e made = IfOk-weaker r (λ o. o ≡ Some end) (Began said s s) (λ o is. subst (Began said s s) (sym is) e) made
+pub over : (made : Option End) (said : Run) (s : State) (end : End) → said ≡ Over end (fresh_progress s) → made ≡ Some end → Began said s s made
+over made said s end e is = subst (Began said s s) (sym is) e
 
 some_same : {A : Type 0} (x y : A) → Some x ≡ Some y → x ≡ y
 some_same x y e = cc

@@ -15,6 +15,7 @@ ghost use Rattle.vx_value.specs.declared.end.End.TheVariants.{Uncaught, Unsuppor
 use std::alloc::{AllocError, Global};
 use vx_java::{init_chain, place};
 use vx_link::Program;
+use vx_list::GivenUp;
 use vx_plain::State;
 use vx_plain_ready::{chain_blocked, push_chain, too_many};
 use vx_spelling::class_text;
@@ -56,11 +57,11 @@ fn begin_frames(
     program: &Program,
     state: &mut State,
     chain: &[ClassId],
-) -> Result<Option<End>, AllocError>
+) -> Result<Option<End>, GivenUp>
     ensures { let s = state_of state.old in IfOk result (Began (with_room program.now s (numbers_of chain.now) (nat_lt frame_bound (depth s + length (numbers_of chain.now)))) s (state_of state.new)) }
 {
     if too_many(state, chain) {
-        return overflow_end(alloc);
+        return Ok(overflow_end(alloc)?);
     }
     push_chain(alloc, program, state, chain)?;
     Ok(None)
@@ -73,7 +74,7 @@ fn begin_free(
     state: &mut State,
     class: ClassId,
     chain: &[ClassId],
-) -> Result<Option<End>, AllocError>
+) -> Result<Option<End>, GivenUp>
     ensures { let s = state_of state.old in IfOk result (Began (if_quiet program.now s (numbers_of chain.now) (quiet_chain program.now s.inits class.0)) s (state_of state.new)) }
 {
     if state.is_quiet(program, class) {
@@ -90,12 +91,12 @@ fn begin_chain(
     state: &mut State,
     class: ClassId,
     chain: &[ClassId],
-) -> Result<Option<End>, AllocError>
+) -> Result<Option<End>, GivenUp>
     requires { HasClassNumbers program.now }
     ensures { let s = state_of state.old in IfOk result (Began (begun program.now s class.0 (numbers_of chain.now) (chain_blocked program.now (numbers_of chain.now))) s (state_of state.new)) }
 {
     match chain_blocked(program, chain) {
-        Some(interface) => blocked_end(alloc, program, state, interface),
+        Some(interface) => Ok(blocked_end(alloc, program, state, interface)?),
         None => begin_free(alloc, program, state, class, chain),
     }
 }
@@ -107,7 +108,7 @@ pub fn begin_main(
     alloc: Global,
     program: &Program,
     state: &mut State,
-) -> Result<Option<End>, AllocError>
+) -> Result<Option<End>, GivenUp>
     requires { HasClassNumbers program.now }
     ensures { let s = state_of state.old in IfOk result (Began (started program.now s) s (state_of state.new)) }
 {

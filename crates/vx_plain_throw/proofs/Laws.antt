@@ -194,8 +194,8 @@ none_left p frames above thrown e = ap (λ fs. uncaught_over p fs thrown) (all_d
 
 -- ---- the end of a run
 
-pub ended : {E : Type 0} (r : Result next.Next E) (said : Next) (s : State) (text : List ℕ) → IfOk r (λ n. n ≡ led.Ends (Uncaught text)) → said ≡ Ends (Uncaught text) → IfOk r (Led said s s)
-ended r said s text made is = IfOk-weaker r (λ n. n ≡ led.Ends (Uncaught text)) (Led said s s) (λ n e. subst (Led said s s) (sym e) (is, refl)) made
+pub ended : (made : next.Next) (said : Next) (s : State) (text : List ℕ) → made ≡ led.Ends (Uncaught text) → said ≡ Ends (Uncaught text) → Led said s s made
+ended made said s text e is = subst (Led said s s) (sym e) (is, refl)
 
 -- from a state whose frames stand where those of the first one do
 led_from : (told said : Next) (old moved new : State) (n : next.Next) → told ≡ said → places_of moved ≡ places_of old → Led told moved new n → Led said old new n

@@ -9,6 +9,7 @@ ghost use Rattle.vx_plain.specs.Views.{object_of, state_of, value_of};
 
 use std::alloc::{AllocError, Global};
 use vx_link::Program;
+use vx_list::GivenUp;
 use vx_plain::{Object, State, Value};
 use vx_plain_ready::core_class;
 use vx_plain_tables::new_object;
@@ -45,14 +46,14 @@ fn with_message(
     state: &mut State,
     class: ClassId,
     message: Vec<u16>,
-) -> Result<u64, AllocError>
+) -> Result<u64, GivenUp>
     requires { HasClassNumbers program.now }
     ensures place { IfOk result (λ place. place ≡ next_object (state_of state.old) + 1) }
     ensures added { OnOk result (state_of state.new ≡ with_objects (state_of state.old) (exception_objects program.now (state_of state.old) class.0 (Some message.items))) }
 {
     let text = state.add(string(program, message))?;
     let made = throwable(alloc, program, class, Value::Ref(text), Value::Null)?;
-    state.add(made)
+    Ok(state.add(made)?)
 }
 
 /// An exception without a message.
@@ -61,12 +62,12 @@ fn without_message(
     program: &Program,
     state: &mut State,
     class: ClassId,
-) -> Result<u64, AllocError>
+) -> Result<u64, GivenUp>
     ensures place { IfOk result (λ place. place ≡ next_object (state_of state.old)) }
     ensures added { OnOk result (state_of state.new ≡ with_objects (state_of state.old) (exception_objects program.now (state_of state.old) class.0 None)) }
 {
     let made = throwable(alloc, program, class, Value::Null, Value::Null)?;
-    state.add(made)
+    Ok(state.add(made)?)
 }
 
 /// Makes an exception of a class, with its message's text before it.
@@ -76,7 +77,7 @@ pub fn exception(
     state: &mut State,
     class: ClassId,
     message: Option<Vec<u16>>,
-) -> Result<u64, AllocError>
+) -> Result<u64, GivenUp>
     requires { HasClassNumbers program.now }
     ensures place { IfOk result (λ place. place ≡ next_object (state_of state.old) + length (exception_objects program.now (state_of state.old) class.0 (option_map (λ units. units.items) message)) - 1) }
     ensures added { OnOk result (state_of state.new ≡ with_objects (state_of state.old) (exception_objects program.now (state_of state.old) class.0 (option_map (λ units. units.items) message))) }

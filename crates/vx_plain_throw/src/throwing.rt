@@ -16,6 +16,7 @@ use crate::next::Next;
 use crate::unwinding::unwind;
 use std::alloc::{AllocError, Global};
 use vx_link::Program;
+use vx_list::GivenUp;
 use vx_plain::State;
 use vx_spelling::class_text;
 use vx_value::{ClassId, End};
@@ -29,12 +30,7 @@ fn end(alloc: Global, program: &Program, class: ClassId) -> Result<Next, AllocEr
 }
 
 /// The first frame that handles an object goes on with it alone on its operands.
-fn go_on(
-    alloc: Global,
-    program: &Program,
-    state: &mut State,
-    object: u64,
-) -> Result<Next, AllocError>
+fn go_on(alloc: Global, program: &Program, state: &mut State, object: u64) -> Result<Next, GivenUp>
     requires classes { HasClassNumbers program.now }
     requires handled { IsHandled program.now (state_of state.old) object }
     ensures { let s = state_of state.old in IfOk result (Led (next_after_throw program.now s object) s (state_of state.new)) }
@@ -49,12 +45,12 @@ pub fn throw(
     program: &Program,
     state: &mut State,
     object: u64,
-) -> Result<Next, AllocError>
+) -> Result<Next, GivenUp>
     requires { HasClassNumbers program.now }
     ensures { let s = state_of state.old in IfOk result (Led (next_after_throw program.now s object) s (state_of state.new)) }
 {
     match uncaught(program, state, state.class_of(object)) {
-        Some(class) => end(alloc, program, class),
+        Some(class) => Ok(end(alloc, program, class)?),
         None => go_on(alloc, program, state, object),
     }
 }
@@ -66,7 +62,7 @@ pub fn raise(
     state: &mut State,
     class: ClassId,
     message: Option<Vec<u16>>,
-) -> Result<Next, AllocError>
+) -> Result<Next, GivenUp>
     requires { HasClassNumbers program.now }
     ensures { let s = state_of state.old in IfOk result (Led (next_after_raise program.now s class.0 (option_map (λ units. units.items) message)) s (state_of state.new)) }
 {

@@ -1,6 +1,6 @@
 //! The unwinding of frames (JVMS 2.10, 5.5).
 
-ghost use Rattle.std.specs.Prelude.{◌≡◌, ◌∷◌, [], IfOk, None, OnOk};
+ghost use Rattle.std.specs.Prelude.{◌≡◌, ◌∷◌, [], IfOk, None, OnErr, OnOk};
 ghost use Rattle.vx_java.specs.Ids.{HasClassNumbers};
 ghost use Rattle.vx_java.specs.Machine.{Goes, current_class, with_inits};
 ghost use Rattle.vx_java.specs.Throwing.{handler_of, passed_object, passed_state, unwind};
@@ -12,6 +12,7 @@ use crate::handling::{handler_of, is_error};
 use crate::making::throwable;
 use std::alloc::{AllocError, Global};
 use vx_link::Program;
+use vx_list::GivenUp;
 use vx_plain::{State, Value};
 use vx_plain_ready::core_class;
 use vx_value::{InitState, Kind};
@@ -27,7 +28,7 @@ pub fn handler_on_top(program: &Program, state: &State, object: u64) -> Option<u
 
 /// The frame on top goes on in its handler, with an object alone on its operands.
 #[tactic(auto, unfolding(vx_plain::specs::Views::state_of))]
-fn handle(state: &mut State, object: u64, handler: u32) -> Result<(), AllocError>
+fn handle(state: &mut State, object: u64, handler: u32) -> Result<(), GivenUp>
     ensures { OnOk result (state_of state.new ≡ in_handler (state_of state.old) object handler) }
 {
     state.top.position = handler;
@@ -36,11 +37,12 @@ fn handle(state: &mut State, object: u64, handler: u32) -> Result<(), AllocError
     Ok(())
 }
 
-/// What leaves an initialisation: an error stays, another object is wrapped.
+/// What leaves an initialisation: an error stays, another object is wrapped. Want of memory leaves the state as it was.
 fn wrap(alloc: Global, program: &Program, state: &mut State, object: u64) -> Result<u64, AllocError>
     requires { HasClassNumbers program.now }
     ensures object { IfOk result (λ r. r ≡ wrapped_object program.now (state_of state.old) object) }
     ensures state { OnOk result (state_of state.new ≡ wrapped_state program.now (state_of state.old) object) }
+    ensures err { OnErr result (state_of state.new ≡ state_of state.old) }
 {
     if is_error(program, state.class_of(object)) {
         return Ok(object);
@@ -50,7 +52,7 @@ fn wrap(alloc: Global, program: &Program, state: &mut State, object: u64) -> Res
     state.add(made)
 }
 
-/// An object leaves an initialisation, which has failed.
+/// An object leaves an initialisation, which has failed. Want of memory leaves the state as it was.
 fn pass_initialisation(
     alloc: Global,
     program: &Program,
@@ -60,6 +62,7 @@ fn pass_initialisation(
     requires { HasClassNumbers program.now }
     ensures object { IfOk result (λ r. r ≡ wrapped_object program.now (state_of state.old) object) }
     ensures state { OnOk result (state_of state.new ≡ with_inits (wrapped_state program.now (state_of state.old) object) Failed (current_class program.now (state_of state.old) ∷ [])) }
+    ensures err { OnErr result (state_of state.new ≡ state_of state.old) }
 {
     let class = state.current_class(program);
     let thrown = wrap(alloc, program, state, object)?;
@@ -68,7 +71,7 @@ fn pass_initialisation(
 }
 
 /// An object passes the frame on top, which stays there: what leaves an initialisation marks its class and is wrapped, unless it is an
-/// error (JVMS 5.5). The only refusal is want of memory, after which nothing is said of the state.
+/// error (JVMS 5.5). The only refusal is want of memory, which leaves the state as it was.
 pub fn pass(
     alloc: Global,
     program: &Program,
@@ -78,6 +81,7 @@ pub fn pass(
     requires { HasClassNumbers program.now }
     ensures object { IfOk result (λ r. r ≡ passed_object program.now (state_of state.old) (state_of state.old).top.kind object) }
     ensures state { OnOk result (state_of state.new ≡ passed_state program.now (state_of state.old) (state_of state.old).top.kind object) }
+    ensures err { OnErr result (state_of state.new ≡ state_of state.old) }
 {
     match state.kind() {
         Kind::Call => Ok(object),
@@ -92,7 +96,7 @@ fn pass_top(
     program: &Program,
     state: &mut State,
     object: u64,
-) -> Result<u64, AllocError>
+) -> Result<u64, GivenUp>
     requires classes { HasClassNumbers program.now }
     requires unhandled { None ≡ handler_of program.now (state_of state.old) (state_of state.old).top.kind object }
     requires handled { IsHandled program.now (state_of state.old) object }
@@ -111,7 +115,7 @@ pub(crate) fn unwind(
     program: &Program,
     state: &mut State,
     object: u64,
-) -> Result<(), AllocError>
+) -> Result<(), GivenUp>
     requires classes { HasClassNumbers program.now }
     requires handled { IsHandled program.now (state_of state.old) object }
     ensures { let s = state_of state.old in OnOk result (unwind program.now s object s.callers ≡ Goes (state_of state.new)) }

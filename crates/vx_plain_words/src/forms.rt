@@ -7,8 +7,8 @@ ghost use Rattle.vx_plain.specs.Views.{state_of};
 ghost use Rattle.vx_plain_here.specs.Rows.{ComesTo, here_in};
 ghost use Rattle.vx_plain_words.specs.Taken.{count, one_of, taken, two_of, values_in};
 
-use std::alloc::AllocError;
 use vx_java::Shuffle;
+use vx_list::GivenUp;
 use vx_plain::{State, Value};
 use vx_plain_here::{Here, Made};
 
@@ -115,21 +115,21 @@ fn words_under(state: &State, words: usize, above: usize) -> Option<Words>
 }
 
 /// Puts values on top of the operands.
-fn put(state: &mut State, words: Words) -> Result<(), AllocError>
+fn put(state: &mut State, words: Words) -> Result<(), GivenUp>
     ensures { OnOk result (state_of state.new ≡ at_position (state_of state.old) (state_of state.old).top.position (values_in words ++ (state_of state.old).top.operands)) }
 {
     match words {
         Words::Nothing => Ok(()),
-        Words::One(value) => state.push(value),
+        Words::One(value) => Ok(state.push(value)?),
         Words::Two(first, second) => {
             state.push(second)?;
-            state.push(first)
+            Ok(state.push(first)?)
         }
     }
 }
 
 /// Puts the upper values also under the lower ones.
-fn put_again(state: &mut State, upper: Words, lower: Words) -> Result<(), AllocError>
+fn put_again(state: &mut State, upper: Words, lower: Words) -> Result<(), GivenUp>
     ensures { OnOk result (state_of state.new ≡ at_position (state_of state.old) (state_of state.old).top.position (values_in upper ++ (values_in lower ++ (values_in upper ++ (state_of state.old).top.operands)))) }
 {
     put(state, upper)?;
@@ -138,7 +138,7 @@ fn put_again(state: &mut State, upper: Words, lower: Words) -> Result<(), AllocE
 }
 
 /// Changes the upper values and the lower ones.
-fn put_changed(state: &mut State, upper: Words, lower: Words) -> Result<(), AllocError>
+fn put_changed(state: &mut State, upper: Words, lower: Words) -> Result<(), GivenUp>
     ensures { OnOk result (state_of state.new ≡ at_position (state_of state.old) (state_of state.old).top.position (values_in lower ++ (values_in upper ++ (state_of state.old).top.operands))) }
 {
     put(state, upper)?;
@@ -146,7 +146,7 @@ fn put_changed(state: &mut State, upper: Words, lower: Words) -> Result<(), Allo
 }
 
 /// Puts the values back in the order of a form.
-fn put_back(state: &mut State, form: Shuffle, upper: Words, lower: Words) -> Result<(), AllocError>
+fn put_back(state: &mut State, form: Shuffle, upper: Words, lower: Words) -> Result<(), GivenUp>
     ensures { OnOk result (state_of state.new ≡ at_position (state_of state.old) (state_of state.old).top.position (values_reordered form (values_in upper) (values_in lower) (state_of state.old).top.operands)) }
 {
     match form {
@@ -163,7 +163,7 @@ fn put_back(state: &mut State, form: Shuffle, upper: Words, lower: Words) -> Res
 }
 
 /// Takes the values off, and puts them back in the order of a form.
-fn reorder(state: &mut State, form: Shuffle, upper: Words, lower: Words) -> Result<(), AllocError>
+fn reorder(state: &mut State, form: Shuffle, upper: Words, lower: Words) -> Result<(), GivenUp>
     ensures { OnOk result (state_of state.new ≡ at_position (state_of state.old) (state_of state.old).top.position (values_reordered form (values_in upper) (values_in lower) (drop (count upper + count lower) (state_of state.old).top.operands))) }
 {
     let position = state.position();

@@ -6,6 +6,7 @@ use Rattle.vx_agree.specs.Text.{IsAgreementText}
 use Rattle.vx_class.specs.declared.class_file.ClassFile.{ClassFile}
 use Rattle.vx_check.specs.Text.{IsCheckText}
 use Rattle.vx_check.specs.declared.expected.Expectation.{Expectation}
+use Rattle.vx_compare.specs.Text.{IsComparisonText}
 use Rattle.vx_cut.specs.Cuts.{IsCutText}
 use Rattle.vx_model.specs.declared.model.Model.{Model}
 use Rattle.vx_model.specs.Models.{HasOptionNames, IsModel, is_allowed}
@@ -86,6 +87,7 @@ pub data Product : Type 0 where
   Judged : (program : Program) → Product
   Parts : (dimacs : Bool) (text : List ℕ) (model : Model) (chosen : List Bool) → Product
   Check : (report : read.Report) (expected : List Expectation) → Product
+  Comparison : (one other : read.Report) → Product
   Exactly : List ℕ → Product
 
 -- a text is that of a product; a report speaks of the configurations that its model allows
@@ -98,6 +100,7 @@ IsTextOf (Summary seed options) bytes = IsSummary seed options bytes
 IsTextOf (Judged program) bytes = IsVerdictText program bytes
 IsTextOf (Parts dimacs text model chosen) bytes = IsCutText dimacs text model chosen bytes
 IsTextOf (Check report expected) bytes = IsCheckText report expected bytes
+IsTextOf (Comparison one other) bytes = IsComparisonText one other bytes
 IsTextOf (Exactly given) bytes = bytes ≡ given
 
 -- a text is the report of the program of these class files under a model

@@ -5,7 +5,7 @@ use Rattle.vx_link.specs.declared.fault.LinkFault.{LinkFault}
 use Rattle.vx_link.specs.declared.fault.LinkFault.TheVariants as link
 use Rattle.vx_link.specs.declared.fault.LinkFault.TheVariants.{Twice, NoSuper, Cycle, NoMain, NoOption, FinalSuper}
 use Rattle.vx_plans.specs.declared.status.Status.{Status}
-use Rattle.vx_plans.specs.declared.status.Status.TheVariants.{Done, NoMemory, Usage, ReadFault, WriteFault, BadModel, NoConfiguration, BadClass, BadLink, BadReport, NotAllowed, BadSource, TooLarge, Unlike, NotJoinable, Failing, BadExpected}
+use Rattle.vx_plans.specs.declared.status.Status.TheVariants.{Done, NoMemory, Usage, ReadFault, WriteFault, BadModel, NoConfiguration, BadClass, BadLink, BadReport, NotAllowed, BadSource, TooLarge, Unlike, NotJoinable, Failing, Differing, BadExpected}
 use Rattle.vx_plans.specs.declared.line.Piece.{Piece}
 use Rattle.vx_plans.specs.declared.line.Piece.TheVariants.{Text, Word, Number}
 
@@ -37,6 +37,7 @@ line_of (TooLarge path room) = codes "too large " ++ word_of path ++ codes " " +
 line_of Unlike = codes "unlike\n"
 line_of NotJoinable = codes "not joinable\n"
 line_of Failing = codes "failing\n"
+line_of Differing = codes "differing\n"
 line_of (BadExpected line reason) = codes "bad expected line " ++ decimal line ++ codes " reason " ++ decimal reason ++ codes "\n"
 
 -- the bytes of a piece of a line

@@ -1,7 +1,7 @@
 -- The codes of the statuses.
 use Rattle.std.specs.Prelude.{ℕ}
 use Rattle.vx_plans.specs.declared.status.Status.{Status}
-use Rattle.vx_plans.specs.declared.status.Status.TheVariants.{Done, NoMemory, Usage, ReadFault, WriteFault, BadModel, NoConfiguration, BadClass, BadLink, BadReport, NotAllowed, BadSource, TooLarge, Unlike, NotJoinable, Failing, BadExpected}
+use Rattle.vx_plans.specs.declared.status.Status.TheVariants.{Done, NoMemory, Usage, ReadFault, WriteFault, BadModel, NoConfiguration, BadClass, BadLink, BadReport, NotAllowed, BadSource, TooLarge, Unlike, NotJoinable, Failing, Differing, BadExpected}
 
 abbrev pub code_of : Status → ℕ
 code_of Done = 0
@@ -20,4 +20,5 @@ code_of (TooLarge path room) = 13
 code_of Unlike = 14
 code_of NotJoinable = 18
 code_of Failing = 15
+code_of Differing = 16
 code_of (BadExpected line reason) = 17

@@ -150,6 +150,7 @@ pub fn put_line<E: Sink>(sink: &mut E, status: &Status) -> Result<(), SinkFault>
         Status::Unlike => put_all(sink, b"unlike\n"),
         Status::NotJoinable => put_all(sink, b"not joinable\n"),
         Status::Failing => put_all(sink, b"failing\n"),
+        Status::Differing => put_all(sink, b"differing\n"),
         Status::BadExpected { line, reason } => put_pieces(
             sink,
             &[

@@ -43,6 +43,8 @@ pub enum Status {
     NotJoinable,
     /// A configuration ends otherwise than it should. The text that tells so was written to `out`.
     Failing,
+    /// A configuration is told differently by two reports. The text that tells so was written to `out`.
+    Differing,
     /// What is expected has no reading: its first bad line, with the least reason.
     BadExpected { line: u64, reason: u8 },
 }
@@ -102,6 +104,7 @@ impl Status {
             Status::Unlike => 14,
             Status::NotJoinable => 18,
             Status::Failing => 15,
+            Status::Differing => 16,
             Status::BadExpected { .. } => 17,
         }
     }

@@ -9,8 +9,9 @@ ghost use Rattle.vx_plain_tables.specs.Tables.{AreTables};
 ghost use Rattle.vx_replay.specs.Attempts.{IsAttempt, Leads};
 
 use crate::natives::native;
-use std::alloc::{AllocError, Global};
+use std::alloc::Global;
 use vx_link::Program;
+use vx_list::GivenUp;
 use vx_plain::State;
 use vx_plain_here::{Made, Outcome};
 use vx_plain_ready::begin;
@@ -34,8 +35,7 @@ pub struct Attempted {
     pub written: Option<Written>,
 }
 
-/// Carries out a beginning or a native method; another outcome stays. The only refusal is want of memory, after which nothing is said
-/// of the state.
+/// Carries out a beginning or a native method; another outcome stays. The only refusal is want of memory.
 pub fn carried_out(
     alloc: Global,
     program: &Program,
@@ -65,13 +65,13 @@ fn silent(next: Next) -> Attempted
 }
 
 /// Where an outcome leads that has been carried out, and what it writes. Where it ends the run, the frames stand as before it. The only
-/// refusal is want of memory, after which nothing is said of the state.
+/// refusal is want of memory.
 pub fn led(
     alloc: Global,
     program: &Program,
     state: &mut State,
     outcome: Outcome,
-) -> Result<Attempted, AllocError>
+) -> Result<Attempted, GivenUp>
     requires { HasClassNumbers program.now }
     ensures { let s = state_of state.old in IfOk result (Leads program.now (outcome_over s outcome) s (state_of state.new)) }
 {
@@ -99,13 +99,13 @@ pub fn led(
 }
 
 /// One attempt of a run: what `step` makes of it. Where it ends the run, the frames stand as before it. The only refusal is want of
-/// memory, after which nothing is said of the state.
+/// memory.
 pub fn attempt(
     alloc: Global,
     program: &Program,
     tables: &Tables,
     state: &mut State,
-) -> Result<Attempted, AllocError>
+) -> Result<Attempted, GivenUp>
     requires classes { HasClassNumbers program.now }
     requires tables { AreTables program.now tables.now }
     ensures { IfOk result (IsAttempt program.now (state_of state.old) (state_of state.new)) }

@@ -7,6 +7,7 @@ ghost use Rattle.vx_report.specs.Projection.{same_stream};
 
 use crate::attempting::Written;
 use std::alloc::AllocError;
+use vx_list::GivenUp;
 use vx_value::{Name, Stream};
 
 /// A longest run of output on one stream.
@@ -42,11 +43,7 @@ fn is_of(piece: &PlainPiece, stream: Stream) -> bool
 
 /// Puts a piece behind the others, of which the last one was taken off: the next one continues it where both are of one stream.
 #[tactic(auto, using(crate::proofs::Behind::one_put, crate::proofs::Behind::two_put))]
-fn put_both(
-    pieces: &mut Vec<PlainPiece>,
-    last: PlainPiece,
-    next: PlainPiece,
-) -> Result<(), AllocError>
+fn put_both(pieces: &mut Vec<PlainPiece>, last: PlainPiece, next: PlainPiece) -> Result<(), GivenUp>
     ensures { OnOk result (runs_in pieces.new.items ≡ runs_in pieces.old.items ++ put_after next.stream next.text (last.stream, last.text) []) }
 {
     if is_of(&last, next.stream) {
@@ -61,7 +58,7 @@ fn put_both(
 
 /// Puts a piece behind the others: it continues the last one, where that is of the same stream.
 #[tactic(auto, using(crate::proofs::Behind::behind_last, crate::proofs::Behind::behind_none))]
-fn put_piece(pieces: &mut Vec<PlainPiece>, next: PlainPiece) -> Result<(), AllocError>
+fn put_piece(pieces: &mut Vec<PlainPiece>, next: PlainPiece) -> Result<(), GivenUp>
     ensures { OnOk result (runs_in pieces.new.items ≡ put_behind next.stream next.text (runs_in pieces.old.items)) }
 {
     match pieces.pop() {
@@ -75,7 +72,7 @@ fn put_piece(pieces: &mut Vec<PlainPiece>, next: PlainPiece) -> Result<(), Alloc
 
 /// Puts what was written behind the others.
 #[tactic(auto, using(crate::proofs::Behind::longest_put, crate::proofs::Behind::none_put))]
-pub(crate) fn put(pieces: &mut Vec<PlainPiece>, written: Option<Written>) -> Result<(), AllocError>
+pub(crate) fn put(pieces: &mut Vec<PlainPiece>, written: Option<Written>) -> Result<(), GivenUp>
     requires { AreLongest pieces.old.items }
     ensures longest { OnOk result (AreLongest pieces.new.items) }
     ensures bytes { OnOk result (bytes_in pieces.new.items ≡ bytes_in pieces.old.items ++ bytes_written written) }

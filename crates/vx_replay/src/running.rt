@@ -16,7 +16,7 @@ use crate::pieces::{PlainPiece, put};
 use std::alloc::{AllocError, Global};
 use vx_initial_heap::First;
 use vx_link::Program;
-use vx_list::Items;
+use vx_list::{GivenUp, Items};
 use vx_plain::{Frame, State};
 use vx_plain_start::{before_main, begin_main};
 use vx_plain_tables::Tables;
@@ -82,7 +82,7 @@ fn run(
     state: &mut State,
     limit: u64,
     pieces: &mut Vec<PlainPiece>,
-) -> Result<(End, u64), AllocError>
+) -> Result<(End, u64), GivenUp>
     requires classes { HasClassNumbers program.now }
     requires tables { AreTables program.now tables.now }
     requires none { pieces.old.items ≡ [] }
@@ -106,7 +106,7 @@ fn go_on(
     tables: &Tables,
     state: &mut State,
     limit: u64,
-) -> Result<Replay, AllocError>
+) -> Result<Replay, GivenUp>
     requires classes { HasClassNumbers program.now }
     requires tables { AreTables program.now tables.now }
     ensures { IfOk result (IsReplay (steps program.now limit (Live (fresh_progress (state_of state.old))))) }
@@ -144,7 +144,7 @@ fn run_by(
     tables: &Tables,
     state: &mut State,
     limit: u64,
-) -> Result<Replay, AllocError>
+) -> Result<Replay, GivenUp>
     requires classes { HasClassNumbers program.now }
     requires tables { AreTables program.now tables.now }
     ensures { IfOk result (IsReplay (steps program.now limit (started program.now (state_of state.old)))) }
@@ -163,7 +163,7 @@ fn run_from(
     literals: Vec<Items<u64>>,
     state: &mut State,
     limit: u64,
-) -> Result<Replay, AllocError>
+) -> Result<Replay, GivenUp>
     requires classes { HasClassNumbers program.now }
     requires short { IsShort program.now }
     requires literals { literals.items ≡ map (λ c. map (literal_object program.now c.pool) c.pool.entries) program.now.classes }
@@ -187,5 +187,5 @@ pub fn run_alone(
 {
     let first = First::of(alloc, program)?;
     let mut state = before_main(alloc, program, &first, config)?;
-    run_from(alloc, program, first.literals, &mut state, limit)
+    Ok(run_from(alloc, program, first.literals, &mut state, limit)?)
 }

@@ -9,7 +9,6 @@ use Rattle.vx_report.specs.declared.report.Report.{Report}
 use Rattle.vx_report.specs.declared.report.Piece.{Piece}
 use Rattle.vx_report.specs.declared.report.EndLine.{EndLine}
 use Rattle.vx_report.specs.declared.report.AttemptLine.{AttemptLine}
-use Rattle.vx_value.specs.Words.{word_of}
 use Rattle.vx_report.specs.Lines.{whole_line}
 use Rattle.vx_report.specs.Text.{numbered, front_lines, found_lines, report_text}
 
@@ -51,10 +50,10 @@ pub front_more : (r : Report) (o a b d : List ℕ) (options : List (List ℕ))
     → d ≡ o ++ flat_map whole_line (front_lines r)
 front_more r o a b d options e f1 f2 f3 = rw (front_text r, f3, f2, f1, e) (grind (arith, common_steps))
 
--- three and four texts, one after the other
+-- three texts, one after the other
 pub three : (o p q r a b d : List ℕ) → a ≡ o ++ p → b ≡ a ++ q → d ≡ b ++ r → d ≡ o ++ (p ++ q ++ r)
 three o p q r a b d e f g = rw (g, f, e) (grind (arith, common_steps))
 
-pub four : (o p q v w a b d x q' v' w' : List ℕ) → q' ≡ q → v' ≡ v → w' ≡ w → a ≡ o ++ p → b ≡ a ++ q' → d ≡ b ++ 32 ∷ [] ++ word_of v' → x ≡ d ++ 32 ∷ [] ++ word_of w'
-    → x ≡ o ++ (p ++ q ++ 32 ∷ [] ++ word_of v ++ 32 ∷ [] ++ word_of w)
-four o p q v w a b d x q' v' w' i j k e f g h = rw (h, g, f, e, i, j, k) (grind (arith, common_steps))
+-- two texts, and two words behind spaces
+pub two_words : (o u k v w a b d : List ℕ) → a ≡ o ++ (u ++ k) → b ≡ a ++ (32 ∷ [] ++ v) → d ≡ b ++ (32 ∷ [] ++ w) → d ≡ o ++ (u ++ k ++ 32 ∷ [] ++ v ++ 32 ∷ [] ++ w)
+two_words o u k v w a b d e f g = rw (g, f, e) (grind (arith, common_steps))

@@ -1,16 +1,18 @@
 //! Reports in their one spelling.
 
-ghost use Rattle.std.specs.Prelude.{◌≡◌, ◌++◌, ◌+◌, ◌<◌, OnOk, IfOk, map, length, codes};
+ghost use Rattle.std.specs.Prelude.{◌≡◌, ◌++◌, ◌+◌, ◌<◌, OnErr, OnOk, IfOk, map, length, codes, decimal};
+ghost use Rattle.std.specs.Fmt.{signed_decimal};
 ghost use Rattle.std.specs.List.{flat_map};
 ghost use Rattle.vx_value.specs.Words.{word_of};
 ghost use Rattle.vx_report.specs.declared.line.Line.TheVariants.{Head, Count, Named, Limit, Rounds, Numbered, Printed, Ended, Spent};
-ghost use Rattle.vx_report.specs.Lines.{whole_line, kind_word, unsupported_words, end_words, stream_word};
+ghost use Rattle.vx_report.specs.Lines.{whole_line, kind_word, end_words, stream_word};
 ghost use Rattle.vx_report.specs.Text.{numbered, front_lines, found_lines, report_text};
 
 use crate::report::{AttemptLine, EndLine, Piece, Report};
 use crate::spelling::put_spelled;
 use std::alloc::{AllocError, Global};
 use vx_bdd_tools::Node;
+use vx_list::or_cut_back;
 use vx_value::{End, Name, Stream};
 use vx_words::{TEXT, WORD, put_number};
 
@@ -31,70 +33,109 @@ fn kind_of(word: u8) -> &'static [u8]
     }
 }
 
-/// Puts a space and a word.
-fn put_next_word(out: &mut Vec<u8>, bytes: &[u8]) -> Result<(), AllocError>
-    ensures { OnOk result (out.new.items ≡ out.old.items ++ codes " " ++ word_of bytes.now) }
+/// Puts a text and a word behind it. Want of memory leaves the text as it was.
+#[tactic(auto, using(std::proofs::lemmas::List::append_assoc, std::proofs::lemmas::List::take_at))]
+fn put_with_word(out: &mut Vec<u8>, front: &[u8], bytes: &[u8]) -> Result<(), AllocError>
+    ensures ok { OnOk result (out.new.items ≡ out.old.items ++ (front.now ++ word_of bytes.now)) }
+    ensures err { OnErr result (out.new.items ≡ out.old.items) }
 {
-    out.extend_from_slice(b" ")?;
-    put_spelled(out, WORD, bytes)
+    let held = out.len();
+    out.extend_from_slice(front)?;
+    or_cut_back(put_spelled(out, WORD, bytes), out, held)
 }
 
-fn put_unsupported(out: &mut Vec<u8>, word: u8, what: &Name, place: &Name) -> Result<(), AllocError>
-    ensures { OnOk result (out.new.items ≡ out.old.items ++ unsupported_words word what.now place.now) }
+/// Puts two texts. Want of memory leaves the text as it was.
+#[tactic(auto, using(std::proofs::lemmas::List::append_assoc, std::proofs::lemmas::List::take_at))]
+fn put_both(out: &mut Vec<u8>, front: &[u8], behind: &[u8]) -> Result<(), AllocError>
+    ensures ok { OnOk result (out.new.items ≡ out.old.items ++ (front.now ++ behind.now)) }
+    ensures err { OnErr result (out.new.items ≡ out.old.items) }
 {
-    out.extend_from_slice(b"unsupported ")?;
-    out.extend_from_slice(kind_of(word))?;
-    put_next_word(out, what.bytes())?;
-    put_next_word(out, place.bytes())?;
+    let held = out.len();
+    out.extend_from_slice(front)?;
+    or_cut_back(out.extend_from_slice(behind), out, held)
+}
+
+/// Puts what an unsupported end says. Want of memory leaves the text as it was.
+#[tactic(auto, using(std::proofs::lemmas::List::append_assoc, std::proofs::lemmas::List::take_at))]
+fn put_unsupported(
+    out: &mut Vec<u8>,
+    kind: &[u8],
+    what: &[u8],
+    place: &[u8],
+) -> Result<(), AllocError>
+    ensures ok { OnOk result (out.new.items ≡ out.old.items ++ (codes "unsupported " ++ kind.now ++ codes " " ++ word_of what.now ++ codes " " ++ word_of place.now)) }
+    ensures err { OnErr result (out.new.items ≡ out.old.items) }
+{
+    let held = out.len();
+    put_both(out, b"unsupported ", kind)?;
+    or_cut_back(put_with_word(out, b" ", what), out, held)?;
+    or_cut_back(put_with_word(out, b" ", place), out, held)?;
     Ok(())
 }
 
-/// Puts the words of an end.
+/// Puts `exit` and a code. Want of memory leaves the text as it was.
+#[tactic(auto, using(std::proofs::lemmas::List::append_assoc, std::proofs::lemmas::List::take_at))]
+fn put_exit(out: &mut Vec<u8>, code: i32) -> Result<(), AllocError>
+    ensures ok { OnOk result (out.new.items ≡ out.old.items ++ (codes "exit " ++ signed_decimal code)) }
+    ensures err { OnErr result (out.new.items ≡ out.old.items) }
+{
+    let held = out.len();
+    out.extend_from_slice(b"exit ")?;
+    or_cut_back(put_number(out, code), out, held)
+}
+
+/// Puts the words of an end. Want of memory leaves the text as it was.
 #[tactic(auto, unfolding(crate::specs::Lines::end_words))]
 pub fn put_end(out: &mut Vec<u8>, end: &End) -> Result<(), AllocError>
-    ensures { OnOk result (out.new.items ≡ out.old.items ++ end_words end.now) }
+    ensures ok { OnOk result (out.new.items ≡ out.old.items ++ end_words end.now) }
+    ensures err { OnErr result (out.new.items ≡ out.old.items) }
 {
     match end {
         End::Return => out.extend_from_slice(b"return"),
-        End::Exit(code) => {
-            out.extend_from_slice(b"exit ")?;
-            put_number(out, *code)
+        End::Exit(code) => put_exit(out, *code),
+        End::Uncaught(class) => put_with_word(out, b"uncaught ", class.bytes()),
+        End::Unsupported { word, what, place } => {
+            put_unsupported(out, kind_of(*word), what.bytes(), place.bytes())
         }
-        End::Uncaught(class) => {
-            out.extend_from_slice(b"uncaught ")?;
-            put_spelled(out, WORD, class.bytes())
-        }
-        End::Unsupported { word, what, place } => put_unsupported(out, *word, what, place),
-        End::Illegal(place) => {
-            out.extend_from_slice(b"illegal ")?;
-            put_spelled(out, WORD, place.bytes())
-        }
+        End::Illegal(place) => put_with_word(out, b"illegal ", place.bytes()),
         End::Unfinished => out.extend_from_slice(b"unfinished"),
     }
 }
 
-#[tactic(auto, unfolding(crate::specs::Lines::line_text, crate::specs::Lines::whole_line))]
+#[tactic(auto, using(std::proofs::lemmas::List::append_assoc, std::proofs::lemmas::List::take_at), unfolding(crate::specs::Lines::line_text, crate::specs::Lines::whole_line))]
 fn put_option(out: &mut Vec<u8>, name: &Name) -> Result<(), AllocError>
-    ensures { OnOk result (out.new.items ≡ out.old.items ++ whole_line (Named name.now)) }
+    ensures ok { OnOk result (out.new.items ≡ out.old.items ++ whole_line (Named name.now)) }
+    ensures err { OnErr result (out.new.items ≡ out.old.items) }
 {
+    let held = out.len();
     out.extend_from_slice(b"option ")?;
-    out.extend_from_slice(name.bytes())?;
-    out.extend_from_slice(b"\n")
+    or_cut_back(out.extend_from_slice(name.bytes()), out, held)?;
+    or_cut_back(out.extend_from_slice(b"\n"), out, held)
 }
 
-#[tactic(auto, unfolding(crate::specs::Lines::line_text, crate::specs::Lines::whole_line))]
-fn put_node(out: &mut Vec<u8>, id: u64, node: &Node) -> Result<(), AllocError>
-    ensures { OnOk result (out.new.items ≡ out.old.items ++ whole_line (Numbered id node.now)) }
+/// Puts a space and a number. Want of memory leaves the text as it was.
+#[tactic(auto, using(std::proofs::lemmas::List::append_assoc, std::proofs::lemmas::List::take_at))]
+fn put_next_number(out: &mut Vec<u8>, number: u64) -> Result<(), AllocError>
+    ensures ok { OnOk result (out.new.items ≡ out.old.items ++ (codes " " ++ decimal number)) }
+    ensures err { OnErr result (out.new.items ≡ out.old.items) }
 {
+    let held = out.len();
+    out.extend_from_slice(b" ")?;
+    or_cut_back(put_number(out, number), out, held)
+}
+
+#[tactic(auto, using(std::proofs::lemmas::List::append_assoc, std::proofs::lemmas::List::take_at), unfolding(crate::specs::Lines::line_text, crate::specs::Lines::whole_line))]
+fn put_node(out: &mut Vec<u8>, id: u64, node: &Node) -> Result<(), AllocError>
+    ensures ok { OnOk result (out.new.items ≡ out.old.items ++ whole_line (Numbered id node.now)) }
+    ensures err { OnErr result (out.new.items ≡ out.old.items) }
+{
+    let held = out.len();
     out.extend_from_slice(b"node ")?;
-    put_number(out, id)?;
-    out.extend_from_slice(b" ")?;
-    put_number(out, u64::from(node.option))?;
-    out.extend_from_slice(b" ")?;
-    put_number(out, node.low)?;
-    out.extend_from_slice(b" ")?;
-    put_number(out, node.high)?;
-    out.extend_from_slice(b"\n")
+    or_cut_back(put_number(out, id), out, held)?;
+    or_cut_back(put_next_number(out, u64::from(node.option)), out, held)?;
+    or_cut_back(put_next_number(out, node.low), out, held)?;
+    or_cut_back(put_next_number(out, node.high), out, held)?;
+    or_cut_back(out.extend_from_slice(b"\n"), out, held)
 }
 
 /// The word of a stream.
@@ -151,16 +192,28 @@ fn put_head(out: &mut Vec<u8>, version: u8) -> Result<(), AllocError>
     Ok(())
 }
 
-/// Puts how many options there are, and their names.
-#[tactic(auto, unfolding(crate::specs::Lines::line_text, crate::specs::Lines::whole_line))]
-pub fn put_options(out: &mut Vec<u8>, options: &[Name]) -> Result<(), AllocError>
-    ensures { OnOk result (out.new.items ≡ out.old.items ++ (whole_line (Count (length options.now)) ++ flat_map whole_line (map Named options.now))) }
+/// Puts how many options there are. Want of memory leaves the text as it was.
+#[tactic(auto, using(std::proofs::lemmas::List::append_assoc, std::proofs::lemmas::List::take_at), unfolding(crate::specs::Lines::line_text, crate::specs::Lines::whole_line))]
+fn put_count(out: &mut Vec<u8>, count: usize) -> Result<(), AllocError>
+    ensures ok { OnOk result (out.new.items ≡ out.old.items ++ whole_line (Count count)) }
+    ensures err { OnErr result (out.new.items ≡ out.old.items) }
 {
+    let held = out.len();
     out.extend_from_slice(b"options ")?;
-    put_number(out, options.len() as u64)?;
-    out.extend_from_slice(b"\n")?;
+    or_cut_back(put_number(out, count as u64), out, held)?;
+    or_cut_back(out.extend_from_slice(b"\n"), out, held)
+}
+
+/// Puts how many options there are, and their names. Want of memory leaves the text as it was.
+#[tactic(auto, using(std::proofs::lemmas::List::append_assoc, std::proofs::lemmas::List::take_at))]
+pub fn put_options(out: &mut Vec<u8>, options: &[Name]) -> Result<(), AllocError>
+    ensures ok { OnOk result (out.new.items ≡ out.old.items ++ (whole_line (Count (length options.now)) ++ flat_map whole_line (map Named options.now))) }
+    ensures err { OnErr result (out.new.items ≡ out.old.items) }
+{
+    let held = out.len();
+    put_count(out, options.len())?;
     for name in options {
-        put_option(out, name)?;
+        or_cut_back(put_option(out, name), out, held)?;
     }
     Ok(())
 }
@@ -177,12 +230,15 @@ fn put_bounds(out: &mut Vec<u8>, limit: u64, rounds: u128) -> Result<(), AllocEr
     out.extend_from_slice(b"\n")
 }
 
-/// Puts a line for each of some nodes, with their numbers from 2 on.
+/// Puts a line for each of some nodes, with their numbers from 2 on. Want of memory leaves the text as it was.
+#[tactic(auto, using(std::proofs::lemmas::List::append_assoc, std::proofs::lemmas::List::take_at))]
 pub fn put_nodes(out: &mut Vec<u8>, nodes: &[Node]) -> Result<(), AllocError>
-    ensures { OnOk result (out.new.items ≡ out.old.items ++ flat_map whole_line (numbered 2 nodes.now)) }
+    ensures ok { OnOk result (out.new.items ≡ out.old.items ++ flat_map whole_line (numbered 2 nodes.now)) }
+    ensures err { OnErr result (out.new.items ≡ out.old.items) }
 {
+    let held = out.len();
     for (place, node) in nodes.iter().enumerate() {
-        put_node(out, place as u64 + 2, node)?;
+        or_cut_back(put_node(out, place as u64 + 2, node), out, held)?;
     }
     Ok(())
 }

@@ -57,7 +57,8 @@ fn make_keys<S: Space>(groups: &[Group<S>], keys: &mut Vec<Key>) -> Result<(), A
     Ok(())
 }
 
-/// The place that a picker chooses by the keys of groups. One that is alone is chosen without its key.
+/// The place that a picker chooses by the keys of groups. One that is alone is chosen without its key. Want of memory leaves the picker as it
+/// was.
 fn place_for<S: Space, K: Picker>(
     groups: &[Group<S>],
     keys: &mut Vec<Key>,
@@ -68,6 +69,7 @@ fn place_for<S: Space, K: Picker>(
     ensures keys { AreFirstKeys keys.new.items groups.now }
     ensures in_range { IfOk result (λ place. place < length groups.now) }
     ensures first { ((list : List (List KeyPart)) (place : ℕ) → K.picks list place → IsFirstKey list place) → IfOk result (IsFirstKey (map key_of groups.now)) }
+    ensures err { OnErr result (picker.new ≡ picker.old) }
 {
     if groups.len() == 1 {
         return Ok(0);
@@ -113,12 +115,13 @@ impl<S: Space> Waiting<S> {
         self.groups.remove(place)
     }
 
-    /// The place that a picker chooses by the keys.
+    /// The place that a picker chooses by the keys. Want of memory leaves the picker as it was.
     pub fn pick<K: Picker>(&mut self, picker: &mut K) -> Result<usize, AllocError>
         requires { 0 < length self.old }
         ensures same { self.new ≡ self.old }
         ensures in_range { IfOk result (λ place. place < length self.old) }
         ensures first { ((keys : List (List KeyPart)) (place : ℕ) → K.picks keys place → IsFirstKey keys place) → IfOk result (IsFirstKey (map key_of self.old)) }
+        ensures err { OnErr result (picker.new ≡ picker.old) }
     {
         place_for(self.groups.as_slice(), &mut self.keys, picker)
     }

@@ -9,8 +9,9 @@ use crate::config::Config;
 use std::alloc::{AllocError, AllocFailed};
 use thiserror::Error;
 
-/// Want of memory in a call that may change a space, or a heap over one. Ids that were known before the call keep their sets. What was lent
-/// by `&` is unchanged, and what was lent by `&mut` beside the space is given up, unless the call says that it is as it was.
+/// Want of memory in a call that may change a space, or that gives up what it changes. Ids that were known before the call keep their sets.
+/// What was lent by `&` is unchanged, and what was lent by `&mut` beside the space (a heap, the state of a run, a table that is being filled)
+/// is given up: nothing is said of it, unless the call says that it is as it was.
 #[derive(Clone, Copy, Debug, PartialEq, Eq, Error)]
 pub enum SpaceFault {
     #[error("out of memory")]

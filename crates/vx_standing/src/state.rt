@@ -57,12 +57,13 @@ impl<S: Space> State<S> {
         self.groups.as_slice()
     }
 
-    /// The place that a picker chooses of the groups.
+    /// The place that a picker chooses of the groups. Want of memory leaves the picker as it was.
     pub fn next_place<K: Picker>(&mut self, picker: &mut K) -> Result<usize, AllocError>
         requires { 0 < length self.old.groups }
         ensures same { self.new ≡ self.old }
         ensures in_range { IfOk result (λ place. place < length self.old.groups) }
         ensures first { ((keys : List (List KeyPart)) (place : ℕ) → K.picks keys place → IsFirstKey keys place) → IfOk result (IsFirstKey (map key_of self.old.groups)) }
+        ensures err { OnErr result (picker.new ≡ picker.old) }
     {
         self.groups.pick(picker)
     }

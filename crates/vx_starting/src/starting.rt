@@ -267,7 +267,7 @@ fn pushed_group<S: Space>(
     callers: &mut Callers<S>,
     allowed: S::Id,
     chain: &[ClassId],
-) -> Result<Group<S>, AllocError>
+) -> Result<Group<S>, SpaceFault>
     requires known { IsKnown (S.sets space.now) allowed }
     requires some { 0 < main_locals program.now }
     requires for_program { IsHeapFor program.now heap.now }

@@ -4,6 +4,8 @@
 #[cfg(test)]
 mod agree;
 #[cfg(test)]
+mod compare;
+#[cfg(test)]
 mod interact;
 #[cfg(test)]
 mod reports;

@@ -11,7 +11,7 @@ ghost use Rattle.vx_standing.specs.State.{IsState, state_ids};
 ghost use Rattle.vx_turns.specs.Tending.{IsSweptState, IsTended, is_much};
 
 use std::alloc::{AllocError, Global};
-use vx_space::Space;
+use vx_space::{Space, SpaceFault};
 use vx_standing::State;
 
 /// What the last walks left, and the most that there was at any time.
@@ -67,10 +67,11 @@ impl Upkeep {
     }
 }
 
-/// Drops the callers that no group of a state has.
+/// Drops the callers that no group of a state has. Want of memory leaves the state as it was.
 pub fn sweep<S: Space>(alloc: Global, state: &mut State<S>) -> Result<(), AllocError>
     requires { StandIn state.old.tree state.old.groups }
-    ensures { OnOk result (IsSweptState state.old state.new) }
+    ensures ok { OnOk result (IsSweptState state.old state.new) }
+    ensures err { OnErr result (state.new ≡ state.old) }
 {
     state.callers.sweep(alloc, state.groups.as_slice())
 }
@@ -94,7 +95,7 @@ fn drop_callers<S: Space>(
     alloc: Global,
     state: &mut State<S>,
     upkeep: &mut Upkeep,
-) -> Result<(), AllocError>
+) -> Result<(), SpaceFault>
     requires { StandIn state.old.tree state.old.groups }
     ensures { OnOk result (IsSweptState state.old state.new) }
 {
@@ -103,15 +104,17 @@ fn drop_callers<S: Space>(
     Ok(())
 }
 
-/// A compaction in the upkeep. A sweep comes first, since the ids of callers that no group has need not be known.
+/// A compaction in the upkeep. A sweep comes first, since the ids of callers that no group has need not be known. After want of memory the
+/// space is as it was.
 fn forget_sets<S: Space>(
     alloc: Global,
     space: &mut S,
     state: &mut State<S>,
     upkeep: &mut Upkeep,
-) -> Result<(), AllocError>
+) -> Result<(), SpaceFault>
     requires { (p : Program) × IsState p (S.sets space.old) state.old.heap.allowed state.old }
-    ensures { OnOk result (IsTended (S.sets space.old) (S.sets space.new) state.old state.new) }
+    ensures ok { OnOk result (IsTended (S.sets space.old) (S.sets space.new) state.old state.new) }
+    ensures err { OnErr result (S.sets space.new ≡ S.sets space.old) }
 {
     drop_callers(alloc, state, upkeep)?;
     upkeep.held = compact(alloc, space, state)?;
@@ -119,15 +122,16 @@ fn forget_sets<S: Space>(
 }
 
 /// Tends a state between two rounds: drops callers and forgets sets where it is time to. Afterwards only the ids of the state are sure
-/// to be known. After want of memory the state is given up.
+/// to be known. After want of memory the space is as it was.
 pub fn tend<S: Space>(
     alloc: Global,
     space: &mut S,
     state: &mut State<S>,
     upkeep: &mut Upkeep,
-) -> Result<(), AllocError>
+) -> Result<(), SpaceFault>
     requires { (p : Program) × IsState p (S.sets space.old) state.old.heap.allowed state.old }
-    ensures { OnOk result (IsTended (S.sets space.old) (S.sets space.new) state.old state.new) }
+    ensures ok { OnOk result (IsTended (S.sets space.old) (S.sets space.new) state.old state.new) }
+    ensures err { OnErr result (S.sets space.new ≡ S.sets space.old) }
 {
     upkeep.note(space, state);
     if upkeep.is_compaction_due(space) {

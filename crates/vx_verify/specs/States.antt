@@ -61,6 +61,12 @@ pub record IsLater (s t : Store) : Type 0 where
   pub links : Grows s.chains.links.items t.chains.links.items
   pub store : IsStore t
 
+-- types, rows and stacks are those that were there, under the same numbers
+pub record IsUntouched (s t : Store) : Type 0 where
+  pub types : t.types.items ≡ s.types.items
+  pub pairs : t.trees.pairs.items ≡ s.trees.pairs.items
+  pub links : t.chains.links.items ≡ s.chains.links.items
+
 -- a row and a stack that a store has
 pub record IsRow (s : Store) (levels tree : ℕ) : Type 0 where
   pub is_tree : IsTree s.trees.pairs.items levels tree

@@ -1,6 +1,6 @@
 //! The rows of a method's instructions that name an entry of a pool, each made once, however often the method has the instruction.
 
-ghost use Rattle.std.specs.Prelude.{◌≡◌, IfSome, OnOk};
+ghost use Rattle.std.specs.Prelude.{◌≡◌, IfSome, OnErr, OnOk};
 ghost use Rattle.vx_java.specs.Ids.{HasClassNumbers};
 ghost use Rattle.vx_types.specs.Rows.{row_of};
 ghost use Rattle.vx_verify.specs.KnownRows.{AreKnown, operation_of};
@@ -90,7 +90,7 @@ impl KnownRows {
         self.find(program, method, naming)
     }
 
-    /// Makes the row of what an operation names.
+    /// Makes the row of what an operation names. Want of memory leaves the rows as they were.
     fn put(
         &mut self,
         alloc: Global,
@@ -102,7 +102,8 @@ impl KnownRows {
         requires classes { HasClassNumbers program.now }
         requires rows { AreKnown program.now method.0 self.old.rows.items }
         requires naming { operation_of naming ≡ operation }
-        ensures { OnOk result (AreKnown program.now method.0 self.new.rows.items) }
+        ensures ok { OnOk result (AreKnown program.now method.0 self.new.rows.items) }
+        ensures err { OnErr result (self.new.rows.items ≡ self.old.rows.items) }
     {
         let row = row_of(alloc, program, method, operation)?;
         let number = self.rows.len();
@@ -111,7 +112,7 @@ impl KnownRows {
         Ok(())
     }
 
-    /// Makes the row of an operation, where it is one that is kept and isn't known.
+    /// Makes the row of an operation, where it is one that is kept and isn't known. Want of memory leaves the rows as they were.
     pub fn make(
         &mut self,
         alloc: Global,
@@ -121,7 +122,8 @@ impl KnownRows {
     ) -> Result<(), AllocError>
         requires classes { HasClassNumbers program.now }
         requires rows { AreKnown program.now method.0 self.old.rows.items }
-        ensures { OnOk result (AreKnown program.now method.0 self.new.rows.items) }
+        ensures ok { OnOk result (AreKnown program.now method.0 self.new.rows.items) }
+        ensures err { OnErr result (self.new.rows.items ≡ self.old.rows.items) }
     {
         let Some(naming) = naming_of(operation) else {
             return Ok(());

@@ -1,6 +1,6 @@
 //! What an instruction makes of the types before it (JVMS 4.10.2.2).
 
-ghost use Rattle.std.specs.Prelude.{◌≡◌, ◌<◌, ◌≤◌, ◌^◌, ◌++◌, IfOk, IfSome, None, Some, if◌then◌else◌, length, option_map, slice_set};
+ghost use Rattle.std.specs.Prelude.{◌≡◌, ◌<◌, ◌≤◌, ◌^◌, ◌++◌, IfOk, IfSome, None, OnErr, Some, if◌then◌else◌, length, option_map, slice_set};
 ghost use Rattle.vx_java.specs.Ids.{HasClassNumbers};
 ghost use Rattle.vx_java.specs.StackForms.{lower, upper};
 ghost use Rattle.vx_java.specs.declared.operation.Sort.TheVariants as sort;
@@ -8,12 +8,13 @@ ghost use Rattle.vx_list.specs.Places.{item_or};
 ghost use Rattle.vx_types.specs.Flow.{after, component, is_of, load, load_reference, locals_with, moved, moved_from, put, store_top, taken, types_reordered, without_half, words};
 ghost use Rattle.vx_types.specs.declared.types.VerType.TheVariants as kind;
 ghost use Rattle.vx_verify.specs.Moving.{HasCut, component_on_top, kind_of};
-ghost use Rattle.vx_verify.specs.States.{AreTypes, HasLocals, HasOperands, HasStack, HasState, HasWords, IsRow, IsStack, IsStore, Stands, locals_at, operands_at, readable_width, state_at, type_at, types_at};
+ghost use Rattle.vx_verify.specs.States.{AreTypes, HasLocals, HasOperands, HasStack, HasState, HasWords, IsRow, IsStack, IsStore, IsUntouched, Stands, locals_at, operands_at, readable_width, state_at, type_at, types_at};
 
 use crate::store::{Store, TOP};
 use std::alloc::{AllocError, Global};
 use vx_java::{Shuffle, Sort};
 use vx_link::Program;
+use vx_list::GivenUp;
 use vx_type_rows::{is_of, meets};
 use vx_types::{Row, VerType, Want, element_copy};
 
@@ -67,7 +68,7 @@ pub fn local(store: &Store, frame: Frame, locals: u32, place: u32) -> u32
     store.trees.leaf(locals, frame.levels, place)
 }
 
-/// The local variables with one of another type, where the method has it.
+/// The local variables with one of another type, where the method has it. Want of memory leaves the store as it was.
 pub fn with_local(
     store: &mut Store,
     frame: Frame,
@@ -80,7 +81,8 @@ pub fn with_local(
     requires locals { frame.locals ≤ 2 ^ frame.levels }
     requires row { IsRow store.old frame.levels locals }
     requires item { item < length store.old.types.items }
-    ensures { IfOk result (λ tree. HasLocals store.old store.new frame tree (slice_set (locals_at store.old frame locals) place (type_at store.old item))) }
+    ensures ok { IfOk result (λ tree. HasLocals store.old store.new frame tree (slice_set (locals_at store.old frame locals) place (type_at store.old item))) }
+    ensures err { OnErr result (IsUntouched store.old store.new) }
 {
     if place >= frame.locals {
         return Ok(locals);
@@ -88,13 +90,15 @@ pub fn with_local(
     store.trees.with_leaf(locals, frame.levels, place, item)
 }
 
-/// The local variables in which the first half of a long cannot be read whose second half is overwritten.
+/// The local variables in which the first half of a long cannot be read whose second half is overwritten. Want of memory leaves the store as it
+/// was.
 fn without_half(store: &mut Store, frame: Frame, locals: u32, place: u32) -> Result<u32, AllocError>
     requires store { IsStore store.old }
     requires few { frame.levels ≤ 16 }
     requires locals { frame.locals ≤ 2 ^ frame.levels }
     requires row { IsRow store.old frame.levels locals }
-    ensures { IfOk result (λ tree. HasLocals store.old store.new frame tree (without_half (locals_at store.old frame locals) place)) }
+    ensures ok { IfOk result (λ tree. HasLocals store.old store.new frame tree (without_half (locals_at store.old frame locals) place)) }
+    ensures err { OnErr result (IsUntouched store.old store.new) }
 {
     if place == 0 {
         return Ok(locals);
@@ -113,7 +117,7 @@ fn stored(
     locals: u32,
     place: u16,
     item: u32,
-) -> Result<u32, AllocError>
+) -> Result<u32, GivenUp>
     requires store { IsStore store.old }
     requires few { frame.levels ≤ 16 }
     requires locals { frame.locals ≤ 2 ^ frame.levels }
@@ -125,7 +129,8 @@ fn stored(
     let cleared = without_half(store, frame, locals, place)?;
     let put = with_local(store, frame, cleared, place, item)?;
     if is_of(Sort::Long, store.type_at(item)) {
-        return with_local(store, frame, put, place + 1, TOP);
+        let both = with_local(store, frame, put, place + 1, TOP)?;
+        return Ok(both);
     }
     Ok(put)
 }
@@ -193,7 +198,7 @@ fn lower(form: Shuffle) -> u32
 }
 
 /// Operands, the top first, on others.
-pub fn on_top(store: &mut Store, tops: &[u32], under: u32) -> Result<u32, AllocError>
+pub fn on_top(store: &mut Store, tops: &[u32], under: u32) -> Result<u32, GivenUp>
     requires store { IsStore store.old }
     requires tops { AreTypes store.old tops.now }
     requires under { IsStack store.old under }
@@ -273,7 +278,7 @@ fn cut_off(
 }
 
 /// The lower operands of a stack form on the upper ones.
-fn swapped(store: &mut Store, tops: &[u32], under: &[u32], rest: u32) -> Result<u32, AllocError>
+fn swapped(store: &mut Store, tops: &[u32], under: &[u32], rest: u32) -> Result<u32, GivenUp>
     requires store { IsStore store.old }
     requires tops { AreTypes store.old tops.now }
     requires under { AreTypes store.old under.now }
@@ -285,7 +290,7 @@ fn swapped(store: &mut Store, tops: &[u32], under: &[u32], rest: u32) -> Result<
 }
 
 /// The upper operands of a stack form on the lower ones, and under them once more.
-fn copied(store: &mut Store, tops: &[u32], under: &[u32], rest: u32) -> Result<u32, AllocError>
+fn copied(store: &mut Store, tops: &[u32], under: &[u32], rest: u32) -> Result<u32, GivenUp>
     requires store { IsStore store.old }
     requires tops { AreTypes store.old tops.now }
     requires under { AreTypes store.old under.now }
@@ -304,7 +309,7 @@ fn reordered(
     tops: &[u32],
     under: &[u32],
     rest: u32,
-) -> Result<u32, AllocError>
+) -> Result<u32, GivenUp>
     requires store { IsStore store.old }
     requires tops { AreTypes store.old tops.now }
     requires under { AreTypes store.old under.now }
@@ -324,7 +329,7 @@ fn moved(
     store: &mut Store,
     form: Shuffle,
     operands: u32,
-) -> Result<Option<u32>, AllocError>
+) -> Result<Option<u32>, GivenUp>
     requires store { IsStore store.old }
     requires operands { IsStack store.old operands }
     ensures { IfOk result (λ made. HasOperands store.old store.new made (moved form (operands_at store.old operands))) }
@@ -354,11 +359,7 @@ fn component(alloc: Global, item: &VerType) -> Result<Option<VerType>, AllocErro
 }
 
 /// An array of references is taken, and its component is put there.
-fn load_component(
-    alloc: Global,
-    store: &mut Store,
-    operands: u32,
-) -> Result<Option<u32>, AllocError>
+fn load_component(alloc: Global, store: &mut Store, operands: u32) -> Result<Option<u32>, GivenUp>
     requires store { IsStore store.old }
     requires operands { IsStack store.old operands }
     ensures { IfOk result (λ made. HasOperands store.old store.new made (component_on_top (operands_at store.old operands))) }
@@ -377,11 +378,7 @@ fn load_component(
 }
 
 /// `aaload`: an index and an array of references are taken, and its component is put there.
-fn load_reference(
-    alloc: Global,
-    store: &mut Store,
-    operands: u32,
-) -> Result<Option<u32>, AllocError>
+fn load_reference(alloc: Global, store: &mut Store, operands: u32) -> Result<Option<u32>, GivenUp>
     requires store { IsStore store.old }
     requires operands { IsStack store.old operands }
     ensures { IfOk result (λ made. HasOperands store.old store.new made (load_reference (operands_at store.old operands))) }
@@ -402,7 +399,7 @@ fn load(
     sort: Sort,
     place: u16,
     state: State,
-) -> Result<Option<State>, AllocError>
+) -> Result<Option<State>, GivenUp>
     requires store { IsStore store.old }
     requires few { frame.levels ≤ 16 }
     requires locals { frame.locals ≤ 2 ^ frame.levels }
@@ -424,7 +421,7 @@ fn store_top(
     sort: Sort,
     place: u16,
     state: State,
-) -> Result<Option<State>, AllocError>
+) -> Result<Option<State>, GivenUp>
     requires store { IsStore store.old }
     requires few { frame.levels ≤ 16 }
     requires locals { frame.locals ≤ 2 ^ frame.levels }
@@ -447,7 +444,7 @@ fn put_given(
     store: &mut Store,
     given: &Option<VerType>,
     under: u32,
-) -> Result<u32, AllocError>
+) -> Result<u32, GivenUp>
     requires store { IsStore store.old }
     requires under { IsStack store.old under }
     ensures { IfOk result (λ stack. HasStack store.old store.new stack (put given.now (operands_at store.old under))) }
@@ -466,7 +463,7 @@ fn exchanged(
     wants: &[Want],
     given: &Option<VerType>,
     operands: u32,
-) -> Result<Option<u32>, AllocError>
+) -> Result<Option<u32>, GivenUp>
     requires classes { HasClassNumbers program.now }
     requires store { IsStore store.old }
     requires operands { IsStack store.old operands }
@@ -521,7 +518,7 @@ pub fn after(
     frame: Frame,
     row: &Row,
     state: State,
-) -> Result<Option<State>, AllocError>
+) -> Result<Option<State>, GivenUp>
     requires classes { HasClassNumbers program.now }
     requires store { IsStore store.old }
     requires few { frame.levels ≤ 16 }

@@ -14,12 +14,13 @@ ghost use Rattle.vx_verify.specs.Typing.{caught, caught_name, locals_of, receive
 use crate::rows::{Frame, State, with_local};
 use crate::store::{Store, TOP};
 use bitflags::Flags;
-use std::alloc::{AllocError, Global};
+use std::alloc::Global;
 use vx_class::Catch;
 use vx_desc::{Base, JavaType};
 use vx_java::Sort;
 use vx_java::parts::{descriptor_of_method, flags_of_method};
 use vx_link::{AccessFlags, Program};
+use vx_list::GivenUp;
 use vx_numbered::EMPTY;
 use vx_references::signature_of_method;
 use vx_type_rows::{class_name_at, current_class, is_of};
@@ -40,7 +41,7 @@ pub fn levels_of(leaves: u16) -> u32
 }
 
 /// The local variables of a float or a double, which cannot be read, behind those that are there.
-fn put_unread(numbers: &mut Vec<u32>, item: &JavaType) -> Result<(), AllocError>
+fn put_unread(numbers: &mut Vec<u32>, item: &JavaType) -> Result<(), GivenUp>
     requires { sort_of item.now ≡ None }
     ensures { OnOk result (numbers.new.items ≡ numbers.old.items ++ replicate (slots_of item.now) 0) }
 {
@@ -60,7 +61,7 @@ fn put_value(
     store: &mut Store,
     item: VerType,
     numbers: &mut Vec<u32>,
-) -> Result<(), AllocError>
+) -> Result<(), GivenUp>
     requires store { IsStore store.old }
     requires numbers { AreTypes store.old numbers.old.items }
     ensures { OnOk result (HasNumbers store.old store.new numbers.new.items (types_at store.old numbers.old.items ++ value_locals item)) }
@@ -83,7 +84,7 @@ fn put_argument(
     descriptor: &[u8],
     item: &JavaType,
     numbers: &mut Vec<u32>,
-) -> Result<(), AllocError>
+) -> Result<(), GivenUp>
     requires classes { HasClassNumbers program.now }
     requires store { IsStore store.old }
     requires numbers { AreTypes store.old numbers.old.items }
@@ -109,7 +110,7 @@ fn receiver(
     store: &mut Store,
     program: &Program,
     method: MethodId,
-) -> Result<Vec<u32>, AllocError>
+) -> Result<Vec<u32>, GivenUp>
     requires classes { HasClassNumbers program.now }
     requires store { IsStore store.old }
     ensures { IfOk result (λ numbers. HasNumbers store.old store.new numbers.items (receiver_locals program.now method.0 (has STATIC (method_at program.now method.0).flags))) }
@@ -131,7 +132,7 @@ fn put_arguments(
     descriptor: &[u8],
     items: &[JavaType],
     numbers: &mut Vec<u32>,
-) -> Result<(), AllocError>
+) -> Result<(), GivenUp>
     requires classes { HasClassNumbers program.now }
     requires store { IsStore store.old }
     requires numbers { AreTypes store.old numbers.old.items }
@@ -149,7 +150,7 @@ fn given(
     store: &mut Store,
     program: &Program,
     method: MethodId,
-) -> Result<Vec<u32>, AllocError>
+) -> Result<Vec<u32>, GivenUp>
     requires classes { HasClassNumbers program.now }
     requires store { IsStore store.old }
     ensures { IfOk result (λ numbers. HasNumbers store.old store.new numbers.items (values_given program.now method.0)) }
@@ -163,7 +164,7 @@ fn given(
 }
 
 /// These in the first local variables, as far as the method has them, and nothing in the others.
-pub fn filled(store: &mut Store, frame: Frame, numbers: &[u32]) -> Result<u32, AllocError>
+pub fn filled(store: &mut Store, frame: Frame, numbers: &[u32]) -> Result<u32, GivenUp>
     requires store { IsStore store.old }
     requires few { frame.levels ≤ 16 }
     requires locals { frame.locals ≤ 2 ^ frame.levels }
@@ -186,7 +187,7 @@ pub fn start_state(
     program: &Program,
     method: MethodId,
     frame: Frame,
-) -> Result<State, AllocError>
+) -> Result<State, GivenUp>
     requires classes { HasClassNumbers program.now }
     requires store { IsStore store.old }
     requires few { frame.levels ≤ 16 }
@@ -219,7 +220,7 @@ pub fn caught_by(
     program: &Program,
     method: MethodId,
     row: Catch,
-) -> Result<u32, AllocError>
+) -> Result<u32, GivenUp>
     requires classes { HasClassNumbers program.now }
     requires store { IsStore store.old }
     ensures { IfOk result (λ stack. HasStack store.old store.new stack (caught program.now method.0 row ∷ [])) }

@@ -1,17 +1,18 @@
 //! The types of local variables and operands at many positions: each type by a number, local variables as the leaves of trees, and operands
 //! as chains. What comes again has its number again, so that equal rows and stacks are mostly the same ones, and are compared at once.
 
-ghost use Rattle.std.specs.Prelude.{◌≡◌, ◌<◌, ◌≤◌, ◌∷◌, All, IfOk, IfSome, length};
+ghost use Rattle.std.specs.Prelude.{◌≡◌, ◌<◌, ◌≤◌, ◌∷◌, All, IfOk, IfSome, OnErr, length};
 ghost use Rattle.vx_java.specs.Ids.{HasClassNumbers};
 ghost use Rattle.vx_types.specs.Ranked.{IsRanked};
 ghost use Rattle.vx_types.specs.declared.types.VerType.TheVariants.{Ref};
 ghost use Rattle.vx_verify.specs.Joining.{AreJoined, ArePartedStacks, IsApart, IsJoined, words_with};
-ghost use Rattle.vx_verify.specs.States.{AreCommonStacks, HasStack, HasType, IsCommonNumber, IsCommonRow, IsRow, IsStack, IsStore, operands_at, type_at};
+ghost use Rattle.vx_verify.specs.States.{AreCommonStacks, HasStack, HasType, IsCommonNumber, IsCommonRow, IsRow, IsStack, IsStore, IsUntouched, operands_at, type_at};
 
 use crate::type_keys::{TypeKey, is_same_type, key_of};
 use indexmap::IndexMap;
 use std::alloc::{AllocError, Global};
 use vx_link::Program;
+use vx_list::GivenUp;
 use vx_numbered::{Chains, Trees, next_number};
 use vx_types::{ElementType, VerType, common, element_copy, fits};
 
@@ -99,10 +100,11 @@ impl Store {
         None
     }
 
-    /// A new number for a type.
+    /// A new number for a type. Want of memory leaves the store as it was.
     fn put_anew(&mut self, key: TypeKey, item: VerType) -> Result<u32, AllocError>
         requires { IsStore self.old }
-        ensures { IfOk result (λ number. HasType self.old self.new number item) }
+        ensures ok { IfOk result (λ number. HasType self.old self.new number item) }
+        ensures err { OnErr result (IsUntouched self.old self.new) }
     {
         let number = next_number(self.types.len())?;
         self.numbers.insert(key, number)?;
@@ -110,7 +112,7 @@ impl Store {
         Ok(number)
     }
 
-    /// The number of a type that names a class, which may be known. It is copied where it is not.
+    /// The number of a type that names a class, which may be known. It is copied where it is not. Want of memory leaves the store as it was.
     fn put_ref(
         &mut self,
         alloc: Global,
@@ -120,7 +122,8 @@ impl Store {
     ) -> Result<u32, AllocError>
         requires store { IsStore self.old }
         requires item { item.now ≡ Ref dimensions element.now }
-        ensures { IfOk result (λ number. HasType self.old self.new number item.now) }
+        ensures ok { IfOk result (λ number. HasType self.old self.new number item.now) }
+        ensures err { OnErr result (IsUntouched self.old self.new) }
     {
         let key = key_of(dimensions, element);
         match self.known_type(key, item) {
@@ -132,10 +135,11 @@ impl Store {
         }
     }
 
-    /// The number of a type.
+    /// The number of a type. Want of memory leaves the store as it was.
     pub fn put_type(&mut self, alloc: Global, item: &VerType) -> Result<u32, AllocError>
         requires { IsStore self.old }
-        ensures { IfOk result (λ number. HasType self.old self.new number item.now) }
+        ensures ok { IfOk result (λ number. HasType self.old self.new number item.now) }
+        ensures err { OnErr result (IsUntouched self.old self.new) }
     {
         match item {
             VerType::Top => Ok(TOP),
@@ -146,12 +150,13 @@ impl Store {
         }
     }
 
-    /// An operand on others, as a stack that may be known.
+    /// An operand on others, as a stack that may be known. Want of memory leaves the store as it was.
     pub fn pushed(&mut self, top: u32, under: u32) -> Result<u32, AllocError>
         requires store { IsStore self.old }
         requires top { top < length self.old.types.items }
         requires under { IsStack self.old under }
-        ensures { IfOk result (λ stack. HasStack self.old self.new stack (type_at self.old top ∷ operands_at self.old under)) }
+        ensures ok { IfOk result (λ stack. HasStack self.old self.new stack (type_at self.old top ∷ operands_at self.old under)) }
+        ensures err { OnErr result (IsUntouched self.old self.new) }
     {
         match self.chains.known(top, under) {
             Some(stack) => Ok(stack),
@@ -164,7 +169,8 @@ impl Store {
         requires store { IsStore self.old }
         requires top { top < length self.old.types.items }
         requires under { IsStack self.old under }
-        ensures { IfOk result (λ stack. HasStack self.old self.new stack (type_at self.old top ∷ operands_at self.old under)) }
+        ensures ok { IfOk result (λ stack. HasStack self.old self.new stack (type_at self.old top ∷ operands_at self.old under)) }
+        ensures err { OnErr result (IsUntouched self.old self.new) }
     {
         let item = self.type_at(top);
         let below = self.chains.words(under);
@@ -173,18 +179,14 @@ impl Store {
     }
 
     /// An operand of a type on others.
-    pub fn pushed_type(
-        &mut self,
-        alloc: Global,
-        item: &VerType,
-        under: u32,
-    ) -> Result<u32, AllocError>
+    pub fn pushed_type(&mut self, alloc: Global, item: &VerType, under: u32) -> Result<u32, GivenUp>
         requires store { IsStore self.old }
         requires under { IsStack self.old under }
         ensures { IfOk result (λ stack. HasStack self.old self.new stack (item.now ∷ operands_at self.old under)) }
     {
         let top = self.put_type(alloc, item)?;
-        self.pushed(top, under)
+        let stack = self.pushed(top, under)?;
+        Ok(stack)
     }
 
     /// What two types have in common, by its number: that of the first where the other fits it.
@@ -194,7 +196,7 @@ impl Store {
         program: &Program,
         one: u32,
         other: u32,
-    ) -> Result<u32, AllocError>
+    ) -> Result<u32, GivenUp>
         requires classes { HasClassNumbers program.now }
         requires ranked { IsRanked program.now }
         requires store { IsStore self.old }
@@ -211,7 +213,8 @@ impl Store {
             return Ok(one);
         }
         let found = common(alloc, program, first, second)?;
-        self.put_type(alloc, &found)
+        let number = self.put_type(alloc, &found)?;
+        Ok(number)
     }
 
     /// What two rows of local variables have in common, one by one: the first itself where the other fits it.
@@ -222,7 +225,7 @@ impl Store {
         one: u32,
         other: u32,
         levels: u32,
-    ) -> Result<u32, AllocError>
+    ) -> Result<u32, GivenUp>
         requires classes { HasClassNumbers program.now }
         requires ranked { IsRanked program.now }
         requires store { IsStore self.old }
@@ -289,7 +292,7 @@ impl Store {
         program: &Program,
         both: Apart,
         merged: u32,
-    ) -> Result<u32, AllocError>
+    ) -> Result<u32, GivenUp>
         requires classes { HasClassNumbers program.now }
         requires ranked { IsRanked program.now }
         requires store { IsStore self.old }
@@ -314,7 +317,7 @@ impl Store {
         program: &Program,
         apart: &mut Vec<Apart>,
         shared: u32,
-    ) -> Result<u32, AllocError>
+    ) -> Result<u32, GivenUp>
         requires classes { HasClassNumbers program.now }
         requires ranked { IsRanked program.now }
         requires store { IsStore self.old }
@@ -337,7 +340,7 @@ impl Store {
         program: &Program,
         one: u32,
         other: u32,
-    ) -> Result<Option<u32>, AllocError>
+    ) -> Result<Option<u32>, GivenUp>
         requires classes { HasClassNumbers program.now }
         requires ranked { IsRanked program.now }
         requires store { IsStore self.old }

@@ -1,6 +1,6 @@
 //! The code of a method (JVMS 4.7.3), without attributes of its own.
 
-ghost use Rattle.std.specs.Prelude.{◌≡◌, ◌++◌, [], OnOk, IfOk};
+ghost use Rattle.std.specs.Prelude.{◌≡◌, ◌++◌, [], OnErr, OnOk, IfOk};
 ghost use Rattle.std.specs.List.{flat_map};
 ghost use Rattle.vx_class.specs.Spelling.{catch_bytes, code_bytes, attribute_bytes};
 ghost use Rattle.vx_writer.specs.Written.{code_attribute};
@@ -9,6 +9,7 @@ use crate::numbers::{put, put_count, put_length, put_u2};
 use crate::pool::least_place;
 use std::alloc::{AllocError, Global};
 use vx_class::{Catch, Code};
+use vx_list::or_cut_back;
 use vx_pool::Pool;
 
 fn put_catch(out: &mut Vec<u8>, row: &Catch) -> Result<(), AllocError>
@@ -44,7 +45,7 @@ fn content(alloc: Global, code: &Code) -> Result<Vec<u8>, AllocError>
     Ok(out)
 }
 
-/// A code attribute.
+/// A code attribute. Want of memory leaves the bytes as they were.
 #[tactic(auto, unfolding(crate::specs::Written::code_attribute))]
 pub fn put_code(
     alloc: Global,
@@ -52,10 +53,12 @@ pub fn put_code(
     pool: &Pool,
     code: &Code,
 ) -> Result<(), AllocError>
-    ensures { OnOk result (out.new.items ≡ out.old.items ++ attribute_bytes (code_attribute pool.now code.now)) }
+    ensures ok { OnOk result (out.new.items ≡ out.old.items ++ attribute_bytes (code_attribute pool.now code.now)) }
+    ensures err { OnErr result (out.new.items ≡ out.old.items) }
 {
     let content = content(alloc, code)?;
+    let held = out.len();
     put_count(out, least_place(pool, b"Code"))?;
-    put_length(out, content.len())?;
-    put(out, &content)
+    or_cut_back(put_length(out, content.len()), out, held)?;
+    or_cut_back(put(out, &content), out, held)
 }

@@ -1,6 +1,6 @@
-//! The constant pool (JVMS 4.4), and the names that attributes have in it.
+//! The constant pool (JVMS 4.4), and the names that attributes have in it. Want of memory leaves the bytes that are there as they were.
 
-ghost use Rattle.std.specs.Prelude.{◌≡◌, ◌++◌, OnOk, position};
+ghost use Rattle.std.specs.Prelude.{◌≡◌, ◌++◌, OnErr, OnOk, position};
 ghost use Rattle.std.specs.Int.{cast_unsigned};
 ghost use Rattle.std.specs.List.{flat_map};
 ghost use Rattle.byteorder.specs.Endian.{big_bytes};
@@ -10,60 +10,74 @@ ghost use Rattle.vx_writer.specs.Written.{is_text_entry, least_place};
 
 use crate::numbers::{put, put_count, put_u1, put_u2, put_u4, put_u8};
 use std::alloc::AllocError;
+use vx_list::or_cut_back;
 use vx_pool::{Entry, Pool};
 
 /// A tag and an index.
 fn put_one(out: &mut Vec<u8>, tag: u8, index: u16) -> Result<(), AllocError>
-    ensures { OnOk result (out.new.items ≡ out.old.items ++ (big_bytes 1 tag ++ u2 index)) }
+    ensures ok { OnOk result (out.new.items ≡ out.old.items ++ (big_bytes 1 tag ++ u2 index)) }
+    ensures err { OnErr result (out.new.items ≡ out.old.items) }
 {
+    let held = out.len();
     put_u1(out, tag)?;
-    put_u2(out, index)
+    or_cut_back(put_u2(out, index), out, held)
 }
 
 /// A tag and two indices.
 fn put_two(out: &mut Vec<u8>, tag: u8, first: u16, second: u16) -> Result<(), AllocError>
-    ensures { OnOk result (out.new.items ≡ out.old.items ++ (big_bytes 1 tag ++ (u2 first ++ u2 second))) }
+    ensures ok { OnOk result (out.new.items ≡ out.old.items ++ (big_bytes 1 tag ++ (u2 first ++ u2 second))) }
+    ensures err { OnErr result (out.new.items ≡ out.old.items) }
 {
+    let held = out.len();
     put_one(out, tag, first)?;
-    put_u2(out, second)
+    or_cut_back(put_u2(out, second), out, held)
 }
 
 /// A tag and a number of four bytes.
 fn put_four(out: &mut Vec<u8>, tag: u8, number: u32) -> Result<(), AllocError>
-    ensures { OnOk result (out.new.items ≡ out.old.items ++ (big_bytes 1 tag ++ big_bytes 4 number)) }
+    ensures ok { OnOk result (out.new.items ≡ out.old.items ++ (big_bytes 1 tag ++ big_bytes 4 number)) }
+    ensures err { OnErr result (out.new.items ≡ out.old.items) }
 {
+    let held = out.len();
     put_u1(out, tag)?;
-    put_u4(out, number)
+    or_cut_back(put_u4(out, number), out, held)
 }
 
 /// A tag and a number of eight bytes.
 fn put_eight(out: &mut Vec<u8>, tag: u8, number: u64) -> Result<(), AllocError>
-    ensures { OnOk result (out.new.items ≡ out.old.items ++ (big_bytes 1 tag ++ big_bytes 8 number)) }
+    ensures ok { OnOk result (out.new.items ≡ out.old.items ++ (big_bytes 1 tag ++ big_bytes 8 number)) }
+    ensures err { OnErr result (out.new.items ≡ out.old.items) }
 {
+    let held = out.len();
     put_u1(out, tag)?;
-    put_u8(out, number)
+    or_cut_back(put_u8(out, number), out, held)
 }
 
 /// A text with its length.
 fn put_text(out: &mut Vec<u8>, text: &[u8]) -> Result<(), AllocError>
-    ensures { OnOk result (out.new.items ≡ out.old.items ++ entry_bytes (Entry.Utf8 text.now)) }
+    ensures ok { OnOk result (out.new.items ≡ out.old.items ++ entry_bytes (Entry.Utf8 text.now)) }
+    ensures err { OnErr result (out.new.items ≡ out.old.items) }
 {
+    let held = out.len();
     put_u1(out, 1)?;
-    put_count(out, text.len())?;
-    put(out, text)
+    or_cut_back(put_count(out, text.len()), out, held)?;
+    or_cut_back(put(out, text), out, held)
 }
 
 /// A method handle: its kind and an index.
 fn put_handle(out: &mut Vec<u8>, kind: u8, index: u16) -> Result<(), AllocError>
-    ensures { OnOk result (out.new.items ≡ out.old.items ++ entry_bytes (Entry.MethodHandle kind index)) }
+    ensures ok { OnOk result (out.new.items ≡ out.old.items ++ entry_bytes (Entry.MethodHandle kind index)) }
+    ensures err { OnErr result (out.new.items ≡ out.old.items) }
 {
+    let held = out.len();
     put_u1(out, 15)?;
-    put_u1(out, kind)?;
-    put_u2(out, index)
+    or_cut_back(put_u1(out, kind), out, held)?;
+    or_cut_back(put_u2(out, index), out, held)
 }
 
 fn put_entry(out: &mut Vec<u8>, entry: &Entry) -> Result<(), AllocError>
-    ensures { OnOk result (out.new.items ≡ out.old.items ++ entry_bytes entry.now) }
+    ensures ok { OnOk result (out.new.items ≡ out.old.items ++ entry_bytes entry.now) }
+    ensures err { OnErr result (out.new.items ≡ out.old.items) }
 {
     match entry {
         Entry::Unusable => Ok(()),
@@ -85,21 +99,25 @@ fn put_entry(out: &mut Vec<u8>, entry: &Entry) -> Result<(), AllocError>
 }
 
 fn put_entries(out: &mut Vec<u8>, entries: &[Entry]) -> Result<(), AllocError>
-    ensures { OnOk result (out.new.items ≡ out.old.items ++ flat_map entry_bytes entries.now) }
+    ensures ok { OnOk result (out.new.items ≡ out.old.items ++ flat_map entry_bytes entries.now) }
+    ensures err { OnErr result (out.new.items ≡ out.old.items) }
 {
+    let held = out.len();
     for entry in entries {
-        put_entry(out, entry)?;
+        or_cut_back(put_entry(out, entry), out, held)?;
     }
     Ok(())
 }
 
 /// The number of places and the entries.
 pub fn put_pool(out: &mut Vec<u8>, pool: &Pool) -> Result<(), AllocError>
-    ensures { OnOk result (out.new.items ≡ out.old.items ++ pool_bytes pool.now) }
+    ensures ok { OnOk result (out.new.items ≡ out.old.items ++ pool_bytes pool.now) }
+    ensures err { OnErr result (out.new.items ≡ out.old.items) }
 {
     let entries = pool.entries.as_slice();
+    let held = out.len();
     put_count(out, entries.len())?;
-    put_entries(out, entries)
+    or_cut_back(put_entries(out, entries), out, held)
 }
 
 /// Whether an entry is this text.

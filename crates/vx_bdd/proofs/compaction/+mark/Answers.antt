@@ -13,7 +13,7 @@ returns-clause-adds t c =
       | in-Some+in_ok-mark-in-Some+in_ok-mark-in-Some-2 w ↦ rw w.marks-is (AddsBelow-parts c.args.id w.in-Some.node _ _ _ (sym w.in-Some.ensures) w.in_ok-mark-in-Some.ensures.adds w.in_ok-mark-in-Some-2.ensures.adds)
       | in-None w ↦ rw w.marks-is (AddsBelow-refl _ _ _)
     ] in
-    AddsBelow-insert c.args.id _ _ _ before c.in_ok-add.ensures
+    AddsBelow-insert c.args.id _ _ _ before c.in_ok-add.ensures.ok
 
 pub returns-clause-closed : goal.returns-clause-closed
 returns-clause-closed t c =
@@ -25,4 +25,4 @@ returns-clause-closed t c =
       | in-Some+in_ok-mark-in-Some+in_ok-mark-in-Some-2 w ↦ rw w.marks-is (parts_of_node _ c.args.id w.in-Some.node _ (sym w.in-Some.ensures) (w.in_ok-mark-in-Some-2.ensures.adds.kept _ w.in_ok-mark-in-Some.ensures.marked) w.in_ok-mark-in-Some-2.ensures.marked)
       | in-None w ↦ λ node e. cc (w.in-None.ensures, e)
     ] in
-    IsClosed-insert c.args.id _ _ before c.requires.stored parts c.in_ok-add.ensures
+    IsClosed-insert c.args.id _ _ before c.requires.stored parts c.in_ok-add.ensures.ok

@@ -57,3 +57,6 @@ returns-in-Show g c = rw (c.said-in-Show.ensures, c.in-Show.is) (product_given (
 
 pub returns-in-Check : goal.returns-in-Check
 returns-in-Check g c = rw c.in-Check.is (answer_given _ _ _ _ c.check_of.ensures.ok c.check_of.ensures.err)
+
+pub returns-in-Compare : goal.returns-in-Compare
+returns-in-Compare g c = rw c.in-Compare.is (answer_given _ _ _ _ c.compare_of.ensures.ok c.compare_of.ensures.err)

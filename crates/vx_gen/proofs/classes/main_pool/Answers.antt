@@ -8,6 +8,6 @@ pub returns : goal.returns
 returns c =
     let whole : List Entry = field_parts c.args.names.now
     ++ (signature_part (codes "main") (codes "([Ljava/lang/String;)V") ++ (fixed_parts c.args.at ++ (option_parts (c.args.at + 30) c.args.names.now ++ code_part))) in
-    let entries = five _ _ _ _ _ _ _ _ _ _ code_part whole c.in_ok-put_fields.ensures c.in_ok-put_signature.ensures c.in_ok-put_fixed.ensures c.in_ok-put_options.ensures refl refl
+    let entries = five _ _ _ _ _ _ _ _ _ _ code_part whole c.in_ok-put_fields.ensures.ok c.in_ok-put_signature.ensures.ok c.in_ok-put_fixed.ensures c.in_ok-put_options.ensures.ok refl refl
     ∙ ap (λ x. x ++ whole) c.in_ok-entries.ensures in
     c.in_ok-pool.ensures ∙ (λ i. record { entries = entries i })

@@ -5,6 +5,6 @@ use Rattle.vx_gen.proofs.classes.step_file.Goals as goal
 
 pub returns : goal.returns
 returns c =
-    let entries = c.in_ok-put_signature.ensures ∙ ap (λ x. x ++ signature_part (codes "f") (codes "(II)I")) c.in_ok-entries.ensures in
+    let entries = c.in_ok-put_signature.ensures.ok ∙ ap (λ x. x ++ signature_part (codes "f") (codes "(II)I")) c.in_ok-entries.ensures in
     filed c.file_of.ensures (in_pool c.in_ok-pool.ensures (ap (λ x. x ++ code_part) entries)) c.new.ensures.items c.new-2.ensures.items
     (alone c.in_ok-push.ensures.items c.new-methods.ensures.items) is_step

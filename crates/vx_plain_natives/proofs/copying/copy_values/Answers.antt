@@ -13,7 +13,7 @@ returns c =
     let s = state_of c.args.state.now in
     let h = here_in c.args.call.now.here.now s in
     let values = c.args.values.now in
-    let comes = rw c.in_ok-write_cells.ensures at c.copied.ensures in
+    let comes = rw c.in_ok-write_cells.ensures.ok at c.copied.ensures in
     let fits = c.fitting-count.ensures.count ∙ ap (λ class. fitting h class (values_of values)) c.class_of.ensures in
     comes_as c.copied.result _ _ _ _ (copy_there h (drop c.args.call.now.taken s.top.operands) c.args.to c.args.j values c.fitting-count.result fits c.fitting-count.ensures.within)
     (comes_from c.copied.result _ s (with_cells s c.args.to (cells_with (object_at s c.args.to).cells c.args.j (values_of (take c.fitting-count.result values)))) _ refl comes)

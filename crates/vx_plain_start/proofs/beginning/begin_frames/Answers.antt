@@ -8,7 +8,7 @@ use Rattle.vx_plain_start.proofs.beginning.begin_frames.Goals as goal
 pub returns-then-too_many : goal.returns-then-too_many
 returns-then-too_many c =
     let s = state_of c.args.state.now in
-    over c.overflow_end.result _ s _ (ap (with_room c.args.program.now s (numbers_of c.args.chain.now)) (sym c.too_many.ensures ∙ c.if-too_many.true)) c.overflow_end.ensures
+    over c.in_ok-overflow_end.field-0 _ s _ (ap (with_room c.args.program.now s (numbers_of c.args.chain.now)) (sym c.too_many.ensures ∙ c.if-too_many.true)) c.in_ok-overflow_end.ensures
 
 pub returns : goal.returns
 returns c =

@@ -5,6 +5,6 @@ use Rattle.vx_plain_throw.proofs.making.throwable.Goals as goal
 
 pub returns : goal.returns
 returns c =
-    c.in_ok-write-2.ensures
+    c.in_ok-write-2.ensures.ok
     ∙ ap (λ (o : Object). record o { cells = slice_set o.cells 1 (value_of c.args.cause) })
-    (c.in_ok-write.ensures ∙ ap (λ (o : Object). record o { cells = slice_set o.cells 0 (value_of c.args.message) }) c.in_ok-object.ensures)
+    (c.in_ok-write.ensures.ok ∙ ap (λ (o : Object). record o { cells = slice_set o.cells 0 (value_of c.args.message) }) c.in_ok-object.ensures)

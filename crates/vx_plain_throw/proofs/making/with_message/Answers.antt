@@ -1,5 +1,4 @@
 use Rattle.std.proofs.Common.{[], ap, ◌∙◌, ◌∷◌}
-use Rattle.std.proofs.lemmas.Result.{IfOk-weaker, on_ok_weaker}
 use Rattle.vx_java.specs.Machine.{Null, Ref, with_objects}
 use Rattle.vx_java.specs.Throwing.{throwable}
 use Rattle.vx_plain.specs.Views.{state_of}
@@ -13,6 +12,6 @@ returns c =
     let text = c.in_ok-text.ensures in
     let made = c.in_ok-made.ensures ∙ ap (λ place. throwable p c.args.class.0 (Ref place) Null) text.place in
     record {
-      place = IfOk-weaker c.add-2.result _ _ (λ place h. h ∙ next_behind s _ _ text.added) c.add-2.ensures.place;
-      added = on_ok_weaker c.add-2.result (λ h. two_added s (state_of c.add.new.self) _ _ _ (text.added ∙ ap (λ object. with_objects s (object ∷ [])) c.string.ensures) (h ∙ ap (λ object. with_objects (state_of c.add.new.self) (object ∷ [])) made)) c.add-2.ensures.added;
+      place = c.in_ok-add.ensures.place ∙ next_behind s _ _ text.added;
+      added = two_added s (state_of c.add.new.self) _ _ _ (text.added ∙ ap (λ object. with_objects s (object ∷ [])) c.string.ensures) (c.in_ok-add.ensures.added ∙ ap (λ object. with_objects (state_of c.add.new.self) (object ∷ [])) made);
     }

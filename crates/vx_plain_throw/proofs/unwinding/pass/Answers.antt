@@ -12,6 +12,7 @@ returns-in-Call c =
     record {
       object = ap (λ kind. passed_object p s kind c.args.object) c.in-Call.ensures;
       state = ap (λ kind. passed_state p s kind c.args.object) c.in-Call.ensures;
+      err = tt;
     }
 
 pub returns-in-Init : goal.returns-in-Init
@@ -21,6 +22,7 @@ returns-in-Init c =
     record {
       object = place_of_kind c.pass_initialisation.result p s c.args.object Init s.top.kind c.in-Init.ensures c.pass_initialisation.ensures.object;
       state = state_of_kind c.pass_initialisation.result p s (state_of c.pass_initialisation.new.state) c.args.object Init s.top.kind c.in-Init.ensures c.pass_initialisation.ensures.state;
+      err = c.pass_initialisation.ensures.err;
     }
 
 pub returns-in-Wait : goal.returns-in-Wait
@@ -30,4 +32,5 @@ returns-in-Wait c =
     record {
       object = place_of_kind c.pass_initialisation-in-Wait.result p s c.args.object Wait s.top.kind c.in-Wait.ensures c.pass_initialisation-in-Wait.ensures.object;
       state = state_of_kind c.pass_initialisation-in-Wait.result p s (state_of c.pass_initialisation-in-Wait.new.state) c.args.object Wait s.top.kind c.in-Wait.ensures c.pass_initialisation-in-Wait.ensures.state;
+      err = c.pass_initialisation-in-Wait.ensures.err;
     }

@@ -7,4 +7,5 @@ pub returns : goal.returns
 returns c = record {
   object = c.in_ok-thrown.ensures.object;
   state = c.mark_one.ensures ∙ (λ i. with_inits (c.in_ok-thrown.ensures.state i) Failed (c.current_class-class.ensures i ∷ []));
+  err = tt;
 }

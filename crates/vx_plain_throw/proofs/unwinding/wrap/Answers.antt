@@ -15,6 +15,7 @@ returns-then-is_error c =
     record {
       object = ap (λ b. if b then c.args.object else next_object s) told;
       state = ap (λ b. if b then s else with_wrapper p s c.args.object) told;
+      err = tt;
     }
 
 pub returns : goal.returns
@@ -26,4 +27,5 @@ returns c =
     record {
       object = wrapped_place c.add.result p s c.args.object told c.add.ensures.place;
       state = wrapped_now c.add.result p s (state_of c.add.new.self) c.args.object _ told made c.add.ensures.added;
+      err = c.add.ensures.err;
     }

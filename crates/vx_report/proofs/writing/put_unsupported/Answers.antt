@@ -1,9 +1,11 @@
-use Rattle.std.proofs.Common.{codes}
-use Rattle.vx_report.proofs.Numbered.{four}
-use Rattle.vx_report.specs.Lines.{kind_word}
+use Rattle.std.proofs.Common.{◌∙◌, codes}
+use Rattle.vx_report.proofs.Numbered.{two_words}
 use Rattle.vx_report.proofs.writing.put_unsupported.Goals as goal
+use Rattle.vx_value.specs.Words.{word_of}
 
-pub returns : goal.returns
-returns c = four c.args.out.now.items (codes "unsupported ") (kind_word c.args.word) c.args.what.now c.args.place.now _ _ _ _ _ _ _
-    c.kind_of.ensures c.bytes.ensures c.bytes-2.ensures
-    c.in_ok-extend_from_slice.ensures.items c.in_ok-extend_from_slice-2.ensures.items c.in_ok-put_next_word.ensures c.in_ok-put_next_word-2.ensures
+pub returns-clause-ok : goal.returns-clause-ok
+returns-clause-ok c =
+    let what = rw (← c.in_ok-or_cut_back.ensures.same) at c.put_with_word.ensures.ok in
+    let place = rw (← c.in_ok-or_cut_back-2.ensures.same) at c.put_with_word-2.ensures.ok in
+    two_words c.args.out.now.items (codes "unsupported ") c.args.kind.now (word_of c.args.what.now) (word_of c.args.place.now) _ _ _
+    c.in_ok-put_both.ensures.ok (c.in_ok-or_cut_back.ensures.ok ∙ what) (c.in_ok-or_cut_back-2.ensures.ok ∙ place)

@@ -27,10 +27,10 @@ returns-clause-ok g c =
     let made = c.make_round.new.state in
     let t = tended_compacted p old compacted st.heap.allowed st c.requires.state c.in_ok-compact.ensures.compacted in
     let round = IsRoundAt-tended p old compacted new st st made c.args.which c.requires.state t c.in_ok-make_round.ensures.ok in
-    (round.0, round.1, IsRound-swept p old new st.heap.allowed st made c.sweep.new.state round.0 round.2 (tended_swept p new st.heap.allowed made c.sweep.new.state round.2.is_state c.in_ok-sweep.ensures))
+    (round.0, round.1, IsRound-swept p old new st.heap.allowed st made c.sweep.new.state round.0 round.2 (tended_swept p new st.heap.allowed made c.sweep.new.state round.2.is_state c.in_ok-sweep.ensures.ok))
 
 pub returns-clause-tree : goal.returns-clause-tree
-returns-clause-tree g c = swept_tree c.args.program.now (g.S.Space.sets c.make_round.new.space) c.args.state.now.heap.allowed c.make_round.new.state c.sweep.new.state c.in_ok-make_round.ensures.ok.2.is_state c.in_ok-sweep.ensures
+returns-clause-tree g c = swept_tree c.args.program.now (g.S.Space.sets c.make_round.new.space) c.args.state.now.heap.allowed c.make_round.new.state c.sweep.new.state c.in_ok-make_round.ensures.ok.2.is_state c.in_ok-sweep.ensures.ok
 
 pub returns-clause-based : goal.returns-clause-based
 returns-clause-based g c q =

@@ -13,8 +13,8 @@ compact-requires g c =
     state_known c.requires.0 sets allowed c.drop_callers.new.state (t.is_state c.requires.0 allowed c.requires.1)
     (swept_tree c.requires.0 sets allowed c.args.state.now c.drop_callers.new.state c.requires.1 c.in_ok-drop_callers.ensures)
 
-pub returns : goal.returns
-returns g c =
+pub returns-clause-ok : goal.returns-clause-ok
+returns-clause-ok g c =
     let old = g.S.Space.sets c.args.space.now in
     let new = g.S.Space.sets c.compact.new.space in
     let allowed = c.args.state.now.heap.allowed in

@@ -5,11 +5,11 @@ use Rattle.vx_turns.proofs.upkeep.tend.Goals as goal
 pub drop_callers-requires : goal.drop_callers-requires
 drop_callers-requires g c = state_nodes c.requires.0 (g.S.Space.sets c.args.space.now) c.args.state.now.heap.allowed c.args.state.now c.requires.1
 
-pub returns-then-is_sweep_due : goal.returns-then-is_sweep_due
-returns-then-is_sweep_due g c =
+pub returns-then-is_sweep_due-clause-ok : goal.returns-then-is_sweep_due-clause-ok
+returns-then-is_sweep_due-clause-ok g c =
     on_ok_weaker c.drop_callers.result
     (λ h. tended_swept c.requires.0 (g.S.Space.sets c.args.space.now) c.args.state.now.heap.allowed c.args.state.now c.drop_callers.new.state c.requires.1 h)
     c.drop_callers.ensures
 
-pub returns : goal.returns
-returns g c = tended_not c.requires.0 (g.S.Space.sets c.args.space.now) c.args.state.now.heap.allowed c.args.state.now c.requires.1
+pub returns-clause-ok : goal.returns-clause-ok
+returns-clause-ok g c = tended_not c.requires.0 (g.S.Space.sets c.args.space.now) c.args.state.now.heap.allowed c.args.state.now c.requires.1

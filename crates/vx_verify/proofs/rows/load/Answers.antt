@@ -17,4 +17,4 @@ returns c =
     let e : type_at s c.local-top.result ≡ item_or (locals_at s c.args.frame c.args.state.locals) c.args.place Top = rw c.from.ensures at c.local-top.ensures.value in
     rw (← e)
     (load_made s _ c.args.frame c.args.sort (type_at s c.local-top.result) c.args.state c.in_ok-operands.operands c.requires.store c.requires.state
-    (rw c.type_at.ensures at (sym c.is_of.ensures ∙ c.if-not-is_of.false)) c.in_ok-operands.ensures)
+    (rw c.type_at.ensures at (sym c.is_of.ensures ∙ c.if-not-is_of.false)) c.in_ok-operands.ensures.ok)

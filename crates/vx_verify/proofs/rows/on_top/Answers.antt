@@ -19,7 +19,7 @@ pushed-requires-clause-under c = c.loop-left.invariant.has.within
 pub loop-left-preserved : goal.loop-left-preserved
 loop-left-preserved c =
     pushed_step c.args.store.now c.loop-left.store c.pushed.new.self c.args.tops.now c.args.under c.loop-left.left c.loop-left.operands c.in_ok-operands.operands c.loop-left.invariant c.requires.tops
-    c.loop-left-test.true c.in_ok-operands.ensures
+    c.loop-left-test.true c.in_ok-operands.ensures.ok
 
 pub returns : goal.returns
 returns c = pushed_end c.args.store.now c.loop-left.store c.args.tops.now c.args.under c.loop-left.left c.loop-left.operands c.loop-left.invariant (omega arith)

@@ -6,5 +6,5 @@ pub returns : goal.returns
 returns c =
     rw (← c.self.view_is)
     (c.contains.ensures
-    ∙ is_taken-there c.self.inside.signatures c.self.inside.taken.keys c.args.name.now c.args.descriptor.now c.in_ok-key.key
+    ∙ is_taken-there c.self.inside.signatures.items c.self.inside.taken.keys c.args.name.now c.args.descriptor.now c.in_ok-key.key
     c.self.invariant c.in_ok-key.ensures.0 c.in_ok-key.ensures.1)

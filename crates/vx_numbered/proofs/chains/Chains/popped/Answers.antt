@@ -1,4 +1,4 @@
-use Rattle.std.proofs.Common.{arith, suc, sym, ◌≡◌, ◌∙◌}
+use Rattle.std.proofs.Common.{arith, suc, ◌≡◌}
 use Rattle.vx_numbered.proofs.ChainLaws.{chain_step, link_read}
 use Rattle.vx_numbered.proofs.chains.Chains.popped.Goals as goal
 

@@ -10,8 +10,8 @@ one : {X : Type 0} (P : X → Type 0) (x : X) → P x → All P (x ∷ [])
 one P x h zero d l = h
 one P x h (suc k) d l = absurd (omega arith)
 
-pub returns : goal.returns
-returns c =
+pub returns-clause-ok : goal.returns-clause-ok
+returns-clause-ok c =
     let p = c.args.program.now in
     let m = c.args.method.0 in
     let known : KnownRow = record { naming = c.args.naming; row = c.in_ok-row.row } in

@@ -95,4 +95,4 @@ returns t c =
       above = rw (c.pair-first.ensures, c.pair-second.ensures) at c.in_ok-high.ensures;
     } in
     halves_put c.args.program.now s c.common_locals.new.self c.common_locals-2.new.self _ c.args.levels c.args.one c.args.other c.in_ok-low.low c.in_ok-high.high c.in_ok-tree.tree merged
-    refl refl c.in_ok-tree.ensures
+    refl refl c.in_ok-tree.ensures.ok

@@ -1,5 +1,4 @@
 use Rattle.std.proofs.Common.{ap, sym, ◌∙◌}
-use Rattle.std.proofs.lemmas.Result.{IfOk-weaker}
 use Rattle.vx_types.specs.Fits.{fits}
 use Rattle.vx_types.specs.declared.types.VerType.{VerType}
 use Rattle.vx_verify.proofs.PutLaws.{common_fitted, common_put, common_same}
@@ -20,7 +19,5 @@ returns-then-fits c =
 
 pub returns : goal.returns
 returns c =
-    IfOk-weaker c.put_type.result _ _
-    (λ number h. common_put c.args.program.now c.args.self.now _ c.args.one c.args.other number c.in_ok-found.found
-    (rw (c.type_at-first.ensures, c.type_at-second.ensures) at c.in_ok-found.ensures) h)
-    c.put_type.ensures
+    common_put c.args.program.now c.args.self.now _ c.args.one c.args.other c.in_ok-number.number c.in_ok-found.found
+    (rw (c.type_at-first.ensures, c.type_at-second.ensures) at c.in_ok-found.ensures) c.in_ok-number.ensures.ok

@@ -13,4 +13,4 @@ returns-then-merged-both c =
 pub returns : goal.returns
 returns c =
     joined_put c.args.program.now c.args.self.now c.common_type.new.self c.pushed.new.self c.args.both c.args.merged c.in_ok-top.top c.in_ok-stack.stack c.requires.store c.requires.merged
-    c.in_ok-top.ensures c.in_ok-stack.ensures
+    c.in_ok-top.ensures c.in_ok-stack.ensures.ok

@@ -1,0 +1,9 @@
+pub mod Turns
+pub mod FirstLines
+pub mod Apart
+pub mod NamesOfBoth
+pub mod Renumbered
+pub mod SeenSets
+pub mod WideReports
+pub mod Differing
+pub mod Sided
