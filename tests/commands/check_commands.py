@@ -17,6 +17,10 @@ import tempfile
 from calls import CALLS, PARTS, READS, REFUSED, WRITES
 
 HERE = os.path.dirname(os.path.abspath(__file__))
+sys.path.insert(0, os.path.dirname(HERE))
+
+from common import assembled, called
+
 # It can be opened, and reading its first bytes fails.
 UNREADABLE = '/proc/self/mem'
 READ_FAULT, WRITE_FAULT = 3, 4
@@ -40,13 +44,11 @@ class Program:
             below = self.place(os.path.relpath(top, sources))
             os.makedirs(below, exist_ok=True)
             for name in names:
-                with open(os.path.join(below, name.replace('.jasm', '.class')), 'wb') as file:
-                    file.write(self.said(['asm', os.path.join(top, name)])[1])
+                assembled(self.varexj, os.path.join(top, name), os.path.join(below, name.replace('.jasm', '.class')))
 
     def said(self, words):
         """The status, the output and the line of a call."""
-        done = subprocess.run([self.varexj, *words], cwd=self.folder, stdin=subprocess.DEVNULL, capture_output=True)
-        return done.returncode, done.stdout, done.stderr
+        return called([self.varexj, *words], self.folder)[:3]
 
     def said_into(self, words, room, line_room):
         """The same where the output has room for so many bytes, and the line on the standard error for so many."""

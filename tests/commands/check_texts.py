@@ -6,10 +6,12 @@ The last line is `texts: N passed, M failed`.
 """
 
 import os
-import subprocess
 import sys
 import tempfile
 
+sys.path.insert(0, os.path.join(os.path.dirname(os.path.abspath(__file__)), '..'))
+
+from common import called, written
 from texts import ASSEMBLED, CLASSES, CLAUSES, LARGEST, LINES_OF_MODELS, LINES_OF_SOURCES, NEARLY_TOO_LARGE, REPORTS, SOURCES, TOO_LARGE
 
 BAD_MODEL, BAD_CLASS, BAD_REPORT, BAD_SOURCE, LARGE = 5, 7, 10, 12, 13
@@ -24,16 +26,14 @@ class Reader:
         self.put('none', b'')
 
     def put(self, path, text):
-        with open(os.path.join(self.folder, path), 'wb') as file:
-            file.write(text)
+        written(os.path.join(self.folder, path), text)
 
     def said(self, path, text, *words):
         """The status, the output and the line where a file has this text."""
         self.put(path, text)
-        done = subprocess.run([self.varexj, *words], cwd=self.folder, stdin=subprocess.DEVNULL, capture_output=True)
-        return done.returncode, done.stdout, done.stderr
+        return called([self.varexj, *words], self.folder)[:3]
 
-    def assembled(self, text):
+    def class_of(self, text):
         return self.said('source', text, 'asm', 'source')
 
     def modeled(self, text, path='model'):
@@ -52,9 +52,9 @@ def refusal(status, line):
 
 def sources(reader):
     for text, written in ASSEMBLED:
-        yield text, reader.assembled(text) == (0, written, b'')
+        yield text, reader.class_of(text) == (0, written, b'')
     for text, line, reason in [*SOURCES, *((text, 1, reason) for text, reason in LINES_OF_SOURCES)]:
-        yield text, reader.assembled(text) == refusal(BAD_SOURCE, f'bad source line {line} reason {reason}\n')
+        yield text, reader.class_of(text) == refusal(BAD_SOURCE, f'bad source line {line} reason {reason}\n')
 
 
 def models(reader):

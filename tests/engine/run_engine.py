@@ -10,26 +10,14 @@ What differs is named; the last line is `engine: N passed, M failed`.
 import glob
 import itertools
 import os
-import subprocess
 import sys
 import tempfile
 
 HERE = os.path.dirname(os.path.abspath(__file__))
-sys.path.insert(0, os.path.join(os.path.dirname(HERE), 'people'))
+sys.path[:0] = [os.path.dirname(HERE), os.path.join(os.path.dirname(HERE), 'people')]
 
 import check_people
-
-
-def called(varexj, *words):
-    return subprocess.run([varexj, *words], capture_output=True)
-
-
-def assembled(varexj, program, classes):
-    """Puts the class files of a program's sources into a folder."""
-    for source in glob.glob(os.path.join(program, '*.jasm')):
-        name = os.path.basename(source)[:-len('.jasm')]
-        with open(os.path.join(classes, name + '.class'), 'wb') as file:
-            file.write(called(varexj, 'asm', source).stdout)
+from common import assembled, called
 
 
 def said(report):
@@ -51,11 +39,12 @@ def judged(varexj, program):
     version = wanted.split('\n', 1)[0].rsplit(' ', 1)[1]
     limit = next(line.split(' ')[1] for line in wanted.splitlines() if line.startswith('limit '))
     with tempfile.TemporaryDirectory() as classes:
-        assembled(varexj, program, classes)
-        done = called(varexj, 'run', classes, os.path.join(program, 'model'), 'Main', limit, version)
-    if done.returncode != 0:
-        return f'status {done.returncode}: {done.stderr.decode()}'
-    report = done.stdout.decode('ascii')
+        for source in glob.glob(os.path.join(program, '*.jasm')):
+            assembled(varexj, source, os.path.join(classes, os.path.basename(source).replace('.jasm', '.class')))
+        done = called([varexj, 'run', classes, os.path.join(program, 'model'), 'Main', limit, version])
+    if done.status != 0:
+        return done.told()
+    report = done.out.decode('ascii')
     if os.path.exists(exact):
         return None if report == wanted else 'another text'
     return None if list(said(report)) == list(said(wanted)) else 'another output or end'

@@ -16,6 +16,7 @@ import dear_classes
 import dear_programs
 import dear_texts
 import trying
+import common
 
 GOAL = 0.3
 LEAST_BOUND = 0.5
@@ -196,11 +197,11 @@ def is_report(ended):
     return ended.status == 0 and is_whole and not ended.err
 
 
-def assembled(varexj, source):
+def class_of(varexj, source):
+    """The class file of a source that is given as text."""
     put_text('s', source)
-    made = trying.called([varexj, 'asm', 's'], '.')
-    assert made.status == 0, made.told()
-    return made.out
+    with open(common.assembled(varexj, 's', 's.class'), 'rb') as file:
+        return file.read()
 
 
 def programs(varexj):
@@ -210,9 +211,9 @@ def programs(varexj):
 
         def files(program=program):
             put_text('model', program.model)
-            put_text('f/Main.class', assembled(varexj, program.source))
+            put_text('f/Main.class', class_of(varexj, program.source))
             if program.more_classes:
-                other = assembled(varexj, 'class 0021 C000 java/lang/Object\n')
+                other = class_of(varexj, 'class 0021 C000 java/lang/Object\n')
                 for number in range(program.more_classes):
                     put_text(f'f/C{number:03}.class', other.replace(b'C000', b'C%03d' % number))
         words = ['f', 'model', 'Main', str(program.limit)]

@@ -14,6 +14,7 @@ import tempfile
 
 import dear_classes
 import trying
+import common
 
 STACK = 512 << 10
 # Bytes of address space, and the seconds of the processor in which they have to be used up.
@@ -93,9 +94,9 @@ def unequal_pairs_program(varexj, folder):
     lines += ['getstatic java/lang/System out Ljava/io/PrintStream;', 'iconst_1', 'invokevirtual java/io/PrintStream println (I)V', 'End:',
               'return', 'end', '']
     trying.write(os.path.join(folder, 's'), '\n'.join(lines).encode())
-    made = trying.called([varexj, 'asm', 's'], folder)
-    assert made.status == 0, made.told()
-    return made.out, ''.join(f'option o{i} Main o{i}\n' for i in range(OPTIONS)).encode()
+    with open(common.assembled(varexj, os.path.join(folder, 's'), os.path.join(folder, 's.class')), 'rb') as file:
+        made = file.read()
+    return made, ''.join(f'option o{i} Main o{i}\n' for i in range(OPTIONS)).encode()
 
 
 def exploding(varexj, folder):

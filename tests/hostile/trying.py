@@ -6,11 +6,14 @@ import resource
 import shutil
 import subprocess
 import sys
-import time
-from typing import NamedTuple, Optional
 
 HERE = os.path.dirname(os.path.abspath(__file__))
 CASES = os.path.join(os.path.dirname(HERE), 'cases')
+sys.path.insert(0, os.path.dirname(HERE))
+
+import common
+from common import Ended, processor_seconds
+
 SECONDS = 60
 # How much longer a call may take on a busy machine than its processor seconds say.
 BUSY = 30
@@ -18,45 +21,9 @@ BUSY = 30
 LACKING = 3
 
 
-class Ended(NamedTuple):
-    """How a call ended; its status is None where it was stopped after the time that it had."""
-
-    status: Optional[int]
-    out: bytes
-    err: bytes
-    seconds: float
-
-    def told(self):
-        """A line for a reader: the status and the first bytes of both streams."""
-        return f'status {self.status}, out {shown(self.out)}, err {shown(self.err)}'
-
-    def is_as(self, other):
-        return (self.status, self.out, self.err) == (other.status, other.out, other.err)
-
-
-def shown(data):
-    return repr(data[:80]) + (f' of {len(data)} bytes' if len(data) > 80 else '')
-
-
 def called(words, folder, seconds=SECONDS, environment=None, **more):
-    """Calls a program in a folder. What it reads is empty, unless told otherwise."""
-    more = {'stdin': subprocess.DEVNULL, 'stdout': subprocess.PIPE, 'stderr': subprocess.PIPE, **more}
-    began = time.perf_counter()
-    child = subprocess.Popen(words, cwd=folder, env={**os.environ, **(environment or {})}, **more)
-    try:
-        out, err = child.communicate(timeout=seconds)
-        status = child.returncode
-    except subprocess.TimeoutExpired:
-        child.kill()
-        out, err = child.communicate()
-        status = None
-    return Ended(status, out or b'', err or b'', time.perf_counter() - began)
-
-
-def processor_seconds():
-    """Those of all children that have ended."""
-    used = resource.getrusage(resource.RUSAGE_CHILDREN)
-    return used.ru_utime + used.ru_stime
+    """Calls a program in a folder, with a bound on its time."""
+    return common.called(words, folder, seconds, environment, **more)
 
 
 def measured(words, folder, seconds, memory=resource.RLIM_INFINITY):
@@ -113,8 +80,7 @@ def make_folders(path):
 
 def write(path, data):
     make_folders(os.path.dirname(path))
-    with open(path, 'wb') as file:
-        file.write(data)
+    common.written(path, data)
 
 
 class Tally:

@@ -9,20 +9,22 @@ at each setting what the report of the whole model says there, and to be, byte f
 `N models, M faults`."""
 import itertools
 import os
-import subprocess
 import sys
 import tempfile
 
-sys.path.insert(0, os.path.dirname(os.path.abspath(__file__)))
+HERE = os.path.dirname(os.path.abspath(__file__))
+sys.path[:0] = [HERE, os.path.dirname(HERE)]
+
+from common import called
 from joined import Report, joined
 
-CASES = os.path.join(os.path.dirname(os.path.abspath(__file__)), '..', 'cases')
+CASES = os.path.join(HERE, '..', 'cases')
 NO_CONFIGURATION = 6
 
 
 def run(program, words, folder):
-    done = subprocess.run([program, *words], cwd=folder, capture_output=True)
-    return done.returncode, done.stdout.decode('latin-1')
+    done = called([program, *words], folder)
+    return done.status, done.out.decode('latin-1')
 
 
 def parts(names):

@@ -8,13 +8,13 @@ the status is then 1.
 """
 
 import os
-import subprocess
 import sys
 
 HERE = os.path.dirname(os.path.abspath(__file__))
-sys.path.insert(0, os.path.join(os.path.dirname(HERE), 'people'))
+sys.path[:0] = [os.path.dirname(HERE), os.path.join(os.path.dirname(HERE), 'people')]
 
 import check_people
+from common import called
 
 LIMIT = '1000'
 
@@ -25,11 +25,11 @@ def without_place(end):
 
 def main(varexj):
     words = [varexj, 'run', os.path.join(HERE, 'classes'), os.path.join(HERE, 'model'), 'Main', LIMIT, '1']
-    done = subprocess.run(words, capture_output=True, text=True)
-    options, nodes, _, ends = check_people.read_report(done.stdout)
+    done = called(words)
+    options, nodes, _, ends = check_people.read_report(done.out.decode())
     with open(os.path.join(HERE, 'ends')) as file:
         wanted = dict(line.rstrip('\n').split(' ', 1) for line in file)
-    faults = 0 if done.returncode == 0 and options == list(wanted) else 1
+    faults = 0 if done.status == 0 and options == list(wanted) else 1
     for at, option in enumerate(options):
         alone = [other == at for other in range(len(options))]
         end = next(without_place(end) for node, end in ends if check_people.holds(nodes, node, alone))

@@ -9,14 +9,14 @@ number that comes of these steps; and its summary has to be the text of `load`. 
 
 import itertools
 import os
-import subprocess
 import sys
 import tempfile
 
 HERE = os.path.dirname(os.path.abspath(__file__))
-sys.path.insert(0, os.path.join(os.path.dirname(HERE), 'people'))
+sys.path[:0] = [os.path.dirname(HERE), os.path.join(os.path.dirname(HERE), 'people')]
 
 import check_people
+from common import assembled, called, written
 
 # Seeds, and numbers of options.
 WORKLOADS = [
@@ -73,9 +73,10 @@ def number_at(seed, on):
     return number
 
 
-def called(varexj, *words):
-    done = subprocess.run([varexj, *words], capture_output=True)
-    return done.stdout if done.returncode == 0 and not done.stderr else b''
+def told(varexj, *words):
+    """What a call writes, or nothing where it is refused."""
+    done = called([varexj, *words])
+    return done.out if done.status == 0 and not done.err else b''
 
 
 def report_of(varexj, seed, options, folder):
@@ -83,17 +84,12 @@ def report_of(varexj, seed, options, folder):
     classes, model = os.path.join(folder, 'classes'), os.path.join(folder, 'model')
     os.mkdir(classes)
     for name, source in (('Main', main_source(seed, options)), ('Step', STEP), ('Keep', KEEP), ('Turn', TURN)):
-        place = os.path.join(folder, name + '.jasm')
-        with open(place, 'w', encoding='ascii') as file:
-            file.write(source)
-        with open(os.path.join(classes, name + '.class'), 'wb') as file:
-            file.write(called(varexj, 'asm', place))
-    with open(model, 'w', encoding='ascii') as file:
-        file.writelines(f'option O{number} Main O{number}\n' for number in range(options))
-    return called(varexj, 'run', classes, model, 'Main', '1000000', '1').decode('ascii')
+        assembled(varexj, written(os.path.join(folder, name + '.jasm'), source), os.path.join(classes, name + '.class'))
+    written(model, ''.join(f'option O{number} Main O{number}\n' for number in range(options)))
+    return told(varexj, 'run', classes, model, 'Main', '1000000', '1').decode('ascii')
 
 
-def written(report, on):
+def printed(report, on):
     """What a report says that is written to `out` at a configuration."""
     _, nodes, _, _ = check_people.read_report(report)
     pieces = [line.split(' ', 2) for line in report.splitlines() if line.startswith('out ')]
@@ -105,7 +101,7 @@ def summary(report, seed):
     options, nodes, pieces, ends = check_people.read_report(report)
     rounds = next(line for line in report.splitlines() if line.startswith('rounds '))
     sizes = f'seed {seed}\noptions {len(options)}\n{rounds}\nnodes {len(nodes)}\npieces {len(pieces)}\nends {len(ends)}\n'
-    all_on, none = (written(report, [value] * len(options)) for value in (True, False))
+    all_on, none = (printed(report, [value] * len(options)) for value in (True, False))
     return f'varexj load 1\n{sizes}all {all_on}\nnone {none}\ndone\n'
 
 
@@ -122,9 +118,9 @@ def judged(varexj, seed, options):
     if not report:
         return 'no report'
     for on in configurations(options):
-        if written(report, on) != f'{number_at(seed, on)}\\0a':
+        if printed(report, on) != f'{number_at(seed, on)}\\0a':
             return f'another number at {on}'
-    return None if called(varexj, 'load', str(seed), str(options)) == summary(report, seed).encode() else 'another summary'
+    return None if told(varexj, 'load', str(seed), str(options)) == summary(report, seed).encode() else 'another summary'
 
 
 def main(varexj):

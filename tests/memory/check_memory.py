@@ -18,6 +18,7 @@ SOURCE = os.path.join(HERE, '..', 'hostile', 'refused.c')
 sys.path.insert(0, os.path.join(HERE, '..', 'replays'))
 
 import comparing
+from comparing import called
 
 NO_MEMORY = 1
 
@@ -30,7 +31,7 @@ class Counting:
         self.count = os.path.join(place, 'refused')
         library = os.path.join(place, 'refused.so')
         subprocess.run(['cc', '-shared', '-fPIC', '-O1', '-o', library, SOURCE], check=True)
-        self.surroundings = {**os.environ, 'LD_PRELOAD': library, 'REFUSED': self.count}
+        self.surroundings = {'LD_PRELOAD': library, 'REFUSED': self.count}
         self.calls = 0
         self.faults = []
 
@@ -38,12 +39,12 @@ class Counting:
         """The status and the output; a fault is noted where it says `no memory` and none was refused."""
         with open(self.count, 'wb') as file:
             file.write(bytes(8))
-        done = subprocess.run([self.varexj, *words], cwd=folder, env=self.surroundings, stdin=subprocess.DEVNULL, capture_output=True)
+        done = called([self.varexj, *words], folder, environment=self.surroundings)
         self.calls += 1
         with open(self.count, 'rb') as file:
-            if done.returncode == NO_MEMORY and file.read() == bytes(8):
+            if done.status == NO_MEMORY and file.read() == bytes(8):
                 self.faults.append('%s: %s says no memory, and none was refused' % (name, ' '.join((words[0], *words[5:]))))
-        return done.returncode, done.stdout
+        return done.status, done.out
 
 
 def main(varexj):

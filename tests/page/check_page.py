@@ -13,7 +13,6 @@ import importlib.util
 import json
 import os
 import random
-import subprocess
 import sys
 import tempfile
 
@@ -22,6 +21,10 @@ import reports
 
 HERE = os.path.dirname(os.path.abspath(__file__))
 TOP = os.path.dirname(os.path.dirname(HERE))
+sys.path.insert(0, os.path.dirname(HERE))
+
+from common import called
+
 ANY = reports.ANY
 CHOICES = 200
 
@@ -111,11 +114,11 @@ class Trial:
 
     def page_text(self, text):
         made = load_make().page(text)
-        done = subprocess.run([self.program, 'page', self.report_path], stdout=subprocess.PIPE, stderr=subprocess.DEVNULL) if self.program != '-' else None
-        if done is None or done.returncode == 2:
+        done = called([self.program, 'page', self.report_path]) if self.program != '-' else None
+        if done is None or done.status == 2:
             return made
-        self.check(done.returncode == 0 and done.stdout == made.encode('ascii'), 'page is not the front, the report and the back')
-        return done.stdout.decode('ascii')
+        self.check(done.status == 0 and done.out == made.encode('ascii'), 'page is not the front, the report and the back')
+        return done.out.decode('ascii')
 
     def check(self, holds, *said):
         self.tally.check(holds, self.name + ':', *said)
@@ -204,7 +207,7 @@ class Trial:
         """The end, and the bytes on each stream."""
         if self.program == '-':
             return self.report.end_at(setting), {stream: self.report.output_at(setting, stream) for stream in ('out', 'err')}
-        said = subprocess.run([self.program, 'project', self.report_path, self.report.config(setting)], stdout=subprocess.PIPE, check=True).stdout.decode('ascii')
+        said = called([self.program, 'project', self.report_path, self.report.config(setting)]).out.decode('ascii')
         lines = [line.split(' ', 1) for line in said.splitlines()]
         printed = {stream: b''.join(reports.unescaped(words) for first, words in lines if first == stream) for stream in ('out', 'err')}
         return next(words for first, words in lines if first == 'end'), printed

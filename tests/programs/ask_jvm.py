@@ -23,14 +23,8 @@ def compiled(program):
 
 
 def expected(program, folder):
-    model = program.model()
-    options, configurations = os.path.join(folder, 'options'), os.path.join(folder, 'configurations')
-    with open(options, 'w') as file:
-        file.writelines(' '.join(option) + '\n' for option in model.options if len(option) == 3)
-    with open(configurations, 'w') as file:
-        file.writelines(configuration + '\n' for configuration in model.configurations())
-    traces = os.path.join(folder, 'traces')
-    words = ['java', os.path.join(programs.HERE, 'Ask.java'), compiled(program), program.main(), options, configurations, traces]
+    model, traces = program.model(), os.path.join(folder, 'traces')
+    words = ['java', os.path.join(programs.HERE, 'Ask.java'), compiled(program), program.main(), *programs.put_settings(model.options, model.configurations(), folder), traces]
     said = subprocess.run(words, check=True, capture_output=True).stdout
     with open(traces, 'rb') as file:
         return {'expected': said, 'traces': file.read()}

@@ -9,8 +9,13 @@ import glob
 import itertools
 import os
 import re
+import sys
 
 HERE = os.path.dirname(os.path.abspath(__file__))
+sys.path.insert(0, os.path.dirname(HERE))
+
+from common import written
+
 TOP = os.path.dirname(os.path.dirname(HERE))
 FOLDERS = ('tests/programs/*', 'examples/*', 'tests/programs/*/mended', 'examples/*/mended')
 
@@ -36,6 +41,10 @@ class Program:
         names = [file.removesuffix('.java') for file in self.sources()]
         return names[0] if len(names) == 1 else 'Main'
 
+    def words(self, limit):
+        """What stands behind `run`, `replay` and `trace`, up to the limit."""
+        return [self.place('classes'), self.model_place(), self.main(), limit]
+
     def model_place(self):
         if self.changed:
             return self.changed.model_place()
@@ -52,6 +61,12 @@ def programs():
     there = [path for path in sorted(found) if os.path.isdir(os.path.join(TOP, path, 'src'))]
     # One that `prepare` made names its main class in a file; ../real has these.
     return [Program(path) for path in there if not os.path.exists(os.path.join(TOP, path, 'main'))]
+
+
+def put_settings(options, configurations, folder):
+    """The paths of two files: the options that have a field, and the configurations, as programs in Java take them that ask a Java machine."""
+    return [written(os.path.join(folder, 'options'), ''.join(' '.join(option) + '\n' for option in options if len(option) == 3)),
+            written(os.path.join(folder, 'configurations'), ''.join(configuration + '\n' for configuration in configurations))]
 
 
 class Model:

@@ -5,17 +5,13 @@
 
 import os
 import re
-import subprocess
 import sys
 import tempfile
 
 import programs
+from common import called, written
 
 LIMIT = '1000000'
-
-
-def called(varexj, *words):
-    return subprocess.run([varexj, *words], capture_output=True)
 
 
 def expected(program):
@@ -29,8 +25,8 @@ def differences(varexj, program, report):
     """The configurations in which the report says another thing than the Java machine."""
     found = []
     for configuration, text in expected(program):
-        said = called(varexj, 'project', report, configuration)
-        if said.returncode != 0 or said.stdout.decode('ascii') != text:
+        said = called([varexj, 'project', report, configuration])
+        if said.status != 0 or said.out.decode('ascii') != text:
             found.append(configuration)
     return found
 
@@ -39,13 +35,10 @@ def judged(varexj, program, folder, limit=LIMIT):
     """What is wrong with a program, or nothing."""
     if [configuration for configuration, _ in expected(program)] != list(program.model().configurations()):
         return 'expected has other configurations than the model'
-    done = called(varexj, 'run', program.place('classes'), program.model_place(), program.main(), limit, '1')
-    if done.returncode != 0:
-        return f'status {done.returncode}: {done.stderr.decode()}'
-    report = os.path.join(folder, program.name + '.report')
-    with open(report, 'wb') as file:
-        file.write(done.stdout)
-    found = differences(varexj, program, report)
+    done = called([varexj, 'run', *program.words(limit), '1'])
+    if done.status != 0:
+        return done.told()
+    found = differences(varexj, program, written(os.path.join(folder, program.name + '.report'), done.out))
     return f'differs at {" ".join(found[:4])} and {max(0, len(found) - 4)} more' if found else None
 
 

@@ -23,9 +23,8 @@ def replays_differ(varexj, program, room):
     whole = run_programs.expected(program)
     step = max(1, (len(whole) - 1) // (REPLAYED - 1))
     for configuration, text in itertools.islice(whole[::step], REPLAYED):
-        words = [program.place('classes'), program.model_place(), program.main(), LIMIT, configuration]
-        said = run_programs.called(varexj, 'replay', *words)
-        if said.returncode != 0 or not said.stdout.decode('ascii').startswith('varexj replay 1\n' + text):
+        said = run_programs.called([varexj, 'replay', *program.words(LIMIT), configuration])
+        if said.status != 0 or not said.out.decode('ascii').startswith('varexj replay 1\n' + text):
             yield configuration
 
 

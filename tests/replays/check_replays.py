@@ -16,7 +16,8 @@ import re
 import sys
 import tempfile
 
-from comparing import called, judged, programs, runs, words_of
+from comparing import LIMIT, called, judged, programs, runs
+from common import written
 
 
 def traces(program):
@@ -47,9 +48,9 @@ def traced(varexj):
     compared, different = 0, 0
     for program in programs.programs():
         for configuration, made in traces(program):
-            status, replay = called(varexj, program.folder, 'replay', *words_of(program), configuration)
+            replay = called([varexj, 'replay', *program.words(LIMIT), configuration])
             compared += 1
-            if status != 0 or not are_left(frames(replay), made):
+            if replay.status != 0 or not are_left(frames(replay.out), made):
                 different += 1
                 print(f'{program.name}: other frames at {configuration}')
     return compared, different
@@ -60,12 +61,10 @@ def main(varexj):
     with tempfile.TemporaryDirectory() as place:
         report = os.path.join(place, 'report')
         for name, folder, words in runs():
-            status, text = called(varexj, folder, 'run', *words, '2')
-            if status != 0:
+            done = called([varexj, 'run', *words, '2'], folder)
+            if done.status != 0:
                 continue
-            with open(report, 'wb') as file:
-                file.write(text)
-            compared, different = judged(varexj, folder, words, report)
+            compared, different = judged(varexj, folder, words, written(report, done.out))
             total += compared
             failed += bool(different)
             if different:

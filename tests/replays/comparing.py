@@ -3,7 +3,6 @@
 import itertools
 import os
 import re
-import subprocess
 import sys
 
 HERE = os.path.dirname(os.path.abspath(__file__))
@@ -11,20 +10,12 @@ CASES = os.path.join(HERE, '..', 'cases')
 sys.path.insert(0, os.path.join(HERE, '..', 'programs'))
 
 import programs
+from common import called
 
 MOST = 64
 TRIED = 1024
 NOT_ALLOWED = 11
 LIMIT = '1000000'
-
-
-def called(varexj, folder, *words):
-    done = subprocess.run([varexj, *words], cwd=folder, stdin=subprocess.DEVNULL, capture_output=True)
-    return done.returncode, done.stdout
-
-
-def words_of(program):
-    return [program.place('classes'), program.model_place(), program.main(), LIMIT]
 
 
 def runs():
@@ -37,7 +28,7 @@ def runs():
             if words[:1] == ['run'] and len(words) >= 5:
                 yield name, folder, words[1:5]
     for program in programs.programs():
-        yield program.name, program.folder, words_of(program)
+        yield program.name, program.folder, program.words(LIMIT)
 
 
 def options_of(report):
@@ -70,11 +61,12 @@ def judged(varexj, folder, words, report):
         options = options_of(file.read())
     compared, different = 0, []
     for configuration in configurations(options):
-        status, projection = called(varexj, folder, 'project', report, configuration)
-        also, replay = called(varexj, folder, 'replay', *words, configuration)
-        if status != also or status not in (0, NOT_ALLOWED) or (status == 0 and not agree(projection, replay)):
+        projection = called([varexj, 'project', report, configuration], folder)
+        replay = called([varexj, 'replay', *words, configuration], folder)
+        is_done = projection.status == 0
+        if projection.status != replay.status or projection.status not in (0, NOT_ALLOWED) or (is_done and not agree(projection.out, replay.out)):
             different.append(configuration)
-        compared += status == 0
+        compared += is_done
         if compared == MOST:
             break
     return compared, different

@@ -17,6 +17,7 @@ import tempfile
 import drawing
 
 from comparing import LIMIT, called, judged
+from common import written
 
 
 def compiled(place, names):
@@ -42,13 +43,10 @@ def folder_of(place, classes, name):
 def compared(varexj, folder, name):
     """How many configurations were compared, and what is wrong, if anything."""
     words = ['classes', 'model', name, LIMIT]
-    status, text = called(varexj, folder, 'run', *words, '2')
-    if status != 0:
-        return 0, f'status {status}'
-    report = os.path.join(folder, 'report')
-    with open(report, 'wb') as file:
-        file.write(text)
-    count, different = judged(varexj, folder, words, report)
+    done = called([varexj, 'run', *words, '2'], folder)
+    if done.status != 0:
+        return 0, done.told()
+    count, different = judged(varexj, folder, words, written(os.path.join(folder, 'report'), done.out))
     return count, f'differs at {" ".join(different)}' if different else None
 
 

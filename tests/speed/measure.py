@@ -11,8 +11,6 @@ time; of a whole program, those of the run in millions. A program that is refuse
 import argparse
 import os
 import re
-import resource
-import subprocess
 import sys
 import tempfile
 
@@ -22,7 +20,10 @@ HERE = os.path.dirname(os.path.abspath(__file__))
 CASES = os.path.join(HERE, '..', 'cases')
 PROGRAMS = os.path.join(HERE, '..', 'programs')
 sys.path.insert(0, PROGRAMS)
-import programs  # noqa: E402
+
+import programs
+import common
+from common import called, processor_seconds, written
 
 WIDTH = 40
 TIMES = 3
@@ -30,22 +31,16 @@ FEW = 200
 COUNTED = ('valgrind', '--tool=callgrind', '--callgrind-out-file=/dev/null')
 
 
-def processor_seconds():
-    """The seconds of a processor that calls of the program have taken so far."""
-    used = resource.getrusage(resource.RUSAGE_CHILDREN)
-    return used.ru_utime + used.ru_stime
-
-
 class Run:
     """What one run of varexj came to."""
 
     def __init__(self, varexj, classes, model, limit, under=()):
         began = processor_seconds()
-        done = subprocess.run([*under, varexj, 'run', classes, model, 'Main', str(limit), '1'], capture_output=True)
+        done = called([*under, varexj, 'run', classes, model, 'Main', str(limit), '1'])
         self.seconds = processor_seconds() - began
-        self.status = done.returncode
-        self.said = done.stderr.decode()
-        rounds = re.search(rb'^rounds (\d+)$', done.stdout, flags=re.M)
+        self.status = done.status
+        self.said = done.err.decode()
+        rounds = re.search(rb'^rounds (\d+)$', done.out, flags=re.M)
         self.rounds = int(rounds[1]) if rounds else 0
 
     def instructions(self):
@@ -59,28 +54,20 @@ def fastest(*words):
     return min((Run(*words) for _ in range(TIMES)), key=lambda run: run.seconds)
 
 
-def assembled(varexj, source, folder):
+def class_folder(varexj, source, folder):
     """The folder of a class that is assembled there."""
-    path = os.path.join(folder, 'Main.jasm')
-    with open(path, 'w') as file:
-        file.write(source)
-    made = subprocess.run([varexj, 'asm', path], capture_output=True, check=True).stdout
     classes = os.path.join(folder, 'classes')
     os.makedirs(classes, exist_ok=True)
-    with open(os.path.join(classes, 'Main.class'), 'wb') as file:
-        file.write(made)
+    common.assembled(varexj, written(os.path.join(folder, 'Main.jasm'), source), os.path.join(classes, 'Main.class'))
     return classes
 
 
 def modelled(text, folder):
-    path = os.path.join(folder, 'model')
-    with open(path, 'w') as file:
-        file.write(text)
-    return path
+    return written(os.path.join(folder, 'model'), text)
 
 
 def measured_loop(varexj, loop, is_counted, folder):
-    classes = assembled(varexj, loop.source(), folder)
+    classes = class_folder(varexj, loop.source(), folder)
     model = modelled(loop.model(), folder)
     few = FEW + 8 * loop.callers
     start = fastest(varexj, classes, model, few)
@@ -115,8 +102,8 @@ def whole_programs(varexj, folder):
     for depth in (250, 500, 1000):
         for throws in (False, True):
             name = f'16 groups {"throw through" if throws else "return from"} {depth} frames'
-            yield name, assembled(varexj, descents(depth, throws), folder), modelled(descent_model(), folder), 1000000
-    yield '10,000 appends', assembled(varexj, appends(10000), folder), modelled('', folder), 100000
+            yield name, class_folder(varexj, descents(depth, throws), folder), modelled(descent_model(), folder), 1000000
+    yield '10,000 appends', class_folder(varexj, appends(10000), folder), modelled('', folder), 100000
     for program in programs.programs():
         # The one of the walk-through, whose class has another name, is too small to measure.
         if program.main() == 'Main':

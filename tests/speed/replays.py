@@ -10,12 +10,11 @@ both. Each time is of a processor, and of a loop and of a shared run the least o
 
 import itertools
 import os
-import subprocess
 import sys
 import tempfile
 
 from loops import LOOPS
-from measure import CASES, WIDTH, assembled, modelled, processor_seconds, programs
+from measure import CASES, WIDTH, called, class_folder, modelled, processor_seconds, programs
 
 TIMES = 3
 FEW, MANY = 10000, 3000000
@@ -24,9 +23,9 @@ SAMPLE = 64
 
 def seconds(*words):
     began = processor_seconds()
-    done = subprocess.run(words, capture_output=True)
-    if done.returncode:
-        sys.exit(f'{" ".join(words)}: status {done.returncode} {done.stderr.decode().strip()}')
+    done = called(words)
+    if done.status:
+        sys.exit(f'{" ".join(words)}: {done.told()}')
     return processor_seconds() - began
 
 
@@ -35,7 +34,7 @@ def least(*words):
 
 
 def measured_loop(varexj, loop, folder):
-    words = [varexj, 'replay', assembled(varexj, loop.source(), folder), modelled(loop.model(), folder), 'Main']
+    words = [varexj, 'replay', class_folder(varexj, loop.source(), folder), modelled(loop.model(), folder), 'Main']
     spent = least(*words, str(MANY), '-') - least(*words, str(FEW), '-')
     return f'{(MANY - FEW) / spent / 1e6:8.2f} million instructions a second'
 

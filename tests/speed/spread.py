@@ -9,12 +9,15 @@ seconds of all that was called. Each join is compared with the single run: at ea
 """
 
 import os
-import resource
 import shutil
-import subprocess
 import sys
 import tempfile
 import time
+
+sys.path.insert(0, os.path.join(os.path.dirname(os.path.abspath(__file__)), '..'))
+
+import common
+from common import processor_seconds, written
 
 EXAMPLE = os.path.join(os.path.dirname(os.path.abspath(__file__)), '..', '..', 'examples', 'spread')
 LIMIT = '100000'
@@ -22,30 +25,20 @@ CHOSEN = ('3', '6')
 AT_A_TIME = (1, 2, 4)
 
 
-def processor_seconds():
-    used = resource.getrusage(resource.RUSAGE_CHILDREN)
-    return used.ru_utime + used.ru_stime
-
-
-def called(*words):
-    done = subprocess.run(words, stdin=subprocess.DEVNULL, capture_output=True)
-    if done.returncode:
-        sys.exit(f'{" ".join(words)}: status {done.returncode} {done.stderr.decode().strip()}')
-    return done.stdout
+def told(*words):
+    """What a call writes, which has to be done."""
+    done = common.called(words)
+    if done.status:
+        sys.exit(f'{" ".join(words)}: {done.told()}')
+    return done.out
 
 
 def timed(title, *words):
     """What a command wrote, once its times are told."""
     clock, spent = time.time(), processor_seconds()
-    text = called(*words)
+    text = told(*words)
     print(f'{title:30} clock {time.time() - clock:8.2f} s, processors {processor_seconds() - spent:8.2f} s', flush=True)
     return text
-
-
-def write(place, text):
-    with open(place, 'wb') as file:
-        file.write(text)
-    return place
 
 
 def rounds_of(report):
@@ -54,12 +47,12 @@ def rounds_of(report):
 
 def part_places(text):
     """Files of the parts, each what stands behind its line of comment."""
-    return [write(f'{number:05d}.model', part.split(b'\n', 1)[1]) for number, part in enumerate(text.split(b'# part ')[1:], 1)]
+    return [written(f'{number:05d}.model', part.split(b'\n', 1)[1]) for number, part in enumerate(text.split(b'# part ')[1:], 1)]
 
 
 def configurations(varexj, report):
     """All that have an end, in the words that project takes."""
-    lines = called(varexj, 'list', report, '1000000').decode().split('\n')
+    lines = told(varexj, 'list', report, '1000000').decode().split('\n')
     return [line.split(' ')[0] for line in lines[2:lines.index('done')]]
 
 
@@ -71,21 +64,21 @@ def spread(varexj, model, chosen):
         timed(f'{len(parts)} parts, {at_a_time} at a time', 'parallel', '-j', str(at_a_time), '--halt', 'now,fail=1', command, ':::', *parts)
     joined = timed('join', varexj, 'join', *(part.replace('.model', '.report') for part in parts))
     print(rounds_of(joined))
-    return write('joined', joined)
+    return written('joined', joined)
 
 
 def measured(varexj, model):
     """How many configurations differ between the single run and the joined ones."""
     report = timed('one run', varexj, 'run', 'classes', model, 'Main', LIMIT, '2')
-    single = write('single', report)
+    single = written('single', report)
     print(rounds_of(report))
-    told = {name: called(varexj, 'project', single, name) for name in configurations(varexj, single)}
+    wanted = {name: told(varexj, 'project', single, name) for name in configurations(varexj, single)}
     faults = 0
     for chosen in CHOSEN:
         joined = spread(varexj, model, chosen)
-        differ = sum(called(varexj, 'project', joined, name) != text for name, text in told.items())
-        print(f'{len(told)} configurations, {differ} of them differ')
-        faults += differ + (configurations(varexj, joined) != list(told))
+        differ = sum(told(varexj, 'project', joined, name) != text for name, text in wanted.items())
+        print(f'{len(wanted)} configurations, {differ} of them differ')
+        faults += differ + (configurations(varexj, joined) != list(wanted))
     return faults
 
 
@@ -93,7 +86,7 @@ def main(varexj):
     shutil.copytree(os.path.join(EXAMPLE, 'classes'), 'classes')
     with open(os.path.join(EXAMPLE, 'model'), 'rb') as file:
         lines = file.read().splitlines(keepends=True)
-    models = write('model', b''.join(lines)), write('free', b''.join(line for line in lines if line.startswith(b'option ')))
+    models = written('model', b''.join(lines)), written('free', b''.join(line for line in lines if line.startswith(b'option ')))
     return 1 if sum(measured(varexj, model) for model in models) else 0
 
 

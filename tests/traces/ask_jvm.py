@@ -17,6 +17,7 @@ HERE = os.path.dirname(os.path.abspath(__file__))
 sys.path.insert(0, os.path.join(HERE, '..', 'programs'))
 
 import programs
+from common import written
 
 # the messages that later releases write into exceptions which the machine raises
 FLAGS = ['-Xmx1g', '-XX:-ShowCodeDetailsInExceptionMessages']
@@ -31,18 +32,9 @@ def emptied(name):
 
 def stacks(program, folder):
     model = program.model()
-    options, configurations = os.path.join(folder, 'options'), os.path.join(folder, 'configurations')
-    with open(options, 'w') as file:
-        file.writelines(' '.join(option) + '\n' for option in model.options if len(option) == 3)
-    with open(configurations, 'w') as file:
-        file.writelines(configuration + '\n' for configuration in model.configurations())
-    words = ['java', *FLAGS, os.path.join(HERE, 'Stacks.java'), program.place('classes'), program.main(), options, configurations]
+    settings = programs.put_settings(model.options, model.configurations(), folder)
+    words = ['java', *FLAGS, os.path.join(HERE, 'Stacks.java'), program.place('classes'), program.main(), *settings]
     return subprocess.run(words, check=True, capture_output=True).stdout
-
-
-def write(place, text):
-    with open(place, 'wb') as file:
-        file.write(text)
 
 
 def main():
@@ -56,13 +48,13 @@ def main():
             if 'void main(' not in file.read():
                 continue
         said = subprocess.run(['java', *FLAGS, '-Dfile.encoding=UTF-8', '-Dsun.stderr.encoding=UTF-8', '-cp', classes, name], capture_output=True)
-        write(os.path.join(own, name), said.stderr)
+        written(os.path.join(own, name), said.stderr)
     all_of_them = emptied('stacks')
     for program in programs.programs():
         with tempfile.TemporaryDirectory() as folder:
             text = stacks(program, folder)
         if text:
-            write(os.path.join(all_of_them, program.name), text)
+            written(os.path.join(all_of_them, program.name), text)
         print(f'{program.name}: {text.count(b"config ")} configurations')
 
 

@@ -9,24 +9,19 @@ writes into what the machine raises itself, and what it appends to the names of 
 
 import os
 import re
-import subprocess
 import sys
 
 HERE = os.path.dirname(os.path.abspath(__file__))
 sys.path.insert(0, os.path.join(HERE, '..', 'programs'))
 
 import programs
+from common import called
 
 LIMIT = '1000000'
 
 # what a Java machine raises itself has messages of its own
 RAISED = ('java.lang.NullPointerException', 'java.lang.ArrayIndexOutOfBoundsException', 'java.lang.StringIndexOutOfBoundsException', 'java.lang.IndexOutOfBoundsException',
           'java.lang.ClassCastException', 'java.lang.ArrayStoreException', 'java.lang.NegativeArraySizeException', 'java.lang.NumberFormatException')
-
-
-def called(varexj, folder, *words):
-    done = subprocess.run([varexj, *words], cwd=folder, stdin=subprocess.DEVNULL, capture_output=True)
-    return done.returncode, done.stdout
 
 
 def plain(text):
@@ -44,11 +39,7 @@ def plain(text):
 def own(varexj):
     for name in sorted(os.listdir(os.path.join(HERE, 'own'))):
         with open(os.path.join(HERE, 'own', name), 'rb') as file:
-            yield name, file.read(), called(varexj, HERE, 'trace', 'classes', 'model', name, LIMIT, '-')
-
-
-def words_of(program):
-    return [program.place('classes'), program.model_place(), program.main(), LIMIT]
+            yield name, file.read(), called([varexj, 'trace', 'classes', 'model', name, LIMIT, '-'], HERE)
 
 
 def stacks(program):
@@ -64,7 +55,7 @@ def stacks(program):
 def of_programs(varexj):
     for program in programs.programs():
         for configuration, text in stacks(program):
-            yield f'{program.name} at {configuration}', text, called(varexj, program.folder, 'trace', *words_of(program), configuration)
+            yield f'{program.name} at {configuration}', text, called([varexj, 'trace', *program.words(LIMIT), configuration])
 
 
 def replayed(replay):
@@ -85,10 +76,10 @@ def other_ends(varexj):
     """Runs that are cut off: how many were compared, and how many differ."""
     compared, different = 0, 0
     for program in programs.programs():
-        words = [*words_of(program)[:3], '2000']
+        words = program.words('2000')
         for configuration in list(program.model().configurations())[:4]:
-            _, replay = called(varexj, program.folder, 'replay', *words, configuration)
-            _, trace = called(varexj, program.folder, 'trace', *words, configuration)
+            replay = called([varexj, 'replay', *words, configuration]).out
+            trace = called([varexj, 'trace', *words, configuration]).out
             if b'\nend uncaught ' in replay:
                 continue
             compared += 1
@@ -100,13 +91,13 @@ def other_ends(varexj):
 
 def main(varexj):
     compared, different = 0, 0
-    for name, expected, (status, trace) in [*own(varexj), *of_programs(varexj)]:
+    for name, expected, said in [*own(varexj), *of_programs(varexj)]:
         compared += 1
-        if status != 0 or plain(trace) != plain(expected):
+        if said.status != 0 or plain(said.out) != plain(expected):
             different += 1
             print(f'{name}: another trace')
             if different <= 3:
-                print(plain(expected) + '--\n' + plain(trace), end='')
+                print(plain(expected) + '--\n' + plain(said.out), end='')
     others, other = other_ends(varexj)
     print(f'traces: {compared} stack traces of a Java machine compared, {different} differ; {others} other ends compared with replays, {other} differ')
     return 1 if different or other or not compared or not others else 0

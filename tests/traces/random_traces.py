@@ -22,12 +22,7 @@ import check_traces
 sys.path.insert(0, os.path.join(check_traces.HERE, '..', 'replays'))
 
 import drawing
-
-
-def written(path, text):
-    with open(path, 'w', encoding='ascii') as file:
-        file.write(text)
-    return path
+from common import called, written
 
 
 def compiled(folder, name, seed):
@@ -45,8 +40,7 @@ def stacks(folder, name, classes, exits):
     settings = itertools.product([False, True], repeat=len(options))
     names = [','.join(option[0] for option, on in zip(options, setting) if on) or '-' for setting in settings]
     for asked in [[one] for one in names] if exits else [names]:
-        places = [written(os.path.join(folder, 'options'), ''.join(' '.join(option) + '\n' for option in options)),
-                  written(os.path.join(folder, 'configurations'), ''.join(one + '\n' for one in asked))]
+        places = check_traces.programs.put_settings(options, asked, folder)
         words = ['java', *FLAGS, os.path.join(check_traces.HERE, 'Stacks.java'), classes, name, *places]
         said = subprocess.run(words, check=not exits, capture_output=True).stdout
         for part in re.split(rb'^config ', said, flags=re.M)[1:]:
@@ -63,7 +57,7 @@ def compared(varexj, folder, seed):
     count, different = 0, 0
     for configuration, expected in stacks(folder, name, classes, exits):
         count += 1
-        _, trace = check_traces.called(varexj, folder, 'trace', classes, model, name, check_traces.LIMIT, configuration)
+        trace = called([varexj, 'trace', classes, model, name, check_traces.LIMIT, configuration]).out
         if check_traces.plain(trace) != expected:
             different += 1
             print(f'seed {seed} at {configuration}:\n{expected}--\n{check_traces.plain(trace)}', end='')

@@ -9,9 +9,7 @@ variables.
 
 import glob
 import os
-import resource
 import shutil
-import subprocess
 import sys
 import tempfile
 
@@ -20,6 +18,7 @@ ROOT = os.path.dirname(os.path.dirname(HERE))
 sys.path.insert(0, os.path.join(ROOT, 'tests', 'programs'))
 
 import programs
+import common
 
 MOST_SECONDS = 10
 MAIN = 'class 0021 Main java/lang/Object\nmethod 0009 main ([Ljava/lang/String;)V 0 1\nreturn\nend\n'
@@ -44,24 +43,10 @@ DEAR = {
 }
 
 
-def processor_seconds():
-    """The seconds of a processor that calls of the program have taken so far."""
-    used = resource.getrusage(resource.RUSAGE_CHILDREN)
-    return used.ru_utime + used.ru_stime
-
-
 class Judge:
     def __init__(self, varexj, folder):
         self.varexj, self.folder, self.passed, self.failed = varexj, folder, 0, 0
-        self.model = os.path.join(folder, 'model')
-        with open(self.model, 'w'):
-            pass
-
-    def assembled(self, source, path):
-        done = subprocess.run([self.varexj, 'asm', source], capture_output=True)
-        assert done.returncode == 0, (source, done.stderr)
-        with open(path, 'wb') as file:
-            file.write(done.stdout)
+        self.model = common.written(os.path.join(folder, 'model'), '')
 
     def classes(self, name):
         path = os.path.join(self.folder, name.replace('/', '-'))
@@ -69,10 +54,10 @@ class Judge:
         return path
 
     def judge(self, name, classes, expected, model=None, main='Main'):
-        start = processor_seconds()
-        done = subprocess.run([self.varexj, 'verify', classes, model or self.model, main], capture_output=True, text=True)
-        seconds = processor_seconds() - start
-        said = done.stdout.rstrip('\n') if done.returncode == 0 else f'status {done.returncode}: {done.stderr.rstrip()}'
+        start = common.processor_seconds()
+        done = common.called([self.varexj, 'verify', classes, model or self.model, main])
+        seconds = common.processor_seconds() - start
+        said = done.out.decode().rstrip('\n') if done.status == 0 else done.told()
         if said == expected and seconds < MOST_SECONDS:
             self.passed += 1
         else:
@@ -85,16 +70,14 @@ class Judge:
                 name, expected = line.rstrip('\n').split(': ', 1)
                 classes = self.classes(name)
                 for source in glob.glob(os.path.join(HERE, name, '*.jasm')):
-                    self.assembled(source, os.path.join(classes, os.path.basename(source)[:-5] + '.class'))
+                    common.assembled(self.varexj, source, os.path.join(classes, os.path.basename(source)[:-5] + '.class'))
                 self.judge(name, classes, expected)
 
     def written(self, name, source):
         """A folder with the class of a source that is given as text."""
         classes = self.classes(name)
-        path = os.path.join(self.folder, name.replace('/', '-') + '.jasm')
-        with open(path, 'w') as file:
-            file.write(source)
-        self.assembled(path, os.path.join(classes, 'Main.class'))
+        path = common.written(os.path.join(self.folder, name.replace('/', '-') + '.jasm'), source)
+        common.assembled(self.varexj, path, os.path.join(classes, 'Main.class'))
         return classes
 
     def made_by_javac(self):
