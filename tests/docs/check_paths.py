@@ -9,7 +9,8 @@ In README.md, CONTRIBUTING.md and docs/*.md each of these has to be there:
   The ending .rt or .antt may be left out, and a star stands for any letters;
 - a word in backquotes: in the crates, in crates.txt, in a script, or in a Java source of the tests, the library or `prepare`;
 - words in backquotes behind a crate and a colon: in that crate;
-- words in backquotes in the last column of a table that has crates in its first column: in one of those crates;
+- words in backquotes in the last column of a table that has crates in its first column: in one of those crates; so are those behind the
+  word Clause of an entry that begins with crates in bold, and the calls of the table of public calls;
 - the words behind a .rt file in a block of code: as functions or types of that file.
 
 What isn't there is printed, and the status is then 1.
@@ -122,7 +123,7 @@ def lacking(spans, crates, sources):
 
 
 def crate_faults(text, sources):
-    """Words behind a crate and a colon, and in the last column of a table of crates."""
+    """Words behind a crate and a colon, in the last column of a table of crates, and in entries and tables that lead to crates."""
     for crate, rest in re.findall(r'`(vx_\w+)`: ((?:`[^`\n]+`(?:, | and |; )?)+)', text):
         if crate in sources.crates:
             yield from lacking(quoted(rest), [crate], sources)
@@ -134,6 +135,15 @@ def crate_faults(text, sources):
         crates = named or (crates if not cells[0].strip() else [])
         if crates:
             yield from lacking(quoted(cells[-1]), crates, sources)
+    for head, entry in re.findall(r'(?ms)^- \*\*(`.*?)\*\*:(.*?)(?=^- |^$|\Z)', text):
+        named = [span for span in quoted(head) if span in sources.crates]
+        for clause in re.findall(r'(?ms)\*Clause:\*(.*?)(?=^ *- |\Z)', entry):
+            yield from lacking(quoted(' '.join(clause.split())), named, sources)
+    for table in re.findall(r'(?m)^\| Calls \| Crate \|\n((?:\|.*\n)+)', text):
+        for calls, where in re.findall(r'(?m)^\|(.*)\|(.*)\|$', table):
+            named = [span for span in quoted(where) if span in sources.crates]
+            if named:
+                yield from lacking(quoted(calls), named, sources)
 
 
 def block_faults(lines, sources):
