@@ -13,6 +13,8 @@ In README.md, CONTRIBUTING.md and docs/*.md each of these has to be there:
   word Clause of an entry that begins with crates in bold, and the calls of the table of public calls;
 - the words behind a .rt file in a block of code: as functions or types of that file.
 
+Each layer of crates.txt is named in docs/ARCHITECTURE.md, where they are drawn, and each crate in it; and each but the last layer is a heading of docs/PROVED.md.
+
 What isn't there is printed, and the status is then 1.
 """
 
@@ -171,15 +173,28 @@ def faults_of(document, sources):
     yield from block_faults(lines, sources)
 
 
+def layer_faults(sources):
+    """(document, what it lacks of crates.txt)"""
+    _, *layers = re.findall(r'(?m)^# ([^:\n]*)', read('crates.txt'))
+    drawn, proved = read('docs/ARCHITECTURE.md'), read('docs/PROVED.md')
+    for layer in layers:
+        if not re.search(r'\b%s\b' % layer, drawn):
+            yield 'docs/ARCHITECTURE.md', 'no layer %s' % layer
+        if layer != layers[-1] and '\n## %s\n' % layer not in proved:
+            yield 'docs/PROVED.md', 'no heading %s' % layer
+    for crate in sorted(sources.crates):
+        if '`%s`' % crate not in drawn:
+            yield 'docs/ARCHITECTURE.md', 'no crate %s' % crate
+
+
 def main():
     sources = Sources()
-    faults = 0
     documents = files_at('README.md', 'CONTRIBUTING.md', 'docs/*.md')
-    for document in sorted(documents):
-        for fault in dict.fromkeys(faults_of(document, sources)):
-            faults += 1
-            print('%s: %s' % (document, fault))
-    print('%d documents, %d faults' % (len(documents), faults))
+    faults = [(document, fault) for document in sorted(documents) for fault in dict.fromkeys(faults_of(document, sources))]
+    faults += layer_faults(sources)
+    for fault in faults:
+        print('%s: %s' % fault)
+    print('%d documents, %d faults' % (len(documents), len(faults)))
     return 1 if faults else 0
 
 
