@@ -16,7 +16,8 @@ import os
 import re
 import sys
 
-TOP = os.path.dirname(os.path.dirname(os.path.dirname(os.path.abspath(__file__))))
+from check_paths import TOP, quoted, read
+
 DOCUMENT = 'CONTRIBUTING.md'
 EVERY = 'Each of these names every operation:'
 # Functions of rows that others have too: they count only where they are defined.
@@ -32,11 +33,6 @@ INSTRUCTIONS = {
     'Calls': r'invoke(virtual|special|static|interface)',
     'Throws': r'athrow',
 }
-
-
-def read(path):
-    with open(os.path.join(TOP, path), encoding='utf-8') as file:
-        return file.read()
 
 
 def families():
@@ -109,10 +105,6 @@ def table(text, first):
         return [], []
     head, _, *rows = [cells_of(line) for line in found[0].splitlines()]
     return head, rows
-
-
-def quoted(cell):
-    return re.findall(r'`([^`]+)`', cell)
 
 
 def grid_faults(text, operations_of, functions):

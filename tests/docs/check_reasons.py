@@ -6,18 +6,13 @@ Each table of docs/FORMATS.md that begins with the columns "Reason" and "What fa
 crates/vx_reasons/src/sentences.rt, by their numbers, but for backquotes. What differs is printed, and the status is then 1.
 """
 
-import os
 import re
 import sys
 
-TOP = os.path.dirname(os.path.dirname(os.path.dirname(os.path.abspath(__file__))))
+from check_paths import read
+
 # The forms in the order of their tables.
 FORMS = ('MODEL', 'DIMACS', 'CLASS_FILE', 'SOURCE')
-
-
-def read(path):
-    with open(os.path.join(TOP, path), encoding='utf-8') as file:
-        return file.read()
 
 
 def sentences():
