@@ -1,3 +1,4 @@
+pub mod CellCounts
 pub mod ClassNumbers
 pub mod Fewer
 pub mod ElementRows

@@ -1,3 +1,6 @@
+pub mod Sizes
+pub mod Tops
+pub mod Pools
 pub mod Moving
 pub mod Storing
 pub mod Gets

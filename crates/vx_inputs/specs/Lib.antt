@@ -1,4 +1,3 @@
-pub mod Files
 pub mod Folder
 pub mod ModelFile
 pub mod Reports

@@ -10,4 +10,3 @@ pub mod Chains
 pub mod Specifics
 pub mod MemberNumbers
 pub mod OwnMembers
-pub mod InstructionSizes

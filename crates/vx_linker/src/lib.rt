@@ -16,5 +16,4 @@ mod shared_texts;
 mod whole;
 
 pub use files::Files;
-pub use judging::{has_main_method, is_option_field};
 pub use linking::{link, linkable};

@@ -1,2 +1,3 @@
+mod CellCounts
 mod GridLaws
 mod Laws

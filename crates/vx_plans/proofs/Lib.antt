@@ -1,4 +1,3 @@
 pub mod Puts
 pub mod Plans
 pub mod Told
-pub mod Linked

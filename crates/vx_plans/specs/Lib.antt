@@ -1,10 +1,8 @@
 pub mod Status
 pub mod Line
 pub mod Verdicts
-pub mod Health
 pub mod Job
 pub mod Plan
-pub mod Alike
 pub mod Answers
 pub mod Sized
 pub mod KeepsFiles

@@ -8,5 +8,3 @@ pub mod Attempting
 pub mod Rows
 pub mod Going
 pub mod Running
-pub mod Tops
-pub mod Given

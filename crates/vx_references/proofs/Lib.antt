@@ -4,5 +4,3 @@ pub mod FieldLaws
 pub mod CallLaws
 pub mod SignatureLaws
 pub mod Searches
-mod CellCounts
-pub mod ArrayNumbers

@@ -1,0 +1,14 @@
+use Rattle.std.proofs.Common.{◌∙◌}
+use Rattle.std.proofs.lemmas.Result.{IfOk-weaker}
+use Rattle.vx_space.proofs.Spaces.{Extends-trans}
+use Rattle.vx_explain.proofs.Explaining.{bounds_within, rule_same}
+use Rattle.vx_check.proofs.finding.rule_of.Goals as goal
+
+pub few_terms-requires-clause-within : goal.few_terms-requires-clause-within
+few_terms-requires-clause-within g c = bounds_within (g.S.Space.sets c.args.space.now) c.args.set c.args.scope c.in_ok-bounds.bounds.0 c.in_ok-bounds.bounds.1 c.in_ok-bounds.ensures.least c.in_ok-bounds.ensures.most
+
+pub returns-clause-extends : goal.returns-clause-extends
+returns-clause-extends g c = Extends-trans c.in_ok-bounds.ensures.extends c.few_terms.ensures.extends
+
+pub returns-clause-rule : goal.returns-clause-rule
+returns-clause-rule g c = IfOk-weaker c.few_terms.result _ _ (λ r h. h ∙ rule_same c.in_ok-bounds.ensures.extends c.args.set c.args.scope c.in_ok-bounds.bounds.0 c.in_ok-bounds.bounds.1 c.in_ok-bounds.ensures.least c.in_ok-bounds.ensures.most) c.few_terms.ensures.terms

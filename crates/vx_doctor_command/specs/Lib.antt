@@ -1,3 +1,0 @@
-pub mod Saying
-pub mod Doctor
-pub mod Stops
