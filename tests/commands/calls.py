@@ -95,8 +95,11 @@ COMMANDS_ON_REPORTS = [
     ('picture cut', 10, '', 'bad report line 6\n'),
     ('cover report', 0, 'varexj cover 1\ntry - 1 1\ntry A - 2\ndone\n', ''),
     ('cover', 2, '', 'usage\n'),
-    ('explain report', 0, 'varexj explain 1\nend return\nwhen true\nexample -\nout 1 2 0\\0a\nwhen !A\nexample -\nout 2 2 1\\0a\nwhen A\nexample A\ndone\n', ''),
+    ('explain report', 0, 'varexj explain 2\nend return\nwhen true\nexample -\nout 1 2 0\\0a\nwhen !A\nexample -\nout 2 2 1\\0a\nwhen A\nexample A\ndone\n', ''),
+    ('explain report ends', 0, 'varexj explain 2\nend return\nwhen true\nexample -\ndone\n', ''),
+    ('explain report piece', 2, '', 'usage\n'),
     ('explain cut', 10, '', 'bad report line 6\n'),
+    ('explain cut ends', 10, '', 'bad report line 6\n'),
     ('page cut', 10, '', 'bad report line 6\n'),
     ('page report A', 2, '', 'usage\n'),
     ('agree report report', 0, 'varexj agree 1\noptions 1\noption A\nagree 1\ndone\n', ''),
@@ -201,7 +204,21 @@ COMPARISONS_OF_REPORTS = [
     ('compare report', 2, '', 'usage\n'),
 ]
 
+# Behind a text that tells why `run` would refuse.
+DIAGNOSES = [
+    ('doctor a bad Main', 5, 'varexj doctor 1\nline 2: rule A &\nreason 4: the rule is no expression of ->, |, &, !, brackets and names, or nests deeper than 256\nstatus 5 bad model\n', 'bad model line 2 reason 4\n'),
+    ('doctor absent bad Main', 5, 'varexj doctor 1\nline 2: rule A &\nreason 4: the rule is no expression of ->, |, &, !, brackets and names, or nests deeper than 256\nstatus 5 bad model\n', 'bad model line 2 reason 4\n'),
+    ('doctor a none Main', 6, 'varexj doctor 1\noptions 1, rules 1, allowed 0\noption A field Main.A never\nno configuration meets all rules\nstatus 6 no configuration\n', 'no configuration\n'),
+    ('doctor b e Main', 7, 'varexj doctor 1\noptions 0, rules 0, allowed 1\nclass file 1\\201.class at byte 3\nreason 3: the file ends too early\nstatus 7 bad class\n', 'bad class 1\\201.class at 3 reason 3\n'),
+    ('doctor c e Main', 8, 'varexj doctor 1\noptions 0, rules 0, allowed 1\nclasses 3\nversion 51 3\nclass P is its own ancestor\nsuperclass Q\nstatus 8 bad link\n', 'cycle P\n'),
+    ('doctor n m Main', 8, 'varexj doctor 1\noptions 1, rules 0, allowed 2\noption A field Main.A\nclasses 1\nversion 51 1\noption A has a field that is no static one of type boolean\nfield A is not there\nclass Main has these static fields of type boolean\nstatus 8 bad link\n', 'no option A\n'),
+    ('doctor a m', 2, '', 'usage\n'),
+    ('doctor a m Main 100', 2, '', 'usage\n'),
+]
+
 ABSENT_FILES = [
+    ('doctor absent m Main', 3, '', 'read fault absent\n'),
+    ('doctor absent absent Main', 3, '', 'read fault absent\n'),
     ('count absent', 3, '', 'read fault absent\n'),
     ('page absent', 3, '', 'read fault absent\n'),
     ('cut absent A', 3, '', 'read fault absent\n'),
@@ -224,6 +241,7 @@ CALLS = {
     'cuts of models': CUTS_OF_MODELS,
     'checks of reports': CHECKS_OF_REPORTS,
     'comparisons of reports': COMPARISONS_OF_REPORTS,
+    'diagnoses': DIAGNOSES,
     'absent files': ABSENT_FILES,
 }
 
@@ -231,6 +249,7 @@ CALLS = {
 READS = [
     ('run a m Main 100 1', ['m', 'a', 'a/Main.class']),
     ('run f e Main 100 1', ['e', 'f', 'f/1.class', 'f/2.class', 'f/3.class', 'f/4.class', 'f/5.class']),
+    ('doctor a m Main', ['m', 'a', 'a/Main.class']),
     ('verify a m Main', ['m', 'a', 'a/Main.class']),
     ('replay a m Main 100 A', ['m', 'a', 'a/Main.class']),
     ('trace t m Main 100 -', ['m', 't', 't/Main.class']),
@@ -255,6 +274,7 @@ READS = [
 # Words of each command, the writing of which fails at each byte.
 WRITES = [
     'run n e Main 100 1',
+    'doctor a m Main',
     'verify a m Main',
     'replay a m Main 3 -',
     'trace t m Main 100 A',
@@ -284,6 +304,8 @@ PARTS = [
 # Words that are refused, and their statuses, which stay where the line is lost.
 REFUSED = [
     ('run', 2),
+    ('watch', 2),
+    ('watch a absent Main 100 1', 3),
     ('run a absent Main 100 1', 3),
     ('run a bad Main 100 1', 5),
     ('run a none Main 100 1', 6),

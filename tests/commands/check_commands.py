@@ -4,7 +4,7 @@
 
 `calls.py` has the calls. `files` is what they read; the classes of `sources` are assembled beside it first. Then, for each command: each file and
 folder that it reads fails in turn, a file as a link to what can be opened and not read, a folder by not being there; each write fails in turn, at
-each byte of the output; and the line of a refusal is lost. The last line is `commands: N passed, M failed`.
+each byte of the output; and the line of a refusal is lost. A folder and a class file that are too large are made here. The last line is `commands: N passed, M failed`.
 """
 
 import os
@@ -79,6 +79,18 @@ def calls(program):
             yield f'{name}: {words}', program.said(words.split(' ')) == (status, out.encode(), line.encode())
 
 
+def too_large_is_told(program):
+    """What `doctor` says of a folder of too many class files, and of a class file of too many bytes."""
+    front = 'varexj doctor 1\noptions 0, rules 0, allowed 1\n'
+    for folder, sizes, shown, room, of in (('crowd', [0] * 1025, 'crowd', 1024, 'class files'), ('giant', [1048577], '0.class', 1048576, 'bytes')):
+        os.mkdir(program.place(folder))
+        for number, size in enumerate(sizes):
+            with open(program.place(f'{folder}/{number}.class'), 'wb') as file:
+                file.truncate(size)
+        text = f'{front}{shown} has more than {room} {of}\nstatus 13 too large\n'
+        yield f'doctor {folder} e Main', program.said(['doctor', folder, 'e', 'Main']) == (13, text.encode(), f'too large {shown} {room}\n'.encode())
+
+
 class Failing:
     """A file or a folder that fails meanwhile."""
 
@@ -133,7 +145,7 @@ def main(varexj):
     passed, failed = 0, 0
     with tempfile.TemporaryDirectory() as folder:
         program = Program(varexj, folder)
-        for trial in (calls, each_read_fails_in_turn, each_write_fails_in_turn, a_line_that_is_lost_changes_no_status):
+        for trial in (calls, too_large_is_told, each_read_fails_in_turn, each_write_fails_in_turn, a_line_that_is_lost_changes_no_status):
             for name, is_well in trial(program):
                 passed, failed = passed + is_well, failed + (not is_well)
                 if not is_well:

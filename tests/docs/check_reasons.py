@@ -3,7 +3,8 @@
     python3 check_reasons.py
 
 Each table of docs/FORMATS.md that begins with the columns "Reason" and "What fails" has the sentences of one form of
-crates/vx_reasons/src/sentences.rt, by their numbers, but for backquotes. What differs is printed, and the status is then 1.
+crates/vx_reasons/src/sentences.rt, by their numbers, but for backquotes. The table of ends as unsupported has those of the last
+form, by their words. What differs is printed, and the status is then 1.
 """
 
 import re
@@ -12,7 +13,9 @@ import sys
 from check_paths import read
 
 # The forms in the order of their tables.
-FORMS = ('MODEL', 'DIMACS', 'CLASS_FILE', 'SOURCE')
+FORMS = ('MODEL', 'DIMACS', 'CLASS_FILE', 'SOURCE', 'UNSUPPORTED')
+# The words of ends as unsupported, by their numbers.
+WORDS = ('float', 'subroutine', 'dynamic', 'constant', 'native', 'class', 'field', 'method')
 
 
 def sentences():
@@ -24,12 +27,24 @@ def sentences():
     return found
 
 
-def tables():
-    """Of each table of reasons its sentences."""
-    text = read('docs/FORMATS.md')
-    for rows in re.findall(r'^\| Reason \| What fails \|.*\n\|[-|]+\n((?:\|.*\n)+)', text, re.M):
+def rows_under(head):
+    """Of each table with these two columns its rows: the first cell and the text of the second one."""
+    for rows in re.findall(r'^\| %s \|.*\n\|[-|]+\n((?:\|.*\n)+)' % head, read('docs/FORMATS.md'), re.M):
         cells = [re.split(r'(?<!\\)\|', row)[1:3] for row in rows.split('\n') if row]
-        yield {reason.strip(): said.strip().replace('`', '').replace('\\|', '|') for reason, said in cells}
+        yield [(first.strip(), said.strip().replace('`', '').replace('\\|', '|')) for first, said in cells]
+
+
+def number_of(end):
+    """The number of the word of an end as unsupported."""
+    return str(WORDS.index(end.split()[1]) + 1)
+
+
+def tables():
+    """Of each table of reasons its sentences, and then of that of ends."""
+    for rows in rows_under(r'Reason \| What fails'):
+        yield dict(rows)
+    for rows in rows_under(r'End \| What the run comes to'):
+        yield {number_of(end): said for end, said in rows}
 
 
 def main():

@@ -48,7 +48,7 @@ BOUNDS = {
     'agree: one long text': 15, 'agree: pieces of both streams': 6.5, 'picture: one long text': 7.5, 'picture: pieces of both streams': 7,
     'picture: pieces under options': 1, 'cover: one long text': 8, 'cover: pieces of both streams': 4.5, 'cover: nodes': 1.5,
     'cover: pieces under options': 9, 'explain: one long text': 8.5, 'explain: pieces of both streams': 10, 'explain: nodes': 1,
-    'explain: pieces under options': 2, 'explain: 400 pieces of one long rule': 3.5,
+    'explain: pieces under options': 2, 'explain: 400 pieces of one long rule': 3.5, 'explain: 100,000 pieces under 128 nodes': 1.5,
     'check: one long text': 8, 'check: pieces of both streams': 3.5, 'check: pieces under options': 1, 'check: 61,680 lines': 1.5,
     'check: 512 ends against 1,000 lines': 16, 'compare: one long text': 15, 'compare: pieces of both streams': 8.5, 'compare: nodes': 1,
     'compare: pieces under options': 3.5, 'compare: 4,096 ends': 3, 'compare: 4,096 ends with one': 1.5,
@@ -256,7 +256,9 @@ def covers():
 
 
 def explanations():
-    return told('explain', b'varexj explain 1\n')
+    front = b'varexj explain 2\n'
+    yield from told('explain', front)
+    yield from told_once('explain', front, '100,000 pieces under 128 nodes', lambda: dear_texts.few_nodes(100000))
 
 
 def counts():

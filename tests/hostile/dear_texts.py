@@ -207,7 +207,7 @@ def many_cubes(most, seed=1):
 
 
 def pieces_of_one_long_rule(many=400, seed=1):
-    """A report of pieces that all come under one rule of 32 terms, each of all 64 options, whose names have 64 bytes."""
+    """A report of pieces under one rule of 32 terms, each of all 64 options, whose names have 64 bytes, each behind a piece that always comes."""
     generator, numbers = random.Random(seed), {}
 
     def diagram(option):
@@ -220,7 +220,15 @@ def pieces_of_one_long_rule(many=400, seed=1):
     root = diagram(0)
     lines = ['varexj report 1', f'options {OPTIONS}', *(f'option o{number:063}' for number in range(OPTIONS)), 'limit 100', 'rounds 1']
     lines += ['node {} {} {} {}'.format(number, *parts) for parts, number in numbers.items()]
-    return '\n'.join([*lines, *[f'out {root} a', f'err {root} b'] * (many // 2), '']).encode() + END, None
+    return '\n'.join([*lines, *['out 1 a', f'err {root} b'] * many, '']).encode() + END, None
+
+
+def few_nodes(many, seed=1):
+    """A report of many pieces, one after the other under some 128 nodes over 16 options."""
+    parts_of, nodes = drawn_by_lot(16, 9, seed)
+    lines, roots = numbered(nodes[-128:], parts_of)
+    printed = [f'out {roots[place % len(roots)]} a' for place in range(many)]
+    return report_front(16) + '\n'.join([*lines, *printed, '']).encode() + END, None
 
 
 def numbered(roots, parts_of):

@@ -2,32 +2,17 @@
 
 ghost use Rattle.std.specs.Prelude.{◌≡◌};
 ghost use Rattle.vx_arith.specs.Numbers.{int_or, long_or, of_int, of_ints, of_long, of_longs, of_mixed, of_one, of_reference, of_two};
-ghost use Rattle.vx_java.specs.Jumps.{passes};
 
 use crate::jumping::{branch_by, jump_by};
 use crate::spot::Spot;
 use vx_group_states::Answer;
-use vx_java::{Operation, Test};
+use vx_java::Operation;
 use vx_numbers::{
     compare_long, int_op, long_op, long_to_int, narrow, negate_int, negate_long, shift_int,
     shift_long,
 };
 use vx_switches::{pair_jump, table_jump};
 use vx_value::Slot;
-
-/// Whether two ints pass a test.
-fn passes(test: Test, a: i32, b: i32) -> bool
-    ensures { result ≡ passes test a b }
-{
-    match test {
-        Test::Eq => a == b,
-        Test::Ne => a != b,
-        Test::Lt => a < b,
-        Test::Ge => a >= b,
-        Test::Gt => a > b,
-        Test::Le => a <= b,
-    }
-}
 
 /// What an instruction makes of an int.
 fn of_int(spot: &Spot, operation: Operation, a: i32) -> Answer
@@ -37,7 +22,7 @@ fn of_int(spot: &Spot, operation: Operation, a: i32) -> Answer
         Operation::IntNegate => Answer::Push(Slot::Int(negate_int(a))),
         Operation::IntToLong => Answer::Push(Slot::Long(i64::from(a))),
         Operation::IntNarrow(to) => Answer::Push(Slot::Int(narrow(to, a))),
-        Operation::IfInt(test, offset) => branch_by(spot, passes(test, a, 0), offset),
+        Operation::IfInt(test, offset) => branch_by(spot, test.passes(a, 0), offset),
         Operation::SwitchTable {
             fallback,
             low,
@@ -114,7 +99,7 @@ fn of_ints(spot: &Spot, by_zero: Answer, operation: Operation, a: i32, b: i32) -
     match operation {
         Operation::IntArithmetic(op) => int_or(by_zero, int_op(op, a, b)),
         Operation::IntShift(op) => Answer::Push(Slot::Int(shift_int(op, a, b))),
-        Operation::IfInts(test, offset) => branch_by(spot, passes(test, a, b), offset),
+        Operation::IfInts(test, offset) => branch_by(spot, test.passes(a, b), offset),
         _ => Answer::Illegal,
     }
 }

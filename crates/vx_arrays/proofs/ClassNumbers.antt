@@ -1,8 +1,7 @@
 -- Which numbers the classes have that names name, and the array classes over them.
-use Rattle.std.proofs.Common.{◌≡◌, ℕ, ◌+◌, ◌-◌, ◌*◌, ◌/◌, ◌%◌, ◌<◌, ◌≤◌, ◌^◌, Bool, true, false, List, refl, sym, ◌∙◌, ap, subst, arith, nat_lt, nat_le, not, ◌==◌, if◌then◌else◌, mul-le-mul_right}
-use Rattle.std.proofs.lemmas.Bool.{leb-true, ltb-false}
+use Rattle.std.proofs.Common.{◌≡◌, ℕ, ◌+◌, ◌-◌, ◌*◌, ◌<◌, ◌≤◌, ◌^◌, Bool, true, false, List, refl, sym, subst, arith, nat_le, ◌==◌, if◌then◌else◌, mul-le-mul_right}
+use Rattle.std.proofs.lemmas.Bool.{leb-true}
 use Rattle.std.proofs.lemmas.List.Quantifiers.{position-Some}
-use Rattle.std.proofs.lemmas.Nat.{div-add-mod'}
 use Rattle.std.specs.Prelude.{IfSome, Option, None, Some, bytes_eq, length, option_and_then, option_map, take_while, drop, position, slice_index, take}
 use Rattle.vx_pool.specs.Lookups.{is_array as is_array_text}
 use Rattle.vx_desc.specs.Descriptors.{base_of, element_at, field_of, field_type, only_if, type_at}
@@ -13,6 +12,7 @@ use Rattle.vx_desc.specs.declared.java_type.Base.TheVariants.{Bool as BoolBase}
 use Rattle.vx_desc.specs.declared.java_type.Descriptor.{Descriptor}
 use Rattle.vx_desc.specs.declared.java_type.JavaType.{JavaType}
 use Rattle.vx_java.specs.Ids.{HasClassNumbers, as_class}
+use Rattle.vx_references.proofs.ArrayNumbers.{array_over_is}
 use Rattle.vx_link.specs.ClassNames.{array_class, array_over, class_named, class_of_base, class_of_name, class_of_type, element_of_base}
 use Rattle.vx_link.specs.Parts.{class_count, no_class}
 use Rattle.vx_link.specs.Signature.{class_in}
@@ -152,26 +152,6 @@ pub found_below : (p : Program) (name : List ℕ) (class : ClassId) → Some cla
 found_below p name class e = some_is (λ (c : ClassId). c.0 < array_class p 256 0) (option_map as_class (class_named p name)) class (sym e) (map_some (λ (c : ℕ). c < array_class p 256 0) (λ (c : ClassId). c.0 < array_class p 256 0) (class_named p name) as_class (named_below p name) (λ c h. h))
 
 -- ---- the array classes over a class
-
--- one dimension more is so many numbers further
-pub array_over_is : (p : Program) (c : ℕ) → array_over p c ≡ c + (class_count p + 8)
-array_over_is p c = cases (nat_lt c (class_count p)) refl
-  where
-    n : ℕ
-    n = class_count p
-
-    cases : (b : Bool) → nat_lt c n ≡ b → array_class p ((if not b then (c - n) / (n + 8) + 1 else 0) + 1) (if not b then (c - n) % (n + 8) else 8 + c) ≡ c + (n + 8)
-    cases true e = omega arith
-    cases false e =
-        let above : n ≤ c = ltb-false c n e in
-        let parts : (c - n) / (n + 8) * (n + 8) + (c - n) % (n + 8) ≡ c - n = div-add-mod' (c - n) (n + 8) in
-        next ((c - n) / (n + 8)) ((c - n) % (n + 8)) above parts
-      where
-        next : (q r : ℕ) → n ≤ c → q * (n + 8) + r ≡ c - n → n + (q + 1 + 1 - 1) * (n + 8) + r ≡ c + (n + 8)
-        next q r above parts =
-            let more : (q + 1) * (n + 8) ≡ q * (n + 8) + (n + 8) = omega arith in
-            let one_more : q + 1 + 1 - 1 ≡ q + 1 = omega arith in
-            ap (λ k. n + k * (n + 8) + r) one_more ∙ omega (arith, more, above, parts)
 
 -- the class of arrays over a class that a name names has a number
 pub array_over_below : (p : Program) (c : ℕ) → HasClassNumbers p → c < array_class p 256 0 → array_over p c < 2 ^ 32

@@ -1,7 +1,7 @@
 -- Instructions of arrays that name a class or an element: from what was made of it to the attempt.
-use Rattle.std.proofs.Common.{◌≡◌, ℕ, zero, suc, ◌-◌, ◌<◌, Bool, true, false, List, [], ◌∷◌, sym, ◌∙◌, ap, arith}
+use Rattle.std.proofs.Common.{◌≡◌, ℕ, ◌-◌, Bool, true, false, List, [], sym, ◌∙◌, ap}
 use Rattle.std.specs.Prelude.{Option, Some, None, ◌==◌, ◌||◌, codes, option_map}
-use Rattle.vx_families.proofs.AttemptLaws.{AttemptsBy-ended}
+use Rattle.vx_families.proofs.AttemptLaws.{AttemptsBy-ended, AttemptsBy-same}
 use Rattle.vx_families.specs.Attempts.{AttemptsBy, IsAttemptBy, IsGiven, row_by}
 use Rattle.vx_frame.specs.declared.frame.Frame.{Frame}
 use Rattle.vx_group.specs.Group.{GroupView}
@@ -10,7 +10,7 @@ use Rattle.vx_group_states.specs.Sites.{Gives, here}
 use Rattle.vx_group_states.specs.Stands.{state_at}
 use Rattle.vx_group_states.specs.declared.site.Site.{Site}
 use Rattle.vx_heap.specs.Heap.{HeapView}
-use Rattle.vx_java.specs.Arrays.{elements_of_numbers, lengths_off, new_array, new_grid_of}
+use Rattle.vx_java.specs.Arrays.{element_of_number, lengths_off, new_array, new_grid_of}
 use Rattle.vx_java.specs.Checks.{if_there, with_class}
 use Rattle.vx_java.specs.Ids.{as_class}
 use Rattle.vx_java.specs.Machine.{Here, Outcome as PlainOutcome, State, unsupported, unsupported_in, when}
@@ -20,14 +20,11 @@ use Rattle.vx_java.specs.declared.operation.Operation.TheVariants.{NewPrimitives
 use Rattle.vx_link.specs.ClassNames.{array_class, class_named, double_element, float_element}
 use Rattle.vx_link.specs.Names.{class_name}
 use Rattle.vx_link.specs.Parts.{class_at, method_at}
-use Rattle.vx_list.specs.Places.{item_or}
 use Rattle.vx_outcome.specs.declared.outcome.Outcome.{Outcome}
-use Rattle.vx_fields.proofs.Families.{AttemptsBy-same}
 use Rattle.vx_references.proofs.Numbers.{class_none, class_some}
 use Rattle.vx_space.specs.Sets.{Sets}
 use Rattle.vx_space.proofs.Spaces.{Extends-refl}
 use Rattle.vx_value.specs.declared.ids.ClassId.{ClassId}
-use Rattle.vx_arrays.specs.Making.{element_of_number}
 use Rattle.vx_arrays.proofs.GridRows.{one_length}
 
 -- ---- a class of the pool
@@ -62,19 +59,6 @@ pub one_law : (site : Site) (class is : ℕ) → class ≡ is → (s : State) �
 one_law site class is e s = one_length (here site s) class s.top.operands ∙ ap (λ k. new_array (here site s) k s.top.operands) e
 
 -- ---- elements that are primitive types
-
--- each is below a bound
-abbrev AllBelow : ℕ → List ℕ → Type 0
-AllBelow n [] = Unit {0}
-AllBelow n (x ∷ xs) = (x < n) × AllBelow n xs
-
-item_below : (xs : List ℕ) (i d n : ℕ) → d < n → AllBelow n xs → item_or xs i d < n
-item_below [] i d n l h = l
-item_below (x ∷ xs) zero d n l h = h.0
-item_below (x ∷ xs) (suc i) d n l h = item_below xs i d n l h.1
-
-pub element_small : (number : ℕ) → element_of_number number < 8
-element_small number = item_below elements_of_numbers (number - 4) 5 8 (omega arith) (omega arith, (omega arith, (omega arith, (omega arith, (omega arith, (omega arith, (omega arith, (omega arith, tt))))))))
 
 -- a float or a double ends the run
 pub float-attempts : {S I : Type 0} (site : Site) (number element : ℕ) (what : List ℕ) {sets : Sets I} (heap : HeapView S I) (group : GroupView S I) (outcomes : List (Outcome S I)) → IsGiven site (NewPrimitives number) sets heap group → element ≡ element_of_number number → ((element == float_element) || (element == double_element)) ≡ true → what ≡ codes "-" → Gives site.program.now (λ s. unsupported_in site.program.now s float_word what) sets sets group outcomes → IsAttemptBy site (NewPrimitives number) sets sets heap heap group outcomes

@@ -1,4 +1,3 @@
-pub mod CellCounts
 pub mod ClassNumbers
 pub mod Fewer
 pub mod ElementRows

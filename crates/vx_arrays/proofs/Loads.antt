@@ -26,7 +26,7 @@ use Rattle.vx_group_states.specs.Widths.{slots_size}
 use Rattle.vx_group_states.specs.declared.answer.Answer.{Answer}
 use Rattle.vx_group_states.specs.declared.answer.Answer.TheVariants as answer
 use Rattle.vx_group_states.specs.declared.site.Site.{Site}
-use Rattle.vx_fields.proofs.Sizes.{plain_size}
+use Rattle.vx_families.proofs.Sizes.{plain_size}
 use Rattle.vx_group_states.proofs.Operands.{item_held, length-operands}
 use Rattle.vx_group_states.proofs.SettleLaws.{stack_scope}
 use Rattle.vx_heap.specs.declared.object.HeapObject.{HeapObject}

@@ -8,12 +8,11 @@ use Rattle.vx_cond.specs.Slots.{slots_at}
 use Rattle.vx_group_states.specs.declared.answer.Answer.{Answer}
 use Rattle.vx_heap.specs.Changing.{IsChangedIn}
 use Rattle.vx_heap.specs.Heap.{Globals, HeapView, globals_at, is_held, name_at}
-use Rattle.vx_java.specs.Arrays.{elements_of_numbers, grid, grid_cells}
+use Rattle.vx_java.specs.Arrays.{grid, grid_cells}
 use Rattle.vx_java.specs.Ids.{as_class}
 use Rattle.vx_java.specs.Machine.{length_bound}
-use Rattle.vx_link.specs.ClassNames.{core_class, int_element}
+use Rattle.vx_link.specs.ClassNames.{core_class}
 use Rattle.vx_link.specs.declared.program.Program.{Program}
-use Rattle.vx_list.specs.Places.{item_or}
 use Rattle.vx_value.specs.Arithmetic.{natural, negative}
 use Rattle.vx_value.specs.declared.slot.Slot.{Slot}
 use Rattle.vx_value.specs.declared.slot.Slot.TheVariants.{Int, Long, Ref, Top}
@@ -26,10 +25,6 @@ use Rattle.vx_arrays.specs.declared.lengths.Refusals.{Refusals}
 -- what an element that is a primitive type begins with
 abbrev pub slot_of_element : ℕ → Slot
 slot_of_element element = if (element == 3) || (element == 4) then Top else if element == 6 then Long (pos 0) else Int (pos 0)
-
--- the element of a type number
-abbrev pub element_of_number : ℕ → ℕ
-element_of_number number = item_or elements_of_numbers (number - 4) int_element
 
 -- ---- lengths
 

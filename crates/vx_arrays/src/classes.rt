@@ -1,59 +1,19 @@
 //! The classes of arrays by their elements, and what elements begin with (JVMS 2.3, 2.4, 6.5).
 
-ghost use Rattle.std.specs.Prelude.{◌≡◌, ◌==◌, ◌<◌, ◌^◌, [], true};
+ghost use Rattle.std.specs.Prelude.{◌≡◌, ◌<◌, ◌^◌, [], true};
 ghost use Rattle.vx_arrays.specs.Elements.{is_array_at};
 ghost use Rattle.vx_arrays.specs.Making.{slot_of_element};
 ghost use Rattle.vx_initial_heap.specs.First.{is_among, value_in};
-ghost use Rattle.vx_java.specs.Arrays.{element_default, is_array_of};
-ghost use Rattle.vx_java.specs.Ids.{HasClassNumbers};
-ghost use Rattle.vx_link.specs.ClassNames.{array_class, array_over};
+ghost use Rattle.vx_java.specs.Arrays.{element_default};
+ghost use Rattle.vx_link.specs.ClassNames.{array_over};
 
 use vx_heap::Heap;
 use vx_java::Element;
 use vx_java::arrays::{element_of, elements, has_reference_components};
 use vx_link::Program;
+use vx_references::arrays::{DOUBLE, FLOAT, LONG, is_array_of};
 use vx_space::Space;
 use vx_value::{ClassId, Slot};
-
-/// The elements that are primitive types.
-pub const BOOLEAN: u32 = 0;
-
-pub const BYTE: u32 = 1;
-
-pub const CHAR: u32 = 2;
-
-pub const DOUBLE: u32 = 3;
-
-pub const FLOAT: u32 = 4;
-
-pub const INT: u32 = 5;
-
-pub const LONG: u32 = 6;
-
-pub const SHORT: u32 = 7;
-
-/// Whether a class is that of arrays of one dimension with an element that is a primitive type.
-fn has_primitives(program: &Program, class: ClassId, element: u32) -> bool
-    ensures { result ≡ (class.0 == array_class program.now 1 element) }
-{
-    u64::from(class.0) == program.classes.as_slice().len() as u64 + u64::from(element)
-}
-
-/// Whether an instruction works on arrays of a class.
-fn is_array_of(program: &Program, element: Element, class: ClassId) -> bool
-    ensures { result ≡ is_array_of program.now element class.0 }
-{
-    match element {
-        Element::References => has_reference_components(program, class),
-        Element::Ints => has_primitives(program, class, INT),
-        Element::Longs => has_primitives(program, class, LONG),
-        Element::Bytes => {
-            has_primitives(program, class, BYTE) || has_primitives(program, class, BOOLEAN)
-        }
-        Element::Chars => has_primitives(program, class, CHAR),
-        Element::Shorts => has_primitives(program, class, SHORT),
-    }
-}
 
 /// What a primitive element begins with; a float or a double is never read.
 fn primitive_default(element: u64) -> Slot
@@ -92,15 +52,6 @@ pub(crate) fn is_array_at<S: Space>(
         Some(class) => is_array_of(program, element, class),
         None => false,
     }
-}
-
-/// The class of arrays of one dimension with the primitive elements of a number.
-pub(crate) fn array_of_primitives(program: &Program, element: u32) -> ClassId
-    requires numbers { HasClassNumbers program.now }
-    requires element { element < 8 }
-    ensures { result.0 ≡ array_class program.now 1 element }
-{
-    ClassId(program.classes.len() as u32 + element)
 }
 
 /// The class of arrays whose components are of a class: one dimension more is so many numbers further.

@@ -11,8 +11,6 @@ ghost use Rattle.vx_families.specs.Texts.{HasMoreTexts};
 ghost use Rattle.vx_group.specs.Group.{path_of};
 ghost use Rattle.vx_group_states.specs.Answering.{answer_at, operands_at};
 ghost use Rattle.vx_group_states.specs.Answers.{answer_cmp};
-ghost use Rattle.vx_java.specs.Arrays.{element_sort};
-ghost use Rattle.vx_java.specs.Checks.{width_of_sort};
 ghost use Rattle.vx_java.specs.Machine.{length_bound};
 ghost use Rattle.vx_ready.specs.Running.{IsRunning};
 ghost use Rattle.vx_space.specs.Sets.{Extends};
@@ -21,29 +19,19 @@ use crate::elements::places_under;
 use std::alloc::Global;
 use vx_cells::{Place, place_if, read_through, where_room};
 use vx_cond::Cond;
-use vx_families::core_class;
 use vx_group::Group;
 use vx_group_states::{Answer, Site, carry_out, illegal};
 use vx_heap::Heap;
 use vx_java::parts::is_array;
-use vx_java::{Element, Operation};
+use vx_java::{Element, Operation, core_class};
 use vx_link::Program;
 use vx_outcome::Outcomes;
+use vx_references::arrays::width_of;
 use vx_space::{Space, SpaceFault};
 use vx_value::{ClassId, Slot};
 
 /// The greatest length of an array.
 const MOST_ELEMENTS: u32 = 1_048_576;
-
-/// How many words an element takes on the operand stack.
-fn width_of(element: Element) -> u64
-    ensures { result ≡ width_of_sort (element_sort element) }
-{
-    match element {
-        Element::Longs => 2,
-        _ => 1,
-    }
-}
 
 /// Where a load reads, at each configuration of a group that has two operands.
 fn places_read<S: Space>(

@@ -1,12 +1,10 @@
 //! New arrays of one dimension (JVMS 6.5 newarray, anewarray).
 
-ghost use Rattle.std.specs.Prelude.{◌≡◌, ◌==◌, ◌||◌, IfOk};
-ghost use Rattle.vx_arrays.specs.Making.{element_of_number};
+ghost use Rattle.std.specs.Prelude.{IfOk};
 ghost use Rattle.vx_families.specs.Attempts.{IsAttemptBy, IsGiven};
-ghost use Rattle.vx_link.specs.ClassNames.{double_element, float_element};
 ghost use Rattle.vx_space.specs.Sets.{Extends};
 
-use crate::classes::{DOUBLE, FLOAT, array_of_primitives, array_over};
+use crate::classes::array_over;
 use crate::grids::new_arrays;
 use std::alloc::Global;
 use vx_families::{FLOAT_WORD, no_class, unsupported};
@@ -16,30 +14,9 @@ use vx_heap::Heap;
 use vx_java::Operation;
 use vx_java::parts::class_of_method;
 use vx_outcome::Outcomes;
+use vx_references::arrays::{array_of_primitives, element_of_number, is_float};
 use vx_space::{Space, SpaceFault};
 use vx_value::Name;
-
-/// The element of a type number of newarray, from 4 to 11: boolean, char, float, double, byte, short, int, long.
-fn element_of_number(number: u32) -> u32
-    ensures { result ≡ element_of_number number }
-{
-    match number {
-        0..=4 => 0,
-        5 => 2,
-        6 => 4,
-        7 => 3,
-        8 => 1,
-        9 => 7,
-        11 => 6,
-        _ => 5,
-    }
-}
-
-fn is_float(element: u32) -> bool
-    ensures { result ≡ ((element == float_element) || (element == double_element)) }
-{
-    element == FLOAT || element == DOUBLE
-}
 
 /// newarray. A float or a double ends the run.
 pub(crate) fn new_primitives<S: Space>(

@@ -10,7 +10,6 @@ ghost use Rattle.vx_cond.specs.Slots.{slot_at};
 ghost use Rattle.vx_families.specs.Attempts.{IsAttemptBy, IsGiven};
 ghost use Rattle.vx_group.specs.Group.{IsGroup, path_of};
 ghost use Rattle.vx_group_states.specs.Answering.{operands_at};
-ghost use Rattle.vx_java.specs.Arrays.{element_sort};
 ghost use Rattle.vx_list.specs.Places.{item_or};
 ghost use Rattle.vx_ready.specs.Running.{IsRunning};
 ghost use Rattle.vx_space.specs.Sets.{Extends};
@@ -26,22 +25,13 @@ use vx_group::Group;
 use vx_group_states::{Answer, Site, carry_out, illegal};
 use vx_heap::Heap;
 use vx_java::arrays::component_of;
-use vx_java::{Element, Operation, Sort, assignable};
+use vx_java::{Element, Operation, assignable};
 use vx_link::Program;
 use vx_numbers::narrow;
 use vx_outcome::Outcomes;
+use vx_references::arrays::sort_of;
 use vx_space::{Space, SpaceFault};
 use vx_value::{ClassId, Narrow, Slot};
-
-fn sort_of(element: Element) -> Sort
-    ensures { result ≡ element_sort element }
-{
-    match element {
-        Element::Longs => Sort::Long,
-        Element::References => Sort::Reference,
-        _ => Sort::Int,
-    }
-}
 
 /// Whether an array of one class may have an object of another as an element, where there are both.
 fn may_be(program: &Program, value: Option<ClassId>, array: Option<ClassId>) -> bool

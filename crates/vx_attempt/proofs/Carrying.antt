@@ -1,6 +1,7 @@
 -- Outcomes that are carried out one after the other, whatever is made of each.
 use Rattle.std.proofs.Common.{◌≡◌, ℕ, Bool, true, false, List, [], ◌∷◌, ◌++◌, ◌&&◌, ◌||◌, refl, sym, ◌∙◌, ap, not, length, arith}
 use Rattle.std.specs.Prelude.{◌≢◌, Option, Some, if◌then◌else◌, unwrap_or}
+use Rattle.std.specs.List.{list_all}
 use Rattle.vx_space.specs.Sets.{Sets, Extends, IsLawful, IsKnown}
 use Rattle.vx_space.proofs.Spaces.{Extends-refl, Extends-trans}
 use Rattle.vx_frames.specs.Giving.{AttemptsAt}
@@ -18,14 +19,14 @@ use Rattle.vx_link.specs.declared.program.Program.{Program}
 use Rattle.vx_outcome.specs.Outcome.{Divide, condition_of}
 use Rattle.vx_outcome.specs.declared.outcome.Outcome.{Outcome}
 use Rattle.vx_outcome.specs.declared.outcome.Outcome.TheVariants as shared
-use Rattle.vx_group_states.specs.Stands.{Attempts, CameTo, Continues, Grows, IsOutcome, StandsIn, outcome_at, state_at}
+use Rattle.vx_group_states.specs.Stands.{Attempts, CameTo, Continues, Grows, IsOutcome, StandsIn, comes_to, outcome_at, state_at}
 use Rattle.vx_group_states.specs.declared.site.Site.{Site}
 use Rattle.vx_value.specs.declared.ids.MethodId.{MethodId}
 use Rattle.vx_group_states.proofs.GrownStates.{CameTo-grown, Grows-refl, Grows-trans}
 use Rattle.vx_group_states.proofs.OutcomeStates.{CameTo-append, CameTo-none, CameTo-one, CameTo-same, CameTo-through}
 use Rattle.vx_cells.proofs.Somewhere.{somewhere_in}
 use Rattle.vx_attempt.specs.Carrying.{AreCarriedOut, SomeUncarried, is_covered, is_uncarried}
-use Rattle.vx_standing.specs.Attempted.{AreConditionsKnown}
+use Rattle.vx_standing.specs.Attempted.{AreConditionsKnown, is_placed, thrown_out}
 
 -- ---- the first outcome, and those behind it
 
@@ -298,3 +299,58 @@ Attempts-same p says other old new before after tree later group outcomes e a = 
   came = CameTo-same p old new after later group (λ c. says (state_at old before tree group c)) (λ c. other (state_at old before tree group c)) (old.test (path_of group)) (old.test (path_of group)) outcomes (λ c. refl) (λ c t. e c) a.came;
   outside = a.outside;
 }
+
+-- ---- outcomes of which nothing is made
+
+abbrev pub ArePlain : {S I : Type 0} → (PlainOutcome → PlainOutcome) → List (Outcome S I) → Type 0
+ArePlain carry [] = Unit {0}
+ArePlain carry (x ∷ xs) = IsPlain carry x × ArePlain carry xs
+
+plain_comes : {S I : Type 0} (carry : PlainOutcome → PlainOutcome) (sets : Sets I) (heap : HeapView S I) (tree : List (Option (Caller S I))) (c : List Bool) (items : List (Outcome S I)) (o : PlainOutcome) → ArePlain carry items → comes_to sets heap tree c items ≡ Some o → carry o ≡ o
+plain_comes carry sets heap tree c [] o h e = cc e
+plain_comes carry sets heap tree c (x ∷ xs) o h e = cases (sets.test (condition_of x) c) (outcome_at sets heap tree c x) (comes_to sets heap tree c xs) (h.0 sets heap tree c) (plain_comes carry sets heap tree c xs o h.1) e
+  where
+    cases : (b : Bool) (w : PlainOutcome) (r : Option PlainOutcome) → carry w ≡ w → (r ≡ Some o → carry o ≡ o) → (if b then Some w else r) ≡ Some o → carry o ≡ o
+    cases true w r p f e =
+        let same : w ≡ o = cc e in
+        ap carry (sym same) ∙ p ∙ same
+    cases false w r p f e = f e
+
+pub AreCarriedOut-whole : {S I : Type 0} (p : Program) (carry : PlainOutcome → PlainOutcome) (sets : Sets I) (heap : HeapView S I) (tree : List (Option (Caller S I))) (items : List (Outcome S I)) → IsHeap sets heap → IsHeapFor p heap → ArePlain carry items → AreCarriedOut p carry sets sets heap heap tree tree items items
+AreCarriedOut-whole p carry sets heap tree items v f plain = record {
+  is_heap = v;
+  is_for = f;
+  grows = Grows-refl heap;
+  keeps = Keeps-refl tree;
+  came = λ start group what set h. CameTo-same p start sets heap tree group what (λ c. carry (what c)) set set items (λ c. refl) (λ c t. sym (plain_comes carry sets heap tree c items (what c) plain (h.at c t))) h;
+  outside = λ c t. refl;
+}
+
+-- outcomes that take their places as they are
+pub ArePlain-placed : {S I : Type 0} (carry : PlainOutcome → PlainOutcome) (items : List (Outcome S I)) → ((x : Outcome S I) → is_placed x ≡ true → IsPlain carry x) → list_all is_placed items ≡ true → ArePlain carry items
+ArePlain-placed carry [] each h = tt
+ArePlain-placed carry (x ∷ xs) each h =
+    let parts = inside_of_both (is_placed x) (list_all is_placed xs) h in
+    (each x parts.0, ArePlain-placed carry xs each parts.1)
+  where
+    inside_of_both : (a b : Bool) → (a && b) ≡ true → (a ≡ true) × (b ≡ true)
+    inside_of_both true b h = (refl, h)
+    inside_of_both false b h = cc h
+
+pub IsPlain-carried : {S I : Type 0} (p : Program) (x : Outcome S I) → is_placed x ≡ true → IsPlain (outcome_carried_out p) x
+IsPlain-carried p (shared.Go group) h = λ sets heap tree c. refl
+IsPlain-carried p (shared.Raise group class message) h = absurd (cc h)
+IsPlain-carried p (shared.Throw group thrown) h = absurd (cc h)
+IsPlain-carried p (shared.Begin group class) h = absurd (cc h)
+IsPlain-carried p (shared.Native group method) h = absurd (cc h)
+IsPlain-carried p (shared.Write group stream text) h = λ sets heap tree c. refl
+IsPlain-carried p (shared.Ended condition end) h = λ sets heap tree c. refl
+
+pub IsPlain-thrown : {S I : Type 0} (p : Program) (x : Outcome S I) → is_placed x ≡ true → IsPlain (thrown_out p) x
+IsPlain-thrown p (shared.Go group) h = λ sets heap tree c. refl
+IsPlain-thrown p (shared.Raise group class message) h = absurd (cc h)
+IsPlain-thrown p (shared.Throw group thrown) h = absurd (cc h)
+IsPlain-thrown p (shared.Begin group class) h = absurd (cc h)
+IsPlain-thrown p (shared.Native group method) h = absurd (cc h)
+IsPlain-thrown p (shared.Write group stream text) h = λ sets heap tree c. refl
+IsPlain-thrown p (shared.Ended condition end) h = λ sets heap tree c. refl

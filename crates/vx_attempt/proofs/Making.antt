@@ -38,7 +38,7 @@ use Rattle.vx_attempt.specs.Carrying.{AreCarriedOut, MayCarryOut, MayThrow, None
 use Rattle.vx_attempt.proofs.Calls.{AreThere-outcomes, attempt_calls}
 use Rattle.vx_attempt.proofs.Carrying.{Attempts-carried, Attempts-same}
 use Rattle.vx_attempt.proofs.Uncarried.{carried_neither}
-use Rattle.vx_fields.proofs.Pools.{below}
+use Rattle.vx_families.proofs.ShortPools.{below}
 
 -- ---- the instruction where it stands
 

@@ -1,6 +1,6 @@
 //! One attempt of a group: the instruction where it stands, by its family, what a native method makes of it, and what is thrown.
 
-ghost use Rattle.std.specs.Prelude.{◌≡◌, IfOk, Some, option_copied, true};
+ghost use Rattle.std.specs.Prelude.{◌≡◌, IfOk, Some, true};
 ghost use Rattle.vx_space.specs.Sets.{Extends};
 ghost use Rattle.vx_java.specs.Machine.{State, illegal_in};
 ghost use Rattle.vx_java.specs.Row.{row};
@@ -19,22 +19,13 @@ use vx_group::{Callers, Group};
 use vx_group_states::Site;
 use vx_heap::Heap;
 use vx_java::decoding::operation;
+use vx_java::parts::code_of;
 use vx_java::{Operation, place};
 use vx_link::Program;
 use vx_opcode::decode;
 use vx_outcome::{Outcome, Outcomes};
 use vx_space::{Space, SpaceFault};
-use vx_value::{End, MethodId};
-
-/// The code of a method.
-fn code_of(program: &Program, method: MethodId) -> Option<&Code>
-    ensures { option_copied result ≡ (method_at program.now method.0).code }
-{
-    match program.method(method) {
-        Some(method) => method.code.as_ref(),
-        None => None,
-    }
-}
+use vx_value::End;
 
 /// The attempt of an instruction by its family. Calls and returns alone push a frame or take one off, so they alone are lent the tree.
 fn by_family<S: Space>(

@@ -1,9 +1,11 @@
 //! Native methods and beginnings, carried out where a family left them.
 
 ghost use Rattle.std.specs.Prelude.{◌≡◌, ◌∷◌, [], IfOk};
+ghost use Rattle.std.specs.List.{list_all};
 ghost use Rattle.vx_space.specs.Sets.{Extends};
 ghost use Rattle.vx_java.specs.Step.{outcome_carried_out};
 ghost use Rattle.vx_outcome.specs.declared.outcome.Outcome.TheVariants.{Native};
+ghost use Rattle.vx_standing.specs.Attempted.{is_placed};
 ghost use Rattle.vx_attempt.specs.Carrying.{AreCarriedOut, MayCarryOut};
 
 use std::alloc::{AllocError, Global};
@@ -34,6 +36,26 @@ fn native_carried_out<S: Space>(
         return Ok(Outcomes::new(alloc));
     }
     native(alloc, site, space, heap, group, method)
+}
+
+/// Whether the runs of an outcome go on or have ended, so that nothing is left to be carried out.
+fn is_done<S: Space>(outcome: &Outcome<S>) -> bool
+    ensures { result ≡ is_placed outcome.now }
+{
+    match outcome {
+        Outcome::Go { .. } | Outcome::Write { .. } | Outcome::Ended { .. } => true,
+        Outcome::Raise { .. }
+        | Outcome::Throw { .. }
+        | Outcome::Begin { .. }
+        | Outcome::Native { .. } => false,
+    }
+}
+
+/// Whether nothing is left to be carried out of these outcomes.
+pub(crate) fn are_done<S: Space>(outcomes: &Outcomes<S>) -> bool
+    ensures { result ≡ list_all is_placed outcomes.now.items.items }
+{
+    outcomes.items.iter().all(|outcome| is_done(outcome))
 }
 
 /// An outcome alone.
@@ -86,6 +108,9 @@ pub(crate) fn carried_out<S: Space>(
     ensures extends { Extends (S.sets space.old) (S.sets space.new) }
     ensures carried { IfOk result (λ r. AreCarriedOut site.now.program.now (outcome_carried_out site.now.program.now) (S.sets space.old) (S.sets space.new) heap.old heap.new callers.old callers.new outcomes.items.items r.items.items) }
 {
+    if are_done(&outcomes) {
+        return Ok(outcomes);
+    }
     let mut made = Outcomes::new(alloc);
     for outcome in outcomes.items {
         let some = one_carried_out(alloc, site, space, heap, callers, outcome)?;

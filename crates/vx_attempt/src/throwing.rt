@@ -7,7 +7,7 @@ ghost use Rattle.vx_outcome.specs.Outcome.{condition_of};
 ghost use Rattle.vx_standing.specs.Attempted.{is_placed, thrown_out};
 ghost use Rattle.vx_attempt.specs.Carrying.{AreCarriedOut, MayThrow, NoneUncarried};
 
-use crate::natives::only;
+use crate::natives::{are_done, only};
 use std::alloc::Global;
 use vx_group::Callers;
 use vx_heap::Heap;
@@ -83,6 +83,9 @@ pub(crate) fn all_thrown<S: Space>(
     ensures carried { IfOk result (λ r. AreCarriedOut program.now (thrown_out program.now) (S.sets space.old) (S.sets space.new) heap.old heap.new callers.old callers.new outcomes.items.items r.items.items) }
     ensures placed { NoneUncarried program.now (S.sets space.old) heap.old callers.old outcomes.items.items → IfOk result (λ r. list_all is_placed r.items.items ≡ true) }
 {
+    if are_done(&outcomes) {
+        return Ok(outcomes);
+    }
     let mut made = Outcomes::new(alloc);
     for outcome in outcomes.items {
         let some = one_thrown(alloc, program, space, heap, callers, outcome)?;

@@ -18,7 +18,7 @@ use Rattle.vx_count.specs.Listed.{first_settings}
 use Rattle.vx_count.specs.Memo.{AreNumbers}
 use Rattle.vx_count.specs.Settings.{number, settings}
 use Rattle.vx_count.proofs.Halves.{AreNumbers-extends}
-use Rattle.vx_explain.specs.declared.literal.Literal.{Literal}
+use Rattle.vx_explain.specs.declared.rule.Rule.{Rule}
 use Rattle.vx_explain.specs.Scopes.{rule_within}
 use Rattle.vx_check.specs.Ends.{begin, fits, passes}
 use Rattle.vx_check.specs.Expected.{AreOf, IsOf}
@@ -261,7 +261,7 @@ told_none s scope e line set told none = sym (append-nil told) ∙ ap (λ cs. to
   rule = rule_within s.options (s.test set) (s.test scope);
 }) cs) (sym none)
 
-pub told_one : {I : Type 0} (s : Sets I) (scope : I) (e : Ended I) (line : Option ℕ) (set : I) (told told' : List Told) (c : List Bool) (n : ℕ) (rule : Option (List (List Literal))) (end : List ℕ) → first_settings 1 s.options (s.test set) ≡ c ∷ [] → n ≡ number s.options (s.test set) → rule ≡ rule_within s.options (s.test set) (s.test scope) → end ≡ e.words
+pub told_one : {I : Type 0} (s : Sets I) (scope : I) (e : Ended I) (line : Option ℕ) (set : I) (told told' : List Told) (c : List Bool) (n : ℕ) (rule : Option Rule) (end : List ℕ) → first_settings 1 s.options (s.test set) ≡ c ∷ [] → n ≡ number s.options (s.test set) → rule ≡ rule_within s.options (s.test set) (s.test scope) → end ≡ e.words
     → told' ≡ told ++ record { rank = e.rank; place = e.place; end = end; line = line; number = n; example = c; rule = rule } ∷ [] → told' ≡ told ++ told_here s scope e line set
 told_one s scope e line set told told' c n rule end found m r w more =
     more

@@ -5,8 +5,8 @@ use Rattle.vx_report.specs.declared.report.Report.{Report}
 use Rattle.vx_cover.specs.Covers.{has_end}
 use Rattle.vx_cover.specs.Text.{configuration_text}
 use Rattle.vx_count.specs.Settings.{number}
-use Rattle.vx_explain.specs.declared.literal.Literal.{Literal}
-use Rattle.vx_explain.specs.Text.{rule_text}
+use Rattle.vx_explain.specs.declared.rule.Rule.{Rule}
+use Rattle.vx_explain.specs.Text.{spelled_rule}
 use Rattle.vx_check.specs.Failing.{failing}
 use Rattle.vx_check.specs.Ways.{IsSortedOf, told_all, ways_of}
 use Rattle.vx_check.specs.declared.expected.Expectation.{Expectation}
@@ -19,9 +19,9 @@ number_text None = codes "-"
 number_text (Some n) = decimal n
 
 -- the rule; a dash where there is no short one
-abbrev pub given_text : List (List ℕ) → Option (List (List Literal)) → List ℕ
+abbrev pub given_text : List (List ℕ) → Option Rule → List ℕ
 given_text names None = codes "-"
-given_text names (Some terms) = rule_text names terms
+given_text names (Some rule) = spelled_rule names rule
 
 -- how many, one of them, the line, the end and the rule
 abbrev pub told_line : List (List ℕ) → Told → List ℕ

@@ -5,7 +5,6 @@ ghost use Rattle.std.specs.BTreeMap.{get};
 ghost use Rattle.vx_space.specs.Sets.{Extends, IsKnown};
 ghost use Rattle.vx_count.specs.Listed.{first_settings};
 ghost use Rattle.vx_count.specs.Memo.{AreNumbers};
-ghost use Rattle.vx_explain.specs.Scopes.{rule_within};
 ghost use Rattle.vx_check.specs.Finding.{FindsAt, FindsIn, IsSound};
 ghost use Rattle.vx_check.specs.Lines.{AreKnownEnds, is_good_here, told_here};
 ghost use Rattle.vx_check.specs.Ways.{number_of};
@@ -17,8 +16,7 @@ use crate::told::Told;
 use std::alloc::{AllocError, Global};
 use std::collections::BTreeMap;
 use vx_count::{count_of, firsts};
-use vx_explain::{Term, bounds, few_terms};
-use vx_list::Items;
+use vx_explain::rule_within;
 use vx_space::{Config, Space, SpaceFault};
 use vx_value::Name;
 
@@ -30,22 +28,6 @@ pub struct Finding<I: Ord> {
     pub told: Vec<Told>,
     /// The configurations of all ways that were told.
     pub failing: I,
-}
-
-/// The rule of a set within a scope, if it is short.
-fn rule_of<S: Space>(
-    alloc: Global,
-    space: &mut S,
-    set: S::Id,
-    scope: S::Id,
-) -> Result<Option<Items<Term>>, SpaceFault>
-    requires set { IsKnown (S.sets space.old) set }
-    requires scope { IsKnown (S.sets space.old) scope }
-    ensures extends { Extends (S.sets space.old) (S.sets space.new) }
-    ensures rule { IfOk result (λ r. r ≡ rule_within (S.sets space.old).options ((S.sets space.old).test set) ((S.sets space.old).test scope)) }
-{
-    let bounds = bounds(space, set, scope)?;
-    few_terms(alloc, space, bounds.0, bounds.1)
 }
 
 /// The first setting of a set, if there is one.
@@ -81,7 +63,7 @@ fn push_told<S: Space>(
         return Ok(());
     };
     let number = count_of(space, &mut finding.numbers, set)?;
-    let rule = rule_of(alloc, space, set, scope)?;
+    let rule = rule_within(alloc, space, set, scope)?;
     let end = Name::of(alloc, ended.words.bytes())?;
     finding.told.push(Told {
         rank: ended.rank,

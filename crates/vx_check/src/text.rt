@@ -7,8 +7,7 @@ ghost use Rattle.vx_check.specs.Text.{checked_text, given_text, number_text, tol
 use crate::told::{Checked, Told};
 use std::alloc::{AllocError, Global};
 use vx_cover::put_configuration;
-use vx_explain::{Term, put_rule};
-use vx_list::Items;
+use vx_explain::{Rule, put_rule};
 use vx_report::Report;
 use vx_value::Name;
 use vx_words::put_number;
@@ -24,15 +23,11 @@ fn put_line_number(out: &mut Vec<u8>, line: Option<u64>) -> Result<(), AllocErro
 }
 
 /// Puts a rule, or a dash where there is no short one.
-fn put_given(
-    out: &mut Vec<u8>,
-    names: &[Name],
-    rule: &Option<Items<Term>>,
-) -> Result<(), AllocError>
+fn put_given(out: &mut Vec<u8>, names: &[Name], rule: &Option<Rule>) -> Result<(), AllocError>
     ensures { OnOk result (out.new.items ≡ out.old.items ++ given_text names.now rule.now) }
 {
     match rule {
-        Some(terms) => put_rule(out, names, terms.as_slice()),
+        Some(rule) => put_rule(out, names, rule),
         None => out.extend_from_slice(b"-"),
     }
 }

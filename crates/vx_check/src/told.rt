@@ -1,6 +1,6 @@
 //! What is told of configurations that fail.
 
-use vx_explain::Term;
+use vx_explain::Rule;
 use vx_list::Items;
 use vx_space::Config;
 use vx_value::Name;
@@ -20,8 +20,8 @@ pub struct Told {
     pub number: u128,
     /// The first of them: off stands before on, and the first option changes slowest.
     pub example: Config,
-    /// Terms of which one holds just at these, among the configurations that have an end; none where they are more than 32.
-    pub rule: Option<Items<Term>>,
+    /// True just at these, among the configurations that have an end; none where there is none of at most 32 terms.
+    pub rule: Option<Rule>,
 }
 
 /// What a check of a report tells.

@@ -58,7 +58,7 @@ same_given given held folder (p ∷ paths) (x ∷ a) (y ∷ b) h k =
 
 -- ---- one class file after the other
 
-all_filter : {X : Type 0} (p : X → Bool) (xs : List X) → AllByRecursion (λ x. IsTrue (p x)) (filter p xs)
+pub all_filter : {X : Type 0} (p : X → Bool) (xs : List X) → AllByRecursion (λ x. IsTrue (p x)) (filter p xs)
 all_filter p [] = tt
 all_filter p (x ∷ xs) = by_test (p x) refl (all_filter p xs)
   where
@@ -67,11 +67,11 @@ all_filter p (x ∷ xs) = by_test (p x) refl (all_filter p xs)
     by_test false e h = h
 
 -- the class files so far, and those that are left
-record SoFar {A : Type 0} (given : List ℕ → Result A Fault) (held : Held) (folder : List ℕ) (done paths : List (List ℕ)) (front : List A) : Type 0 where
-  all : HasClasses held folder (done ++ paths)
-  good : AreGiven given held folder done front
+pub record SoFar {A : Type 0} (given : List ℕ → Result A Fault) (held : Held) (folder : List ℕ) (done paths : List (List ℕ)) (front : List A) : Type 0 where
+  pub all : HasClasses held folder (done ++ paths)
+  pub good : AreGiven given held folder done front
 
-reached : {A : Type 0} {given : List ℕ → Result A Fault} {class : A → ClassFile} → GivesClasses given class → (held : Held) (folder path : List ℕ) (done paths : List (List ℕ)) (front : List A)
+pub reached : {A : Type 0} {given : List ℕ → Result A Fault} {class : A → ClassFile} → GivesClasses given class → (held : Held) (folder path : List ℕ) (done paths : List (List ℕ)) (front : List A)
     → SoFar given held folder done (path ∷ paths) front → IsReached held folder path
 reached {class = class} gives held folder path done paths front h =
     record { before = done; after = paths; listed = h.all; classes = map class front; good = all_classes gives held folder done front h.good }
@@ -83,7 +83,7 @@ are_more given held folder path x [] (y ∷ front) h fits reads = absurd h
 are_more given held folder path x (p ∷ done) [] h fits reads = absurd h
 are_more given held folder path x (p ∷ done) (y ∷ front) h fits reads = (h.0, h.1, are_more given held folder path x done front h.2 fits reads)
 
-further : {A : Type 0} (given : List ℕ → Result A Fault) (held : Held) (folder path bytes : List ℕ) (x : A) (done paths : List (List ℕ)) (front : List A) → SoFar given held folder done (path ∷ paths) front
+pub further : {A : Type 0} (given : List ℕ → Result A Fault) (held : Held) (folder path bytes : List ℕ) (x : A) (done paths : List (List ℕ)) (front : List A) → SoFar given held folder done (path ∷ paths) front
     → (length (class_bytes held folder path) ≤ most_bytes) × (bytes ≡ class_bytes held folder path) → given bytes ≡ Ok x
     → SoFar given held folder (done ++ path ∷ []) paths (front ++ x ∷ [])
 further given held folder path bytes x done paths front h b reads = record {
@@ -96,7 +96,7 @@ abbrev pub AreRead : {A : Type 0} → (A → ClassFile) → List A → Type 0
 AreRead class xs = All (λ x. Holds (class x)) xs
 
 -- so they do with one more, that bytes give
-one_more_read : {A : Type 0} {given : List ℕ → Result A Fault} {class : A → ClassFile} → GivesClasses given class → (bytes : List ℕ) (x : A) (front : List A) → IsBytes bytes → given bytes ≡ Ok x → AreRead class front → AreRead class (front ++ x ∷ [])
+pub one_more_read : {A : Type 0} {given : List ℕ → Result A Fault} {class : A → ClassFile} → GivesClasses given class → (bytes : List ℕ) (x : A) (front : List A) → IsBytes bytes → given bytes ≡ Ok x → AreRead class front → AreRead class (front ++ x ∷ [])
 one_more_read {class = class} gives bytes x front are_bytes reads read =
     All-push (λ y. Holds (class y)) front x read (class_took bytes (class x) are_bytes (gives.spelled bytes x reads)).holds
 
@@ -105,11 +105,11 @@ ClassesShow {A} given class old new folder model all next outcome =
     ((status : Status) × (outcome ≡ Err status) × InputCause old new folder model status)
     ⊎ ((xs : List A) × IfSome old.held (λ held. SoFar given held folder all [] xs) × AreRead class xs × MayGive old.held old.faults new.faults (next xs) outcome)
 
-was_given : {A : Type 0} (path : List ℕ) (r : Result A Fault) (x : A) → or_bad_class path r ≡ Ok x → r ≡ Ok x
+pub was_given : {A : Type 0} (path : List ℕ) (r : Result A Fault) (x : A) → or_bad_class path r ≡ Ok x → r ≡ Ok x
 was_given path (Ok y) x e = let k : y ≡ x = cc in ap Ok k
 was_given path (Err fault) x e = cc
 
-was_refused : {A : Type 0} (path : List ℕ) (r : Result A Fault) (status : Status) → or_bad_class path r ≡ Err status → (fault : Fault) × (r ≡ Err fault) × (status ≡ BadClass path fault.at fault.reason)
+pub was_refused : {A : Type 0} (path : List ℕ) (r : Result A Fault) (status : Status) → or_bad_class path r ≡ Err status → (fault : Fault) × (r ≡ Err fault) × (status ≡ BadClass path fault.at fault.reason)
 was_refused path (Ok y) status e = cc
 was_refused path (Err fault) status e = (fault, refl, cc)
 

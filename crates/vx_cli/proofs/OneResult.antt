@@ -16,7 +16,7 @@ use Rattle.vx_reporting.proofs.OneText.{one_text}
 use Rattle.vx_reporting.specs.Reported.{IsReported}
 use Rattle.vx_summary.specs.Summary.{summary_text}
 use Rattle.vx_cli.specs.Causes.{AreClasses, AreGiven, HasOneResult, IsAgreeing, IsJoining, IsReport, IsResult, IsRetelling, IsSaidOf, IsShown, IsTold, IsVerification}
-use Rattle.vx_cli.specs.Command.{Agree, Asm, Check, Command, Compare, Cut, Join, Load, Output, Project, Retell, Run, Show, Tell, Verify}
+use Rattle.vx_cli.specs.Command.{Agree, Asm, Check, Command, Compare, Cut, Doctor, Join, Load, Output, Project, Retell, Run, Show, Tell, Verify}
 use Rattle.vx_cli.specs.Ends.{Ends}
 use Rattle.vx_plans.specs.Job.{names_of, program_in}
 use Rattle.vx_plans.specs.Load.{IsSummary, load_limit, load_model, load_program}
@@ -108,7 +108,7 @@ one_summary seed options one other h k =
     h.spelled ∙ ap (summary_text seed) report ∙ sym k.spelled
 
 one_result : (held : Held) (command : Command) (one other : List ℕ) → HasOneResult command → IsResult held command one → IsResult held command other → one ≡ other
-one_result held (Run folder path main limit version) one other p h k = one_report held folder path main limit version one other h k
+one_result held (Run watched folder path main limit version) one other p h k = one_report held folder path main limit version one other h k
 one_result held (Project path word) one other p h k = one_said (λ r. projected r word) held path one other h k
 one_result held (Output path word stream) one other p h k = one_said (λ r. printed r stream word) held path one other h k
 one_result held (Tell telling path) one other p h k = one_telling held telling path one other p h k
@@ -121,6 +121,7 @@ one_result held (Retell retelling folder path main limit word) one other p h k =
 one_result held (Cut model choice report) one other p h k = one_parted held model choice report one other p h k
 one_result held (Check report file) one other p h k = absurd p
 one_result held (Compare report against) one other p h k = absurd p
+one_result held (Doctor folder path main) one other p h k = absurd p
 one_result held (Show page) one other p h k = h ∙ sym k
 
 -- a call that is done has written each text that its command asks for, of which there is one

@@ -31,7 +31,7 @@ use Rattle.vx_cli.proofs.VerifyShown.{ModelShows, input_cause, model_shows, no_c
 -- ---- the class files
 
 -- a class is read with what it says of its source where it is read alone
-traced_classes : GivesClasses traced_of (λ t. t.class)
+pub traced_classes : GivesClasses traced_of (λ t. t.class)
 traced_classes = record { spelled = λ bytes x e. is_class bytes (class_of bytes) x e; refused = λ bytes fault e. is_none bytes (class_of bytes) fault e }
   where
     is_class : (bytes : List ℕ) (r : Result ClassFile Fault) (x : Traced) → (r >>= λ class. Ok (with_source bytes class)) ≡ Ok x → r ≡ Ok x.class
@@ -42,7 +42,7 @@ traced_classes = record { spelled = λ bytes x e. is_class bytes (class_of bytes
     is_none bytes (Ok class) fault e = cc
     is_none bytes (Err other) fault e = cc
 
-all_read : (held : Held) (folder : List ℕ) (paths : List (List ℕ)) (traced : List Traced) → AreAllGiven traced_of held folder paths traced → AreAll held folder paths (map (λ (t : Traced). t.class) traced)
+pub all_read : (held : Held) (folder : List ℕ) (paths : List (List ℕ)) (traced : List Traced) → AreAllGiven traced_of held folder paths traced → AreAll held folder paths (map (λ (t : Traced). t.class) traced)
 all_read held folder paths traced h = record { listed = h.listed; few = h.few; good = all_classes traced_classes held folder paths traced h.good }
 
 -- ---- the whole

@@ -1,5 +1,5 @@
 -- What the plan of `run` gave shows in terms of the files.
-use Rattle.std.proofs.Common.{◌≡◌, ◌≤◌, ◌<◌, ℕ, true, false, List, ◌∷◌, ◌++◌, length, IfSome, Some, Result, Ok, Err, inl, inr, ◌⊎◌, refl, ap, sym, ◌∙◌, arith}
+use Rattle.std.proofs.Common.{◌≡◌, ◌≤◌, ◌<◌, ℕ, Bool, true, false, List, ◌∷◌, ◌++◌, length, IfSome, Some, Result, Ok, Err, inl, inr, ◌⊎◌, refl, ap, sym, ◌∙◌, arith}
 use Rattle.vx_io.specs.Call.{Reading}
 use Rattle.vx_io.specs.Held.{Held, FilesState, contents}
 use Rattle.vx_io.specs.Sink.{SinkState}
@@ -93,21 +93,21 @@ unfolding program_in
 faulty_program main model classes fault e = ap or_bad_link e
 
 -- whatever the plan of `run` gave is shown by the files
-pub run_shows : (old new : FilesState) (folder path main : List ℕ) (limit version : ℕ) (outcome : Outcome) → MayGive old.held old.faults new.faults (run_plan folder path main limit version) outcome → Shows old new (Run folder path main limit version) outcome
-run_shows old new folder path main limit version outcome g = by_model (model_shows old new folder path main _ outcome g)
+pub run_shows : (old new : FilesState) (watched : Bool) (folder path main : List ℕ) (limit version : ℕ) (outcome : Outcome) → MayGive old.held old.faults new.faults (run_plan folder path main limit version) outcome → Shows old new (Run watched folder path main limit version) outcome
+run_shows old new watched folder path main limit version outcome g = by_model (model_shows old new folder path main _ outcome g)
   where
-    refused : (status : Status) → outcome ≡ Err status → RunCause old new folder path main status → Shows old new (Run folder path main limit version) outcome
+    refused : (status : Status) → outcome ≡ Err status → RunCause old new folder path main status → Shows old new (Run watched folder path main limit version) outcome
     refused status e cause = rw e cause
 
     by_refusal : (model : Model) (paths : List (List ℕ)) (classes : List ClassFile) → IfSome old.held (λ held. IsGoodModel held path model) → IfSome old.held (λ held. AreAll held folder paths classes)
         → (status : Status) → outcome ≡ Err status → (fault : LinkFault) × (status ≡ BadLink fault) × (linked_program classes model.options (slashed main) ≡ Err fault)
-        → Shows old new (Run folder path main limit version) outcome
+        → Shows old new (Run watched folder path main limit version) outcome
     by_refusal model paths classes modeled all status is n =
         refused (BadLink n.0) (is ∙ ap Err n.1) (told_both old.held _ _ _ (λ held m h. record { model = model; modeled = m; paths = paths; classes = classes; all = h; faulty = n.2 }) modeled all)
 
     by_program : (model : Model) (paths : List (List ℕ)) (classes : List ClassFile) → IfSome old.held (λ held. IsGoodModel held path model) → IfSome old.held (λ held. AreAll held folder paths classes)
         → ((status : Status) × (program_in main model classes ≡ Err status) × (outcome ≡ Err status)) ⊎ ((program : Program) × (program_in main model classes ≡ Ok program) × MayGive old.held old.faults new.faults (Write (Report version model limit program)) outcome)
-        → Shows old new (Run folder path main limit version) outcome
+        → Shows old new (Run watched folder path main limit version) outcome
     by_program model paths classes modeled all (inl bad) = by_refusal model paths classes modeled all bad.0 bad.2 (refused_program main model classes bad.0 bad.1)
     by_program model paths classes modeled all (inr good) =
         let written = good.2 in
@@ -123,18 +123,18 @@ run_shows old new folder path main limit version outcome g = by_model (model_sho
           }) modeled all,
         ))
 
-    by_folder : (model : Model) → IfSome old.held (λ held. IsGoodModel held path model) → FolderShows class_of (λ class. class) old new folder path (run_classes main limit version model) outcome → Shows old new (Run folder path main limit version) outcome
+    by_folder : (model : Model) → IfSome old.held (λ held. IsGoodModel held path model) → FolderShows class_of (λ class. class) old new folder path (run_classes main limit version model) outcome → Shows old new (Run watched folder path main limit version) outcome
     by_folder model modeled (inl stop) = refused stop.0 stop.1 (run_cause old new folder path main stop.0 stop.2)
     by_folder model modeled (inr read) = by_program model read.0 read.1 modeled read.2 (attempt_cases old.held old.faults new.faults (program_in main model read.1) _ outcome read.4)
 
-    by_model : ModelShows old new folder path main (λ model. read_folder class_of folder (run_classes main limit version model)) outcome → Shows old new (Run folder path main limit version) outcome
+    by_model : ModelShows old new folder path main (λ model. read_folder class_of folder (run_classes main limit version model)) outcome → Shows old new (Run watched folder path main limit version) outcome
     by_model (inl stop) = refused stop.0 stop.1 stop.2
     by_model (inr modeled) = by_folder modeled.0 modeled.1 (folder_shows class_of (λ class. class) classes_alone old new folder path (run_classes main limit version modeled.0) outcome modeled.2)
 
 -- a run over good files, in which nothing fails, is done
-pub run_completes : (old new : FilesState) (out out' : SinkState) (folder model main : List ℕ) (limit version : ℕ) (held : Held) (status : Status) → old.held ≡ Some held → IsGood held (Run folder model main limit version) → NothingFails held old new out out' (Run folder model main limit version)
-    → IsShown old new out out' (Run folder model main limit version) status → (status ≡ Done) ⊎ (status ≡ NoMemory)
-run_completes old new out out' folder model main limit version held status told good fails shown = by_status status shown
+pub run_completes : (old new : FilesState) (out out' : SinkState) (watched : Bool) (folder model main : List ℕ) (limit version : ℕ) (held : Held) (status : Status) → old.held ≡ Some held → IsGood held (Run watched folder model main limit version) → NothingFails held old new out out' (Run watched folder model main limit version)
+    → IsShown old new out out' (Run watched folder model main limit version) status → (status ≡ Done) ⊎ (status ≡ NoMemory)
+run_completes old new out out' watched folder model main limit version held status told good fails shown = by_status status shown
   where
     here : (P : Held → Type 0) → IfSome old.held P → P held
     here P h = rw told at h
@@ -159,7 +159,7 @@ run_completes old new out out' folder model main limit version held status told 
         let clash : true ≡ false = sym good.1.allows.1 ∙ none in
         cc
 
-    by_status : (s : Status) → IsShown old new out out' (Run folder model main limit version) s → (s ≡ Done) ⊎ (s ≡ NoMemory)
+    by_status : (s : Status) → IsShown old new out out' (Run watched folder model main limit version) s → (s ≡ Done) ⊎ (s ≡ NoMemory)
     by_status Done h = inl refl
     by_status NoMemory h = inr refl
     by_status WriteFault h = absurd (fails.3 h.0)

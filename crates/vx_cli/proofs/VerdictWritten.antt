@@ -19,7 +19,7 @@ use Rattle.vx_plans.specs.Verdicts.{IsSoundText, VERIFIED, verdict_text}
 use Rattle.vx_run_commands.specs.Verify.{IsVerdictOf, verify_plan}
 use Rattle.vx_plans.specs.declared.status.Status.{Status}
 use Rattle.vx_plans.specs.declared.status.Status.TheVariants.{Done, NoMemory, WriteFault}
-use Rattle.vx_run_commands.proofs.Ran.{linked_is}
+use Rattle.vx_plans.proofs.Linked.{linked_is}
 use Rattle.vx_cli.proofs.VerifyShown.{IsJudged, verify_gave}
 
 -- the first bytes of the two lines

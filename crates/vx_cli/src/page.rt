@@ -17,11 +17,14 @@ pub enum Page {
 const HELP: &[u8] =
     b"varexj runs a configurable Java program once for all settings of its options.\n\
 \n\
+\x20 varexj doctor FOLDER MODEL MAIN  what a program and a model have and lack, before a run\n\
 \x20 varexj run FOLDER MODEL MAIN LIMIT [1|2]  the report: each piece of output and each\n\
 \x20                                           end of a run, with its configurations\n\
+\x20 varexj watch FOLDER MODEL MAIN LIMIT [1|2]  the same, and on the standard error how far\n\
+\x20                                             it has come, each 100,000 rounds\n\
 \x20 varexj project REPORT CONFIG     what a report says of one configuration\n\
 \x20 varexj output REPORT CONFIG [out|err]  the bytes that one configuration prints\n\
-\x20 varexj explain REPORT            its ends and pieces, with rules and examples\n\
+\x20 varexj explain REPORT [ends]     its ends and pieces, or ends, with rules and examples\n\
 \x20 varexj check REPORT [EXPECTED]   which configurations end otherwise than they should\n\
 \x20 varexj count REPORT              how many configurations have each end and piece\n\
 \x20 varexj list REPORT [N]           its first N configurations, or 1000, with their ends\n\

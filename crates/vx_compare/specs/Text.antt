@@ -7,8 +7,8 @@ use Rattle.vx_report.specs.declared.report.Report.{Report}
 use Rattle.vx_cover.specs.Text.{configuration_text}
 use Rattle.vx_count.specs.Settings.{number}
 use Rattle.vx_explain.specs.Scopes.{rule_within}
-use Rattle.vx_explain.specs.Text.{rule_text}
-use Rattle.vx_explain.specs.declared.literal.Literal.{Literal}
+use Rattle.vx_explain.specs.Text.{spelled_rule}
+use Rattle.vx_explain.specs.declared.rule.Rule.{Rule}
 use Rattle.vx_compare.specs.Differ.{differing, differs, has_either}
 use Rattle.vx_compare.specs.Names.{IsWide, all_names}
 use Rattle.vx_compare.specs.Ways.{ways_of}
@@ -18,11 +18,11 @@ use Rattle.vx_compare.specs.declared.lines.Difference.TheVariants.{Line, Mixed, 
 use Rattle.vx_compare.specs.declared.lines.LineDifference.{LineDifference}
 use Rattle.vx_compare.specs.declared.ways.Way.{Way}
 
-abbrev pub given_text : List (List ℕ) → Option (List (List Literal)) → List ℕ
+abbrev pub given_text : List (List ℕ) → Option Rule → List ℕ
 given_text names None = codes "-"
-given_text names (Some terms) = rule_text names terms
+given_text names (Some rule) = spelled_rule names rule
 
-abbrev pub when_line : List (List ℕ) → Option (List (List Literal)) → List ℕ
+abbrev pub when_line : List (List ℕ) → Option Rule → List ℕ
 when_line names rule = codes "when " ++ given_text names rule ++ codes "\n"
 
 -- the stream and the number of the first line that differs

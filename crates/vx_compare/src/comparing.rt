@@ -10,14 +10,14 @@ ghost use Rattle.vx_compare.specs.Differ.{differs, has_either};
 ghost use Rattle.vx_compare.specs.Text.{compared_of};
 ghost use Rattle.vx_compare.specs.Ways.{AreSides, ids_from, sides, ways_against, ways_of};
 
-use crate::ways::{Side, Way, push_way, rule_of};
+use crate::ways::{Side, Way, push_way};
 use std::alloc::{AllocError, Global};
 use std::collections::BTreeMap;
 use vx_agree::agreement;
 use vx_bdd_tools::sets_of;
 use vx_count::count_of;
 use vx_cover::{ended, first_ends};
-use vx_explain::Term;
+use vx_explain::{Rule, rule_within};
 use vx_list::Items;
 use vx_report::Report;
 use vx_space::{Space, SpaceFault};
@@ -30,7 +30,7 @@ pub struct Compared {
     /// At how many of them they differ.
     pub differ: u128,
     /// The rule under which they do, among those, if it is short.
-    pub rule: Option<Items<Term>>,
+    pub rule: Option<Rule>,
     pub ways: Items<Way>,
 }
 
@@ -189,7 +189,7 @@ fn compared_by<S: Space>(
     ensures compared { IfOk result (λ compared. compared ≡ compared_of one.now other.now) }
 {
     let mut numbers = BTreeMap::new(alloc);
-    let rule = rule_of(alloc, space, differ, of)?;
+    let rule = rule_within(alloc, space, differ, of)?;
     let number_of = count_of(space, &mut numbers, of)?;
     let number_differ = count_of(space, &mut numbers, differ)?;
     let mut ways = Vec::new(alloc);

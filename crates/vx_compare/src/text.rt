@@ -9,29 +9,24 @@ use crate::lines::{Difference, LineDifference};
 use crate::ways::Way;
 use std::alloc::{AllocError, Global};
 use vx_cover::put_configuration;
-use vx_explain::{Term, put_rule};
-use vx_list::Items;
+use vx_explain::{Rule, put_rule};
 use vx_report::{Report, put_spelled, word_of_stream};
 use vx_space::Config;
 use vx_value::Name;
 use vx_words::{TEXT, put_number};
 
 /// Puts a rule, or a dash where there is no short one.
-fn put_given(
-    out: &mut Vec<u8>,
-    names: &[Name],
-    rule: &Option<Items<Term>>,
-) -> Result<(), AllocError>
+fn put_given(out: &mut Vec<u8>, names: &[Name], rule: &Option<Rule>) -> Result<(), AllocError>
     ensures { OnOk result (out.new.items ≡ out.old.items ++ given_text names.now rule.now) }
 {
     match rule {
-        Some(terms) => put_rule(out, names, terms.as_slice()),
+        Some(rule) => put_rule(out, names, rule),
         None => out.extend_from_slice(b"-"),
     }
 }
 
 /// Puts the line of a rule, or of a dash where there is no short one.
-fn put_when(out: &mut Vec<u8>, names: &[Name], rule: &Option<Items<Term>>) -> Result<(), AllocError>
+fn put_when(out: &mut Vec<u8>, names: &[Name], rule: &Option<Rule>) -> Result<(), AllocError>
     ensures { OnOk result (out.new.items ≡ out.old.items ++ when_line names.now rule.now) }
 {
     out.extend_from_slice(b"when ")?;

@@ -5,7 +5,6 @@ ghost use Rattle.std.specs.BTreeMap.{get};
 ghost use Rattle.vx_space.specs.Sets.{Extends, IsKnown, IsSet};
 ghost use Rattle.vx_count.specs.Listed.{first_settings};
 ghost use Rattle.vx_count.specs.Memo.{AreNumbers};
-ghost use Rattle.vx_explain.specs.Scopes.{rule_within};
 ghost use Rattle.vx_compare.specs.Differ.{has_either};
 ghost use Rattle.vx_compare.specs.Ways.{way_by, way_of, words_of};
 
@@ -13,8 +12,7 @@ use crate::lines::{Difference, difference_at};
 use std::alloc::{AllocError, Global};
 use std::collections::BTreeMap;
 use vx_count::{count_of, firsts};
-use vx_explain::{Term, bounds, few_terms};
-use vx_list::Items;
+use vx_explain::{Rule, rule_within};
 use vx_report::{Report, put_end};
 use vx_space::{Config, Space, SpaceFault};
 use vx_value::Name;
@@ -33,7 +31,7 @@ pub struct Way {
     pub one: Name,
     pub other: Name,
     pub number: u128,
-    pub rule: Option<Items<Term>>,
+    pub rule: Option<Rule>,
     pub example: Config,
     pub difference: Difference,
 }
@@ -58,22 +56,6 @@ fn words_of(alloc: Global, report: &Report, end: Option<u64>) -> Result<Name, Al
     let mut words = Vec::new(alloc);
     put_words(&mut words, report, end)?;
     Ok(Name::from_vec(words))
-}
-
-/// The rule of a set within a scope, if it is short.
-pub fn rule_of<S: Space>(
-    alloc: Global,
-    space: &mut S,
-    set: S::Id,
-    scope: S::Id,
-) -> Result<Option<Items<Term>>, SpaceFault>
-    requires set { IsKnown (S.sets space.old) set }
-    requires scope { IsKnown (S.sets space.old) scope }
-    ensures extends { Extends (S.sets space.old) (S.sets space.new) }
-    ensures rule { IfOk result (λ r. r ≡ rule_within (S.sets space.old).options ((S.sets space.old).test set) ((S.sets space.old).test scope)) }
-{
-    let bounds = bounds(space, set, scope)?;
-    few_terms(alloc, space, bounds.0, bounds.1)
 }
 
 /// The first configuration of a set, if it has one.
@@ -106,7 +88,7 @@ fn way_of<S: Space>(
     ensures way { IfOk result (λ way. way ≡ way_of one.now other.now ends.0 ends.1 ((S.sets space.old).test set) example) }
 {
     let number = count_of(space, numbers, set)?;
-    let rule = rule_of(alloc, space, set, of)?;
+    let rule = rule_within(alloc, space, set, of)?;
     let difference = difference_at(alloc, one, other, &example)?;
     let here = words_of(alloc, one, ends.0)?;
     let there = words_of(alloc, other, ends.1)?;

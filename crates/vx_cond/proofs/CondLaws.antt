@@ -139,6 +139,32 @@ IsCondOf-overwritten {T = T} cmp {s0 = s0} {s1 = s1} {s2 = s2} s3 old new kept m
     cases false false None None h k = refl
     cases false false None (Some y) h k = cc
 
+-- sets that were told of the space before, told of the space now
+pub IsSet-and : {I : Type 0} {s0 s1 : Sets I} → Extends s0 s1 → (a b id : I) → s0.is_known a ≡ true → s0.is_known b ≡ true → IsSet s1 id (λ c. s0.test a c && s0.test b c) → IsSet s1 id (λ c. s1.test a c && s1.test b c)
+IsSet-and e a b id h k u = record { known = u.known; test = λ c. u.test c ∙ sym (rw (e.test a c h, e.test b c k) refl) }
+
+pub IsSet-or : {I : Type 0} {s0 s1 : Sets I} → Extends s0 s1 → (a b id : I) → s0.is_known a ≡ true → s0.is_known b ≡ true → IsSet s1 id (λ c. s0.test a c || s0.test b c) → IsSet s1 id (λ c. s1.test a c || s1.test b c)
+IsSet-or e a b id h k u = record { known = u.known; test = λ c. u.test c ∙ sym (rw (e.test a c h, e.test b c k) refl) }
+
+-- what is made once the scope is there, told of the space before that
+pub IsCondOf-inside_before : {T S I : Type 0} (cmp : T → T → Ordering) {s0 s1 : Sets I} (s2 : Sets I) → Extends s0 s1 → (cond made : Conditional T S I) (within : I) → IsCond cmp s0 cond → s0.is_known within ≡ true → IsCondOf cmp s2 (value_within s1 within (cond_at s1 cond)) made → IsCondOf cmp s2 (value_within s0 within (cond_at s0 cond)) made
+unfolding IsCondOf
+IsCondOf-inside_before cmp s2 e cond made within v k m = record { is_cond = m.is_cond; at = λ c. m.at c ∙ rw (e.test within c k, cond_at-extends cmp e cond v c) refl }
+
+pub IsCondOf-joined_before : {T S I : Type 0} (cmp : T → T → Ordering) {s0 s1 : Sets I} (s2 : Sets I) → Extends s0 s1 → (a b made : Conditional T S I) → IsCond cmp s0 a → IsCond cmp s0 b → IsCondOf cmp s2 (first_of (cond_at s1 a) (cond_at s1 b)) made → IsCondOf cmp s2 (first_of (cond_at s0 a) (cond_at s0 b)) made
+unfolding IsCondOf
+IsCondOf-joined_before cmp s2 e a b made v w m = record { is_cond = m.is_cond; at = λ c. m.at c ∙ rw (cond_at-extends cmp e a v c, cond_at-extends cmp e b w c) refl }
+
+-- what `overwrite` makes where the new values have the whole scope
+pub IsCondOf-replaced : {T S I : Type 0} (cmp : T → T → Ordering) (sets : Sets I) (old new : Conditional T S I) → IsCond cmp sets old → IsCond cmp sets new → new.scope ≡ old.scope → IsCondOf cmp sets (first_of (cond_at sets new) (cond_at sets old)) new
+unfolding IsCond IsCondOf
+IsCondOf-replaced {T = T} cmp sets old new v w e = record { is_cond = w; at = λ c. cases (cond_at sets new c) (cond_at sets old c) (w.covers c ∙ ap (λ i. sets.test i c) e ∙ sym (v.covers c)) }
+  where
+    cases : (n o : Option T) → is_some n ≡ is_some o → n ≡ option_or n o
+    cases (Some x) o h = refl
+    cases None None h = refl
+    cases None (Some y) h = cc
+
 pub ruleset conds = (IsCond-extends, cond_at-extends, AreLeaves-extends, Extends-trans, IsCondOf-restricted, IsCondOf-joined, IsCondOf-overwritten, AreLeavesApart-disjoint, kept_scope)
 
 -- a Cond with these values is a Cond, and has them

@@ -12,7 +12,7 @@ use Rattle.vx_cond.specs.Keeping.{AreKept-append_left, AreKept-append_right, val
 use Rattle.vx_cond.specs.Leaves.{value_within, first_of, AreLeaves}
 use Rattle.vx_cond.specs.Cond.{Conditional, cond_at, cond_ids, IsCond, IsCondOf, AreDisjoint}
 use Rattle.vx_cond.specs.Row.{Conditionals, row_ids, AreConds, IsRow, IsRowOf, conds_at, values_within, firsts_of, zip_with}
-use Rattle.vx_cond.proofs.CondLaws.{IsCond-extends, cond_at-extends, AreDisjoint-extends, some_or}
+use Rattle.vx_cond.proofs.CondLaws.{IsCond-extends, cond_at-extends, AreDisjoint-extends, IsSet-and, IsSet-or}
 
 pub AreConds-extends : {T S I : Type 0} (cmp : T → T → Ordering) {old new : Sets I} → Extends old new → (scope : I) (xs : List (Conditional T S I)) → AreConds cmp old scope xs → AreConds cmp new scope xs
 unfolding IsCond IsCondOf IsRow IsRowOf
@@ -50,19 +50,19 @@ pub record IsRestrictingRow {T S I : Type 0} (cmp : T → T → Ordering) (start
   pub conds : AreConds cmp sets inner made
   pub values : (c : List Bool) → conds_at sets made c ≡ values_within start within (conds_at start (take i xs)) c
 
-within_scope : {T : Type 0} (b : Bool) (o : Option T) (d : Bool) → is_some o ≡ d → is_some (if b then o else None) ≡ (d && b)
-within_scope true o true h = h
-within_scope true o false h = h
-within_scope false o true h = refl
-within_scope false o false h = refl
+-- the scope of what is made of a part
+pub inner_there : {T S I : Type 0} (cmp : T → T → Ordering) {s0 s1 : Sets I} (scope : I) (xs : List (Conditional T S I)) (i : ℕ) (x : Conditional T S I) (within inner : I) → AreConds cmp s0 scope xs → s0.is_known within ≡ true → IsSet s0 inner (λ c. s0.test scope c && s0.test within c) → i < length xs → x ≡ get_or xs i x → Extends s0 s1 → IsSet s1 inner (λ c. s1.test x.scope c && s1.test within c)
+unfolding IsCond IsRow
+inner_there cmp {s0 = s0} {s1 = s1} scope xs i x within inner h w n l e f =
+    let place = cond_in_row cmp s0 scope xs i x h l e in
+    IsSet-and f x.scope within inner place.0.scope_known w (record { known = f.known inner n.known; test = λ c. f.test inner c n.known ∙ n.test c ∙ ap (λ j. s0.test j c && s0.test within c) (sym place.1) })
 
-pub IsRestrictingRow-step : {T S I : Type 0} (cmp : T → T → Ordering) {s0 s1 s2 : Sets I} → IsLawful s2 → (scope : I) (xs : List (Conditional T S I)) (i : ℕ) (x : Conditional T S I) (within inner : I) (part : Conditional T S I) (made : List (Conditional T S I)) → AreConds cmp s0 scope xs → s0.is_known within ≡ true → IsSet s0 inner (λ c. s0.test scope c && s0.test within c) → i < length xs → x ≡ get_or xs i x → IsRestrictingRow cmp s0 s1 xs within inner i made → Extends s1 s2 → IsCondOf cmp s2 (value_within s1 within (cond_at s1 x)) part → IsRestrictingRow cmp s0 s2 xs within inner (i + 1) (made ++ part ∷ [])
+pub IsRestrictingRow-step : {T S I : Type 0} (cmp : T → T → Ordering) {s0 s1 s2 : Sets I} (scope : I) (xs : List (Conditional T S I)) (i : ℕ) (x : Conditional T S I) (within inner : I) (part : Conditional T S I) (made : List (Conditional T S I)) → AreConds cmp s0 scope xs → s0.is_known within ≡ true → i < length xs → x ≡ get_or xs i x → IsRestrictingRow cmp s0 s1 xs within inner i made → Extends s1 s2 → part.scope ≡ inner → IsCondOf cmp s2 (value_within s1 within (cond_at s1 x)) part → IsRestrictingRow cmp s0 s2 xs within inner (i + 1) (made ++ part ∷ [])
 unfolding IsCond IsCondOf IsRow IsRowOf
-IsRestrictingRow-step {T = T} {S = S} {I = I} cmp {s0 = s0} {s1 = s1} {s2 = s2} lawful scope xs i x within inner part made h w n l e r e1 p =
+IsRestrictingRow-step {T = T} {S = S} {I = I} cmp {s0 = s0} {s1 = s1} {s2 = s2} scope xs i x within inner part made h w l e r e1 same p =
     let place = cond_in_row cmp s0 scope xs i x h l e in
     let f = Extends-trans r.extends e1 in
     let value : (c : List Bool) → value_within s1 within (cond_at s1 x) c ≡ (if s0.test within c then cond_at s0 x c else None) = λ c. rw (r.extends.test within c w, cond_at-extends cmp r.extends x place.0 c) refl in
-    let same = scope_is cmp lawful _ part inner (λ c. s0.test scope c && s0.test within c) p (IsSet-extends f inner _ n) (λ c. ap is_some (value c) ∙ within_scope (s0.test within c) (cond_at s0 x c) (s0.test scope c) (place.0.covers c ∙ ap (λ j. s0.test j c) place.1)) in
     record {
       extends = f;
       conds = AreConds-push cmp s2 inner made part (AreConds-extends cmp e1 inner made r.conds) p.is_cond same;
@@ -97,15 +97,22 @@ conds_at-more sets xs i x c l e = ap (λ ys. conds_at sets ys c) (take_more xs i
 same_lengths : {A B : Type 0} (f g : A → B) (xs ys : List A) (i : ℕ) → length xs ≡ length ys → length (map f (take i xs)) ≡ length (map g (take i ys))
 same_lengths f g xs ys i e = simp (length-map, length-take) (rw e refl)
 
-pub IsJoiningRow-step : {T S I : Type 0} (cmp : T → T → Ordering) {s0 s1 s2 : Sets I} → IsLawful s2 → (first second : I) (xs ys : List (Conditional T S I)) (i : ℕ) (x y : Conditional T S I) (outer : I) (part : Conditional T S I) (made : List (Conditional T S I)) → AreConds cmp s0 first xs → AreConds cmp s0 second ys → length xs ≡ length ys → IsSet s0 outer (λ c. s0.test first c || s0.test second c) → i < length xs → x ≡ get_or xs i x → y ≡ get_or ys i y → IsJoiningRow cmp s0 s1 xs ys outer i made → Extends s1 s2 → IsCondOf cmp s2 (first_of (cond_at s1 x) (cond_at s1 y)) part → IsJoiningRow cmp s0 s2 xs ys outer (i + 1) (made ++ part ∷ [])
+pub outer_there : {T S I : Type 0} (cmp : T → T → Ordering) {s0 s1 : Sets I} (first second : I) (xs ys : List (Conditional T S I)) (i : ℕ) (x y : Conditional T S I) (outer : I) → AreConds cmp s0 first xs → AreConds cmp s0 second ys → length xs ≡ length ys → IsSet s0 outer (λ c. s0.test first c || s0.test second c) → i < length xs → x ≡ get_or xs i x → y ≡ get_or ys i y → Extends s0 s1 → IsSet s1 outer (λ c. s1.test x.scope c || s1.test y.scope c)
+unfolding IsCond IsRow
+outer_there cmp {s0 = s0} {s1 = s1} first second xs ys i x y outer h k n o l e d f =
+    let less : i < length ys = omega (arith, l, n) in
+    let a = cond_in_row cmp s0 first xs i x h l e in
+    let b = cond_in_row cmp s0 second ys i y k less d in
+    IsSet-or f x.scope y.scope outer a.0.scope_known b.0.scope_known (record { known = f.known outer o.known; test = λ c. f.test outer c o.known ∙ o.test c ∙ sym (rw (a.1, b.1) refl) })
+
+pub IsJoiningRow-step : {T S I : Type 0} (cmp : T → T → Ordering) {s0 s1 s2 : Sets I} (first second : I) (xs ys : List (Conditional T S I)) (i : ℕ) (x y : Conditional T S I) (outer : I) (part : Conditional T S I) (made : List (Conditional T S I)) → AreConds cmp s0 first xs → AreConds cmp s0 second ys → length xs ≡ length ys → i < length xs → x ≡ get_or xs i x → y ≡ get_or ys i y → IsJoiningRow cmp s0 s1 xs ys outer i made → Extends s1 s2 → part.scope ≡ outer → IsCondOf cmp s2 (first_of (cond_at s1 x) (cond_at s1 y)) part → IsJoiningRow cmp s0 s2 xs ys outer (i + 1) (made ++ part ∷ [])
 unfolding IsCond IsCondOf IsRow IsRowOf
-IsJoiningRow-step {T = T} cmp {s0 = s0} {s1 = s1} {s2 = s2} lawful first second xs ys i x y outer part made h k n o l e d r e1 p =
+IsJoiningRow-step {T = T} cmp {s0 = s0} {s1 = s1} {s2 = s2} first second xs ys i x y outer part made h k n l e d r e1 same p =
     let less : i < length ys = omega (arith, l, n) in
     let a = cond_in_row cmp s0 first xs i x h l e in
     let b = cond_in_row cmp s0 second ys i y k less d in
     let f = Extends-trans r.extends e1 in
     let value : (c : List Bool) → first_of (cond_at s1 x) (cond_at s1 y) c ≡ option_or (cond_at s0 x c) (cond_at s0 y c) = λ c. rw (cond_at-extends cmp r.extends x a.0 c, cond_at-extends cmp r.extends y b.0 c) refl in
-    let same = scope_is cmp lawful _ part outer (λ c. s0.test first c || s0.test second c) p (IsSet-extends f outer _ o) (λ c. ap is_some (value c) ∙ some_or (cond_at s0 x c) (cond_at s0 y c) ∙ rw (a.0.covers c, b.0.covers c, a.1, b.1) refl) in
     record {
       extends = f;
       conds = AreConds-push cmp s2 outer made part (AreConds-extends cmp e1 outer made r.conds) p.is_cond same;

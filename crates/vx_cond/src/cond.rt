@@ -1,7 +1,7 @@
 //! Conditional values: distinct leaves in ascending value, with nonempty disjoint conditions whose union is the scope.
 
-ghost use Rattle.std.specs.Prelude.{◌≡◌, ◌++◌, [], false, Some, IfOk, OnErr, OnOk, IsNone, ◌↔◌};
-ghost use Rattle.vx_space.specs.Sets.{IsKnown, Extends};
+ghost use Rattle.std.specs.Prelude.{◌≡◌, ◌++◌, [], false, Some, IfOk, IfSome, OnErr, OnOk, IsNone, ◌↔◌, ◌&&◌, ◌||◌};
+ghost use Rattle.vx_space.specs.Sets.{IsKnown, IsSet, Extends};
 
 use crate::leaves::{
     conditions_out, copy_leaves, join_leaves, map_leaves, restrict_leaves, value_of_leaves,
@@ -41,6 +41,7 @@ impl<T: Exact, S: Space> Model for Cond<T, S> {
 impl<T: Exact, S: Space> Cond<T, S> {
     ghost use Rattle.vx_cond.specs.Leaves.{value_within, first_of};
     ghost use Rattle.vx_cond.specs.Cond.{cond_at, cond_ids, IsCond, IsCondOf, IsCondLifting, IsCondLifting2, AreDisjoint, IsInside};
+    ghost use Rattle.vx_cond.specs.Only.{IsOnly};
 
     /// One value in a scope. With the scope never it has no leaf.
     pub fn one(alloc: Global, space: &S, value: T, scope: S::Id) -> Result<Cond<T, S>, AllocError>
@@ -48,14 +49,15 @@ impl<T: Exact, S: Space> Cond<T, S> {
         ensures scope { IfOk result (λ r. r.scope ≡ scope) }
         ensures ok { IfOk result (IsCondOf T.cmp (S.sets space.now) (value_within (S.sets space.now) scope (λ _. Some value))) }
     {
-        let mut leaves = Vec::new(alloc);
-        if !space.is_never(scope) {
-            leaves.push(Leaf {
-                value,
-                condition: scope,
-            })?;
+        if space.is_never(scope) {
+            return Ok(Cond::of(scope, Vec::new(alloc)));
         }
-        Ok(Cond { scope, leaves })
+        let mut leaves = Vec::with_capacity(alloc, 1)?;
+        leaves.push(Leaf {
+            value,
+            condition: scope,
+        })?;
+        Ok(Cond::of(scope, leaves))
     }
 
     fn of(scope: S::Id, leaves: Vec<Leaf<T, S>>) -> Cond<T, S>
@@ -82,6 +84,45 @@ impl<T: Exact, S: Space> Cond<T, S> {
     /// The allocator of the leaves.
     fn allocator(&self) -> Global {
         *self.leaves.allocator()
+    }
+
+    /// The value of the only leaf, where there is one leaf.
+    fn only(&self) -> Option<T>
+        ensures { IfSome result (λ value. IsOnly value self.now.leaves) }
+    {
+        let leaves = self.leaves();
+        if leaves.len() == 1 {
+            return Some(leaves[0].value);
+        }
+        None
+    }
+
+    /// The values of the only leaves of both.
+    fn only_two<U: Exact>(&self, other: &Cond<U, S>) -> Option<(T, U)>
+        ensures { IfSome result (λ r. IsOnly r.0 self.now.leaves × IsOnly r.1 other.now.leaves) }
+    {
+        match self.only() {
+            Some(first) => match other.only() {
+                Some(second) => Some((first, second)),
+                None => None,
+            },
+            None => None,
+        }
+    }
+
+    /// The value of the only leaves of both, where it is the same.
+    fn shared(&self, other: &Cond<T, S>) -> Option<T>
+        ensures { IfSome result (λ value. IsOnly value self.now.leaves × IsOnly value other.now.leaves) }
+    {
+        match self.only_two(other) {
+            Some((first, second)) => {
+                if first.cmp(&second).is_eq() {
+                    return Some(first);
+                }
+                None
+            }
+            None => None,
+        }
     }
 
     /// The configurations at which there is a value.
@@ -116,12 +157,33 @@ impl<T: Exact, S: Space> Cond<T, S> {
         ensures ok { IfOk result (IsCondOf T.cmp (S.sets space.new) (value_within (S.sets space.old) within (cond_at (S.sets space.old) self.now))) }
     {
         let scope = space.and(self.scope(), within)?;
-        if scope == self.scope() {
-            let same = self.copied()?;
-            return Ok(same);
+        self.inside(space, within, scope)
+    }
+
+    /// The values inside a condition, with the scope that they then have. One leaf stays the only one, and asks nothing of the space.
+    pub(crate) fn inside(
+        &self,
+        space: &mut S,
+        within: S::Id,
+        scope: S::Id,
+    ) -> Result<Cond<T, S>, SpaceFault>
+        requires valid { IsCond T.cmp (S.sets space.old) self.now }
+        requires known { IsKnown (S.sets space.old) within }
+        requires scope { IsSet (S.sets space.old) scope (λ c. (S.sets space.old).test self.now.scope c && (S.sets space.old).test within c) }
+        ensures extends { Extends (S.sets space.old) (S.sets space.new) }
+        ensures scope { IfOk result (λ r. r.scope ≡ scope) }
+        ensures ok { IfOk result (IsCondOf T.cmp (S.sets space.new) (value_within (S.sets space.old) within (cond_at (S.sets space.old) self.now))) }
+    {
+        if let Some(value) = self.only() {
+            let one = Cond::one(self.allocator(), space, value, scope)?;
+            return Ok(one);
         }
         if space.is_never(scope) {
             return Ok(self.nothing(scope));
+        }
+        if scope == self.scope() {
+            let same = self.copied()?;
+            return Ok(same);
         }
         let leaves = restrict_leaves(self.allocator(), space, self.leaves(), within)?;
         Ok(Cond::of(scope, leaves))
@@ -137,6 +199,28 @@ impl<T: Exact, S: Space> Cond<T, S> {
         ensures ok { IfOk result (IsCondOf T.cmp (S.sets space.new) (first_of (cond_at (S.sets space.old) self.now) (cond_at (S.sets space.old) other.now))) }
     {
         let scope = space.or(self.scope(), other.scope())?;
+        self.joined(space, other, scope)
+    }
+
+    /// The values of both sides, with the scope that they then have. One value that both have asks nothing of the space.
+    pub(crate) fn joined(
+        &self,
+        space: &mut S,
+        other: &Cond<T, S>,
+        scope: S::Id,
+    ) -> Result<Cond<T, S>, SpaceFault>
+        requires first { IsCond T.cmp (S.sets space.old) self.now }
+        requires second { IsCond T.cmp (S.sets space.old) other.now }
+        requires disjoint { AreDisjoint (S.sets space.old) self.now.scope other.now.scope }
+        requires scope { IsSet (S.sets space.old) scope (λ c. (S.sets space.old).test self.now.scope c || (S.sets space.old).test other.now.scope c) }
+        ensures extends { Extends (S.sets space.old) (S.sets space.new) }
+        ensures scope { IfOk result (λ r. r.scope ≡ scope) }
+        ensures ok { IfOk result (IsCondOf T.cmp (S.sets space.new) (first_of (cond_at (S.sets space.old) self.now) (cond_at (S.sets space.old) other.now))) }
+    {
+        if let Some(value) = self.shared(other) {
+            let one = Cond::one(self.allocator(), space, value, scope)?;
+            return Ok(one);
+        }
         let leaves = join_leaves(self.allocator(), space, self.leaves(), other.leaves())?;
         Ok(Cond::of(scope, leaves))
     }
@@ -150,6 +234,10 @@ impl<T: Exact, S: Space> Cond<T, S> {
         ensures extends { Extends (S.sets space.old) (S.sets space.new) }
         ensures ok { IfOk result (IsCondOf T.cmp (S.sets space.new) (first_of (cond_at (S.sets space.old) new.now) (cond_at (S.sets space.old) self.now))) }
     {
+        if new.scope() == self.scope() {
+            let same = new.copied()?;
+            return Ok(same);
+        }
         let rest = space.minus(self.scope(), new.scope())?;
         let kept = self.restrict(space, rest)?;
         new.join(space, &kept)
@@ -167,6 +255,11 @@ impl<T: Exact, S: Space> Cond<T, S> {
         ensures scope { IfOk result (λ r. r.scope ≡ self.now.scope) }
         ensures ok { IfOk result (IsCondLifting U.cmp (S.sets space.new) (F.post f) (cond_at (S.sets space.old) self.now)) }
     {
+        if let Some(value) = self.only() {
+            let made = f(value);
+            let one = Cond::one(self.allocator(), space, made, self.scope())?;
+            return Ok(one);
+        }
         let leaves = map_leaves(self.allocator(), space, self.leaves(), f)?;
         Ok(Cond::of(self.scope(), leaves))
     }
@@ -186,6 +279,11 @@ impl<T: Exact, S: Space> Cond<T, S> {
         ensures scope { IfOk result (λ r. r.scope ≡ self.now.scope) }
         ensures ok { IfOk result (IsCondLifting2 V.cmp (S.sets space.new) (F.post f) (cond_at (S.sets space.old) self.now) (cond_at (S.sets space.old) other.now)) }
     {
+        if let Some((first, second)) = self.only_two(other) {
+            let value = f(first, second);
+            let one = Cond::one(self.allocator(), space, value, self.scope())?;
+            return Ok(one);
+        }
         let leaves = zip_leaves(self.allocator(), space, self.leaves(), other.leaves(), &f)?;
         Ok(Cond::of(self.scope(), leaves))
     }

@@ -201,7 +201,7 @@ fn restrict_conds<T: Exact, S: Space>(
 {
     let mut made = Vec::with_capacity(alloc, conds.len())?;
     for cond in conds {
-        let part = cond.restrict(space, within)?;
+        let part = cond.inside(space, within, inner)?;
         made.push(part)?;
     }
     Ok(made)
@@ -229,7 +229,7 @@ fn join_conds<T: Exact, S: Space>(
 {
     let mut made = Vec::with_capacity(alloc, conds.len())?;
     for i in 0..conds.len() {
-        let part = conds[i].join(space, &others[i])?;
+        let part = conds[i].joined(space, &others[i], outer)?;
         made.push(part)?;
     }
     Ok(made)

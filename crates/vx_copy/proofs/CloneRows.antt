@@ -7,9 +7,9 @@ use Rattle.vx_cells.proofs.Making.{making-attempts, making-ready}
 use Rattle.vx_cond.specs.Cond.{Conditional, IsCond}
 use Rattle.vx_cond.specs.Slots.{slot_at}
 use Rattle.vx_families.specs.Attempts.{AttemptsBy}
-use Rattle.vx_fields.proofs.Gets.{AttemptsBy-stays}
-use Rattle.vx_fields.specs.Statics.{top_of}
-use Rattle.vx_fields.proofs.Tops.{below_top, top_is, top_is_cond, top_operands, top_scope}
+use Rattle.vx_ready.proofs.Given.{AttemptsBy-stays}
+use Rattle.vx_families.specs.Sorts.{top_of}
+use Rattle.vx_ready.proofs.Tops.{below_top, top_is, top_is_cond, top_operands, top_scope}
 use Rattle.vx_frame.specs.declared.frame.Frame.{Frame}
 use Rattle.vx_group.specs.Group.{GroupView, path_of}
 use Rattle.vx_group.specs.declared.callers.Caller.{Caller}

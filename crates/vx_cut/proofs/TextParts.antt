@@ -19,6 +19,7 @@ use Rattle.vx_explain.specs.Read.{RulesAreReadBack, options_of}
 use Rattle.vx_explain.specs.Rules.{AreOf, term_rule}
 use Rattle.vx_explain.specs.Text.{rule_text, term_text}
 use Rattle.vx_explain.specs.declared.literal.Literal.{Literal}
+use Rattle.vx_explain.specs.declared.rule.Rule.TheVariants.{AnyOf}
 use Rattle.vx_cut.specs.Parts.{with_term}
 use Rattle.vx_cut.specs.Texts.{demand, heading, line_with, lines_with, part_text}
 use Rattle.vx_cut.proofs.LineTexts.{IsUnbroken, ended_then, line_then, parts_unbroken, plain_both, plain_kept, plain_unbroken}
@@ -62,7 +63,7 @@ rule_said law model term names of =
     behind_rule model.options (term_text (names_of model) term) (rule_line_plain model term names.named)
     ∙ ap (λ t. rule_line model.options (32 ∷ t)) (sym (one_rule (names_of model) term))
     ∙ sym (rule_same model.options (32 ∷ rule_text (names_of model) (term ∷ [])))
-    ∙ law (names_of model) (term ∷ []) names (subst (λ n. AreOf n (term ∷ [])) (sym count) of)
+    ∙ law (names_of model) (AnyOf (term ∷ [])) names (subst (λ n. AreOf n (term ∷ [])) (sym count) of)
 
 comment_said : (os : List OptionField) (model : Model) (number : ℕ) (term : List Literal) → statement_of os (heading_line false model number term) ≡ Ok statement.Nothing
 unfolding statement_of

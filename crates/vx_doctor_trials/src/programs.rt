@@ -25,7 +25,7 @@ fn class(alloc: Global, source: &[u8]) -> Result<ClassFile, Fail>
 }
 
 /// The folder of the one class that a source names.
-fn folder(alloc: Global, source: &[u8]) -> Result<Vec<ClassFile>, Fail>
+pub(crate) fn folder(alloc: Global, source: &[u8]) -> Result<Vec<ClassFile>, Fail>
     ensures few { IfOk result (λ classes. length classes.items ≡ 1) }
     ensures read { IfOk result (λ classes. All Holds classes.items) }
 {

@@ -6,18 +6,19 @@ ghost use Rattle.vx_effects.specs.Carrying.{IsCarried};
 ghost use Rattle.vx_heap.specs.Heap.{IsTextPut};
 ghost use Rattle.vx_java.specs.Ids.{HasClassNumbers};
 ghost use Rattle.vx_java.specs.Machine.{length_bound};
-ghost use Rattle.vx_link.specs.ClassNames.{array_class, char_element, core_class};
+ghost use Rattle.vx_link.specs.ClassNames.{core_class};
 ghost use Rattle.vx_natives.specs.Chars.{is_text_known};
 ghost use Rattle.vx_link.specs.declared.program.Program.{Program};
 ghost use Rattle.vx_natives.specs.Deeds.{class_raised, gives_chars, gives_integer, gives_text, prints, text_with};
 ghost use Rattle.vx_value.specs.declared.ids.ClassId.{ClassId};
 
 use std::alloc::{AllocError, Global};
-use vx_families::core_class;
 use vx_group_states::Answer;
 use vx_heap::Heap;
+use vx_java::core_class;
 use vx_link::Program;
 use vx_natives::Exception;
+use vx_references::arrays::{CHAR, array_of_primitives};
 use vx_space::{Space, SpaceFault};
 use vx_value::{ClassId, Slot, Stream};
 
@@ -82,14 +83,6 @@ pub(crate) fn give_text<S: Space>(
     Ok(Answer::Give(Slot::Ref(reference)))
 }
 
-/// The class of arrays of chars.
-fn char_array(program: &Program) -> ClassId
-    requires { HasClassNumbers program.now }
-    ensures { result.0 ≡ array_class program.now 1 char_element }
-{
-    ClassId(program.classes.len() as u32 + 2)
-}
-
 /// The units of a text as elements.
 fn elements_of(alloc: Global, units: &[u16]) -> Result<Vec<Slot>, AllocError>
     ensures { IfOk result (λ slots. slots.items ≡ map char_slot units.now) }
@@ -126,7 +119,7 @@ pub(crate) fn give_chars<S: Space>(
 {
     let size = element_count(&units)?;
     let elements = elements_of(alloc, &units)?;
-    let class = char_array(program);
+    let class = array_of_primitives(program, CHAR);
     let reference = heap.alloc_cells(alloc, class, size, &elements, condition)?;
     Ok(Answer::Give(Slot::Ref(reference)))
 }

@@ -126,7 +126,7 @@ set_agree c d option i b h = elim (cases_eq option i) [
   | inr n ↦ value_of-other c option i b n ∙ h n ∙ sym (value_of-other d option i b n)
 ]
 
-AsksFrom-side : (option later : ℕ) (set : List Bool → Bool) (b : Bool) → AsksFrom option (suc later) set → AsksFrom (option + 1) later (fixed set option b)
+pub AsksFrom-side : (option later : ℕ) (set : List Bool → Bool) (b : Bool) → AsksFrom option (suc later) set → AsksFrom (option + 1) later (fixed set option b)
 AsksFrom-side option later set b a c d h = a (with_option c option b) (with_option d option b) (λ i l m. set_agree c d option i b (λ n. h i (omega (arith, l, n)) (omega (arith, m))))
 
 -- a set that depends on no option before one asks those from it on
@@ -189,10 +189,10 @@ none_between (suc later) option least most none =
 AsksFrom-or : (option later : ℕ) (a b : List Bool → Bool) → AsksFrom option later a → AsksFrom option later b → AsksFrom option later (λ c. a c || b c)
 AsksFrom-or option later a b p q c d h = λ i. p c d h i || q c d h i
 
-AsksFrom-and : (option later : ℕ) (a b : List Bool → Bool) → AsksFrom option later a → AsksFrom option later b → AsksFrom option later (λ c. a c && b c)
+pub AsksFrom-and : (option later : ℕ) (a b : List Bool → Bool) → AsksFrom option later a → AsksFrom option later b → AsksFrom option later (λ c. a c && b c)
 AsksFrom-and option later a b p q c d h = λ i. p c d h i && q c d h i
 
-AsksFrom-outside : (option later : ℕ) (a b : List Bool → Bool) → AsksFrom option later a → AsksFrom option later b → AsksFrom option later (outside a b)
+pub AsksFrom-outside : (option later : ℕ) (a b : List Bool → Bool) → AsksFrom option later a → AsksFrom option later b → AsksFrom option later (outside a b)
 AsksFrom-outside option later a b p q c d h = λ i. p c d h i && not (q c d h i)
 
 -- a single term that asks nothing
@@ -279,7 +279,7 @@ terms_named later (t ∷ ts) p = (literals_named later t p.0, terms_named later 
 pub named : (options : ℕ) (least most : List Bool → Bool) → AreOf options (terms_between options 0 least most)
 named options least most = terms_named options (terms_between options 0 least most) (among options 0 least most)
 
-literal_asks : (option later : ℕ) (l : Literal) → option ≤ l.option → l.option < option + later → AsksFrom option later (literal_holds l)
+pub literal_asks : (option later : ℕ) (l : Literal) → option ≤ l.option → l.option < option + later → AsksFrom option later (literal_holds l)
 literal_asks option later l p q c d h = by l.on
   where
     by : (b : Bool) → (if b then value_of c l.option else not (value_of c l.option)) ≡ (if b then value_of d l.option else not (value_of d l.option))

@@ -34,7 +34,7 @@ bool_cases true = inl refl
 bool_cases false = inr refl
 
 -- a set that isn't never has a configuration
-some_member : {I : Type 0} {s : Sets I} → IsLawful s → (id : I) → s.is_known id ≡ true → id ≢ s.never → (c : List Bool) × (s.test id c ≡ true)
+pub some_member : {I : Type 0} {s : Sets I} → IsLawful s → (id : I) → s.is_known id ≡ true → id ≢ s.never → (c : List Bool) × (s.test id c ≡ true)
 some_member {I} {s} lawful id k n =
     let d = some_difference lawful id s.never k lawful.never_known n in
     elim (bool_cases (s.test id d.0)) [

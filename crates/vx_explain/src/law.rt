@@ -4,8 +4,7 @@ ghost use Rattle.vx_explain.specs.Read.{RulesAreReadBack};
 
 use vx_model::rules_are_the_grammar;
 
-/// The law of printed rules: behind the word `rule` in a model with the same options the text of some terms is read as the rule
-/// that one of them holds.
+/// The law of printed rules: behind the word `rule` in a model with the same options the text of a rule is read as that rule.
 pub fn rules_are_read_back()
     ensures { RulesAreReadBack }
 {

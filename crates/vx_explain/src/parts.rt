@@ -77,3 +77,13 @@ pub fn joined<S: Space>(
     let sides = space.or(inside, outside)?;
     space.or(sides, free)
 }
+
+/// All outside of a set.
+pub fn complement<S: Space>(space: &mut S, set: S::Id) -> Result<S::Id, SpaceFault>
+    requires set { IsKnown (S.sets space.old) set }
+    ensures extends { Extends (S.sets space.old) (S.sets space.new) }
+    ensures ok { IfOk result (λ r. IsSet (S.sets space.new) r (λ c. not ((S.sets space.old).test set c))) }
+{
+    let always = space.always();
+    space.minus(always, set)
+}

@@ -16,7 +16,7 @@ use Rattle.vx_outcome.specs.declared.outcome.Outcome.{Outcome}
 use Rattle.vx_group_states.specs.Sites.{Gives, GivesAt}
 use Rattle.vx_group_states.specs.Stands.{StandsIn, state_at}
 use Rattle.vx_group_states.specs.declared.site.Site.{Site}
-use Rattle.vx_group_states.proofs.OutcomeStates.{CameTo-through}
+use Rattle.vx_group_states.proofs.OutcomeStates.{CameTo-same, CameTo-through}
 use Rattle.vx_group_states.proofs.StateLaws.{Continues-same, StandsIn-extends, state_at-extends}
 use Rattle.vx_families.specs.Attempts.{AttemptsBy, AttemptsIn, IsAttemptBy, IsGiven}
 use Rattle.vx_families.specs.Texts.{HasMoreTexts}
@@ -74,3 +74,20 @@ pub IsGiven-is : {S I : Type 0} (site : Site) (operation other : Operation) (set
 IsGiven-is site operation other sets heap group e h =
     let P : Operation → Type 0 = λ o. IsGiven site o sets heap group in
     subst P e h
+
+-- ---- another row
+
+-- an attempt by another row that comes to the same
+pub AttemptsBy-same : {S I : Type 0} (site : Site) (says other : State → PlainOutcome) (s0 s1 : Sets I) (before after : HeapView S I) (group : GroupView S I) (outcomes : List (Outcome S I)) → ((tree : List (Option (Caller S I))) (c : List Bool) → says (state_at s0 before tree group c) ≡ other (state_at s0 before tree group c)) → AttemptsBy site says s0 s1 before after group outcomes → AttemptsBy site other s0 s1 before after group outcomes
+AttemptsBy-same site says other s0 s1 before after group outcomes law a = record {
+  is_for = a.is_for;
+  attempts = λ tree s.
+      let made = a.attempts tree s in
+      record {
+        is_heap = made.is_heap;
+        grows = made.grows;
+        keeps = made.keeps;
+        came = CameTo-same site.program.now s0 s1 after tree group (λ c. says (state_at s0 before tree group c)) (λ c. other (state_at s0 before tree group c)) (s0.test (path_of group)) (s0.test (path_of group)) outcomes (λ c. refl) (λ c t. law tree c) made.came;
+        outside = made.outside;
+      };
+}

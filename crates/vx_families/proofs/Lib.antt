@@ -10,3 +10,5 @@ pub mod SiteRows
 pub mod Answered
 pub mod Tops
 pub mod Operands
+pub mod ShortPools
+pub mod Sizes

@@ -1,6 +1,6 @@
 //! Groups that raise an exception of the core classes, or end outside the accepted language, as a whole.
 
-ghost use Rattle.std.specs.Prelude.{◌≡◌, IfOk, None, unwrap_or};
+ghost use Rattle.std.specs.Prelude.{IfOk, None, unwrap_or};
 ghost use Rattle.vx_space.specs.Sets.{Sets};
 ghost use Rattle.vx_java.specs.Ids.{HasClassNumbers};
 ghost use Rattle.vx_java.specs.Machine.{Raise as RaiseOf, unsupported_in};
@@ -9,22 +9,11 @@ ghost use Rattle.vx_group_states.specs.Sites.{Gives};
 
 use std::alloc::{AllocError, Global};
 use vx_group::Group;
-use vx_java::{class_of_name, place};
+use vx_java::{core_class, place};
 use vx_link::Program;
 use vx_outcome::{Outcome, Outcomes};
 use vx_space::{Space, SpaceFault};
-use vx_value::{ClassId, End, Name};
-
-/// The class of a name, or class 0 where the program has none. The core classes are always there.
-pub fn core_class(program: &Program, name: &[u8]) -> ClassId
-    requires { HasClassNumbers program.now }
-    ensures { result.0 ≡ unwrap_or (class_of_name program.now name.now) 0 }
-{
-    match class_of_name(program, name) {
-        Some(class) => class,
-        None => ClassId(0),
-    }
-}
+use vx_value::{End, Name};
 
 /// All runs of a group raise an exception of the class of this name, without a message.
 pub fn raise<S: Space>(

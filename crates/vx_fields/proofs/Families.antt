@@ -3,13 +3,12 @@ use Rattle.std.proofs.Common.{◌≡◌, ℕ, Bool, true, false, List, [], ◌&&
 use Rattle.std.specs.Prelude.{Option, is_some}
 use Rattle.vx_desc.specs.declared.java_type.JavaType.{JavaType}
 use Rattle.vx_frame.specs.declared.frame.Frame.{Frame}
-use Rattle.vx_group.specs.Group.{GroupView, path_of}
+use Rattle.vx_group.specs.Group.{GroupView}
 use Rattle.vx_group.specs.declared.callers.Caller.{Caller}
 use Rattle.vx_heap.specs.Heap.{HeapView}
 use Rattle.vx_java.specs.Checks.{same_bool, sort_of}
 use Rattle.vx_java.specs.Fields.{Found as FoundField, put_value, with_field}
-use Rattle.vx_java.specs.Machine.{Here, Outcome, State}
-use Rattle.vx_java.specs.declared.operation.Operation.{Operation}
+use Rattle.vx_java.specs.Machine.{Here, Outcome}
 use Rattle.vx_java.specs.declared.operation.Operation.TheVariants.{GetStatic, PutStatic}
 use Rattle.vx_link.specs.Names.{Member, member}
 use Rattle.vx_link.specs.Parts.{class_at, is_static_field, method_at}
@@ -19,48 +18,17 @@ use Rattle.vx_space.proofs.Spaces.{Extends-refl}
 use Rattle.vx_group_states.specs.Sites.{Gives, here}
 use Rattle.vx_group_states.specs.Stands.{state_at}
 use Rattle.vx_group_states.specs.declared.site.Site.{Site}
-use Rattle.vx_group_states.proofs.OutcomeStates.{CameTo-same}
 use Rattle.vx_value.specs.declared.ids.ClassId.{ClassId}
 use Rattle.vx_value.specs.declared.ids.FieldId.{FieldId}
-use Rattle.vx_families.specs.Attempts.{AttemptsBy, IsAttemptBy, IsGiven}
-use Rattle.vx_families.proofs.Given.{given_operands_held, given_past}
+use Rattle.vx_families.proofs.AttemptLaws.{AttemptsBy-same}
+use Rattle.vx_families.specs.Pools.{pool_class}
+use Rattle.vx_families.specs.Attempts.{AttemptsBy, IsAttemptBy}
 use Rattle.vx_references.specs.Fields.{IsFieldReference, by_reference, is_found, is_sound}
 use Rattle.vx_ready.specs.Running.{IsRunning}
 use Rattle.vx_fields.specs.Statics.{got}
 use Rattle.vx_references.specs.declared.fields.FieldReference.{FieldReference}
 use Rattle.vx_references.specs.declared.fields.FieldReference.TheVariants.{Found, NoType, Floating, NoClass, NoField, Disagrees}
-use Rattle.vx_fields.proofs.Gets.{AttemptsBy-stays}
-
--- what is given of a family
-pub IsRunning-given : {S I : Type 0} (site : Site) (operation : Operation) (sets : Sets I) (heap : HeapView S I) (group : GroupView S I) → IsGiven site operation sets heap group → IsRunning site sets heap group
-IsRunning-given site operation sets heap group given = record {
-  classes = given.bounded.classes;
-  is_heap = given.is_heap;
-  is_for = given.is_for;
-  is_group = given.is_group;
-  runs = given.runs;
-  past = given_past site operation sets heap group given;
-  held = given_operands_held site operation sets heap group given;
-}
-
--- an attempt by another row that comes to the same
-pub AttemptsBy-same : {S I : Type 0} (site : Site) (says other : State → Outcome) (s0 s1 : Sets I) (before after : HeapView S I) (group : GroupView S I) (outcomes : List (SharedOutcome S I)) → ((tree : List (Option (Caller S I))) (c : List Bool) → says (state_at s0 before tree group c) ≡ other (state_at s0 before tree group c)) → AttemptsBy site says s0 s1 before after group outcomes → AttemptsBy site other s0 s1 before after group outcomes
-AttemptsBy-same site says other s0 s1 before after group outcomes law a = record {
-  is_for = a.is_for;
-  attempts = λ tree s.
-      let made = a.attempts tree s in
-      record {
-        is_heap = made.is_heap;
-        grows = made.grows;
-        keeps = made.keeps;
-        came = CameTo-same site.program.now s0 s1 after tree group (λ c. says (state_at s0 before tree group c)) (λ c. other (state_at s0 before tree group c)) (s0.test (path_of group)) (s0.test (path_of group)) outcomes (λ c. refl) (λ c t. law tree c) made.came;
-        outside = made.outside;
-      };
-}
-
--- the pool of the class whose method stands on top of a group
-abbrev pub pool_class : {S I : Type 0} → Site → GroupView S I → ℕ
-pool_class site group = (method_at site.program.now group.top.method.0).class.0
+use Rattle.vx_ready.proofs.Given.{AttemptsBy-stays}
 
 -- ---- a field that is found
 

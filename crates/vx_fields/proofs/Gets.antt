@@ -1,14 +1,14 @@
 -- getstatic of a static field that is there: from the sets of its configurations to the attempt.
-use Rattle.std.proofs.Common.{◌≡◌, ℕ, ◌+◌, ◌<◌, ◌≤◌, Bool, true, false, List, ◌∷◌, ◌++◌, ◌&&◌, refl, sym, ◌∙◌, ap, arith, length}
+use Rattle.std.proofs.Common.{◌≡◌, ℕ, ◌+◌, ◌<◌, ◌≤◌, Bool, true, List, ◌∷◌, ◌++◌, ◌&&◌, refl, sym, ◌∙◌, ap, arith, length}
 use Rattle.std.proofs.lemmas.Bool.{lt-leb}
 use Rattle.std.proofs.lemmas.List.{length-map}
 use Rattle.std.specs.Prelude.{Option, Some, None, if◌then◌else◌, is_some, nat_le, not}
 use Rattle.vx_cond.specs.Slots.{slots_at}
 use Rattle.vx_desc.specs.declared.java_type.JavaType.{JavaType}
-use Rattle.vx_group.specs.Group.{GroupView, IsGroup, IsPartOf, path_of}
+use Rattle.vx_group.specs.Group.{GroupView, IsPartOf, path_of}
 use Rattle.vx_group.specs.declared.callers.Caller.{Caller}
 use Rattle.vx_group.proofs.GroupLaws.{IsGroup-path_known}
-use Rattle.vx_heap.specs.Heap.{Globals, HeapView, IsHeap, IsHeapFor, globals_at}
+use Rattle.vx_heap.specs.Heap.{Globals, HeapView, globals_at}
 use Rattle.vx_java.specs.Checks.{sort_of, width_of_optional, width_of_type}
 use Rattle.vx_java.specs.Fields.{Found, declaring, static_value}
 use Rattle.vx_java.specs.Initialisation.{when_initialised}
@@ -17,13 +17,12 @@ use Rattle.vx_java.specs.Machine.{Outcome as PlainOutcome}
 use Rattle.vx_java.specs.declared.operation.Sort.{Sort}
 use Rattle.vx_java.specs.declared.operation.Sort.TheVariants as sort
 use Rattle.vx_link.specs.Parts.{field_at}
-use Rattle.vx_link.specs.declared.program.Program.{Program}
 use Rattle.vx_list.specs.Places.{item_or}
 use Rattle.vx_outcome.specs.declared.outcome.Outcome.{Outcome}
 use Rattle.vx_space.specs.Sets.{Extends, IsSet, Sets}
 use Rattle.vx_space.proofs.Spaces.{Extends-refl, Extends-trans}
 use Rattle.vx_group_states.specs.Sites.{Gives, GivesAt, here}
-use Rattle.vx_group_states.specs.Stands.{StandsIn, state_at}
+use Rattle.vx_group_states.specs.Stands.{state_at}
 use Rattle.vx_group_states.specs.Widths.{slots_size}
 use Rattle.vx_group_states.specs.declared.site.Site.{Site}
 use Rattle.vx_group_states.proofs.Fitting.{slots_size-least, stack_size_of}
@@ -35,8 +34,9 @@ use Rattle.vx_ready.specs.Running.{IsRunning}
 use Rattle.vx_fields.specs.Statics.{got}
 use Rattle.vx_ready.specs.declared.initialising.Readiness.{Readiness}
 use Rattle.vx_ready.proofs.Attempting.{AttemptsBy-changed}
-use Rattle.vx_ready.proofs.Changes.{IsChanged-before, IsChanged-none}
+use Rattle.vx_ready.proofs.Changes.{IsChanged-before}
 use Rattle.vx_ready.proofs.Climbing.{inits_later}
+use Rattle.vx_ready.proofs.Given.{AttemptsBy-stays, and_none, unready}
 use Rattle.vx_ready.proofs.Going.{going-gives}
 use Rattle.vx_ready.proofs.Rows.{ready_row}
 
@@ -50,10 +50,6 @@ some_words (Some sort.Reference) h = omega arith
 -- what is asked of the operands, as of their slots
 pub room_there : {S I : Type 0} (site : Site) (s0 : Sets I) (before : HeapView S I) (tree : List (Option (Caller S I))) (group : GroupView S I) (n : ℕ) (c : List Bool) → has_room (here site (state_at s0 before tree group c)) n (state_at s0 before tree group c).top.operands ≡ nat_le (n + slots_size (slots_at s0 group.top.stack c)) site.code.now.max_stack
 room_there site s0 before tree group n c = ap (λ size. nat_le (n + size) site.code.now.max_stack) (stack_size_of s0 before c (slots_at s0 group.top.stack c))
-
--- an attempt over the heap that stays
-pub AttemptsBy-stays : {S I : Type 0} (site : Site) (says : State → PlainOutcome) {s0 s1 : Sets I} (heap : HeapView S I) (group : GroupView S I) (there : State → PlainOutcome) (outcomes : List (Outcome S I)) → IsHeap s0 heap → IsHeapFor site.program.now heap → IsGroup s0 group → Extends s0 s1 → ((tree : List (Option (Caller S I))) → StandsIn site.program.now s0 heap tree group → (c : List Bool) → s0.test (path_of group) c ≡ true → there (state_at s0 heap tree group c) ≡ says (state_at s0 heap tree group c)) → Gives site.program.now there s1 s1 group outcomes → AttemptsBy site says s0 s1 heap heap group outcomes
-AttemptsBy-stays site says {s1 = s1} heap group there outcomes v h w e law gives = AttemptsBy-changed heap heap (λ c x. x) (IsChanged-none e heap v) site says group (λ _ _. there) outcomes v h w e (λ c t x. refl) (Extends-refl s1) law (gives heap)
 
 -- as many operands as the greatest stack has words: there is no room
 pub full-attempts : {S I : Type 0} (site : Site) {s0 : Sets I} (heap : HeapView S I) (group : GroupView S I) (named field : ℕ) (type : JavaType) (outcomes : List (Outcome S I)) → IsRunning site s0 heap group → is_some (sort_of type) ≡ true → site.code.now.max_stack ≤ length group.top.stack.conds → Gives site.program.now (illegal_in site.program.now) s0 s0 group outcomes → AttemptsBy site (λ s. got (record { named = named; field = field; type = type }) (here site s)) s0 s0 heap heap group outcomes
@@ -70,12 +66,6 @@ full-attempts {S = S} {I = I} site {s0 = s0} heap group named field type outcome
         let state = state_at s0 heap tree group c in
         let found : Found = record { named = named; field = field; type = type } in
         sym (ap (λ b. when b (when_initialised (here site state) (declaring (here site state) found) (λ g. go g (static_value g.state found ∷ g.state.top.operands))) (illegal (here site state))) (room_there site s0 heap tree group (width_of_type type) c ∙ lt-leb (width_of_type type + slots_size slots) site.code.now.max_stack most))
-
-pub and_none : (a b : Bool) → a ≡ false → (a && b) ≡ false
-and_none a b h = rw h refl
-
-pub unready : (p : Program) (class : ℕ) (n : Bool) (x : Globals) → n ≡ false → readied p class n x ≡ x
-unready p class n x h = rw h refl
 
 module _ {S I : Type 0} (site : Site) (s0 s1 s2 s3 s4 : Sets I) (before after : HeapView S I) (group going : GroupView S I) (field : ℕ) (type : JavaType) (class : ClassId) (needs : I) (readiness : Readiness S I) (others made : List (Outcome S I)) (r : IsRunning site s0 before group) (declares : class ≡ (field_at site.program.now field).class) (e01 : Extends s0 s1) (n : IsSet s1 needs (λ c. s0.test (path_of group) c && nat_le (width_of_type type + slots_size (slots_at s0 group.top.stack c)) site.code.now.max_stack)) (e12 : Extends s1 s2) (ready : IsReadied site.program.now s1 s2 before after class.0 needs readiness) (e23 : Extends s2 s3) (q : IsPartOf s2 s3 (λ c. s2.test (path_of group) c && s2.test readiness.proceeds c) group going) (stopped_there : GivesWithin site.program.now (stopped_by site class.0 s2 needs readiness.fails) (λ c. s2.test (path_of group) c && not (s2.test readiness.proceeds c)) s2 s3 group others after) (e34 : Extends s3 s4) (gone : GivesAt site.program.now (λ _ _ s. go (here site s) (item_or s.statics field Top ∷ s.top.operands)) s3 s4 going made after) where
   path_known : s0.is_known (path_of group) ≡ true

@@ -1,6 +1,3 @@
-pub mod Sizes
-pub mod Tops
-pub mod Pools
 pub mod Moving
 pub mod Storing
 pub mod Gets

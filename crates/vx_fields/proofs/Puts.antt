@@ -27,15 +27,16 @@ use Rattle.vx_families.specs.Attempts.{AttemptsBy}
 use Rattle.vx_ready.specs.Changing.{IsChanged, with_globals}
 use Rattle.vx_ready.specs.Initialising.{IsReadied, goes_on, has_failed, proceeding, readied, stopped}
 use Rattle.vx_ready.specs.Running.{IsRunning}
-use Rattle.vx_fields.specs.Statics.{keeps_option, stored, top_fits, top_of}
+use Rattle.vx_fields.specs.Statics.{keeps_option, stored}
+use Rattle.vx_families.specs.Sorts.{top_fits, top_of}
 use Rattle.vx_ready.specs.declared.initialising.Readiness.{Readiness}
 use Rattle.vx_ready.proofs.Attempting.{AttemptsBy-changed, value_same}
 use Rattle.vx_ready.proofs.Changes.{IsChanged-before, IsChanged-trans}
 use Rattle.vx_ready.proofs.Climbing.{inits_later}
-use Rattle.vx_fields.proofs.Gets.{AttemptsBy-stays, and_none, unready}
+use Rattle.vx_ready.proofs.Given.{AttemptsBy-stays, and_none, unready}
 use Rattle.vx_ready.proofs.Going.{operands_later}
 use Rattle.vx_ready.proofs.Rows.{globals_of, ready_row}
-use Rattle.vx_fields.proofs.Storing.{fits_plain}
+use Rattle.vx_families.proofs.SlotSorts.{fits_plain}
 
 -- ---- one configuration
 

@@ -6,11 +6,8 @@ use Rattle.vx_cond.specs.Slots.{slot_at}
 use Rattle.vx_desc.specs.declared.java_type.JavaType.{JavaType}
 use Rattle.vx_heap.specs.Heap.{Globals, HeapView, IsHeap, IsHeapFor, IsStaticWritten, are_held, globals_at, is_held, value_of}
 use Rattle.vx_heap.proofs.HeapLaws.{globals_at-extends, is_held-extends, value_of-extends}
-use Rattle.vx_java.specs.Checks.{is_of_sort}
-use Rattle.vx_java.specs.FirstObjects.{narrow_of_type, narrowed_value, narrowed_value_to}
+use Rattle.vx_java.specs.FirstObjects.{narrow_of_type, narrowed_value}
 use Rattle.vx_java.specs.Machine.{Value}
-use Rattle.vx_java.specs.declared.operation.Sort.{Sort}
-use Rattle.vx_java.specs.declared.operation.Sort.TheVariants as sort
 use Rattle.vx_class.specs.Members.{STATIC}
 use Rattle.vx_link.specs.Parts.{has, is_static_field, no_field}
 use Rattle.vx_group_states.specs.declared.site.Site.{Site}
@@ -24,20 +21,12 @@ use Rattle.vx_value.specs.declared.slot.Slot.TheVariants.{Top, Int, Long, Null, 
 use Rattle.vx_ready.specs.Changing.{IsChanged}
 use Rattle.vx_ready.specs.Running.{IsRunning}
 use Rattle.vx_group.specs.Group.{GroupView}
-use Rattle.vx_families.proofs.SlotSorts.{same_sort}
-use Rattle.vx_fields.specs.Statics.{narrowed_slot, slot_fits, stored, top_of}
+use Rattle.vx_fields.specs.Statics.{stored}
+use Rattle.vx_families.proofs.SlotSorts.{narrowed_plain}
+use Rattle.vx_families.specs.Sorts.{narrowed_slot, top_of}
 use Rattle.vx_ready.proofs.Changes.{IsChanged-none}
 
 -- ---- slots
-
-pub narrowed_plain : {S I : Type 0} (sets : Sets I) (heap : HeapView S I) (c : List Bool) (to : Option Narrow) (slot : Slot) → value_of sets heap c (narrowed_slot to slot) ≡ narrowed_value_to to (value_of sets heap c slot)
-narrowed_plain sets heap c None slot = refl
-narrowed_plain sets heap c (Some to) Top = refl
-narrowed_plain sets heap c (Some to) (Int n) = refl
-narrowed_plain sets heap c (Some to) (Long n) = refl
-narrowed_plain sets heap c (Some to) Null = refl
-narrowed_plain sets heap c (Some to) (Ref r) = refl
-narrowed_plain sets heap c (Some to) (Text n) = refl
 
 narrowed_held : {S I : Type 0} (sets : Sets I) (heap : HeapView S I) (c : List Bool) (to : Option Narrow) (slot : Slot) → is_held sets heap c (narrowed_slot to slot) ≡ is_held sets heap c slot
 narrowed_held sets heap c None slot = refl
@@ -47,10 +36,6 @@ narrowed_held sets heap c (Some to) (Long n) = refl
 narrowed_held sets heap c (Some to) Null = refl
 narrowed_held sets heap c (Some to) (Ref r) = refl
 narrowed_held sets heap c (Some to) (Text n) = refl
-
-pub fits_plain : {S I : Type 0} (sets : Sets I) (heap : HeapView S I) (c : List Bool) (s : Option Sort) (slot : Slot) → is_of_sort s (value_of sets heap c slot) ≡ slot_fits s slot
-fits_plain sets heap c None slot = refl
-fits_plain sets heap c (Some s) slot = same_sort sets heap c s slot
 
 -- ---- the field
 

@@ -1,5 +1,5 @@
 -- Static fields, for all configurations of a group at once (JVMS 6.5 getstatic, putstatic).
-use Rattle.std.specs.Prelude.{ℕ, Bool, true, false, List, [], ◌∷◌, ◌&&◌, ◌==◌, Option, Some, None, is_some, slice_set}
+use Rattle.std.specs.Prelude.{ℕ, Bool, true, false, ◌∷◌, ◌&&◌, ◌==◌, is_some, slice_set}
 use Rattle.vx_desc.specs.Names.{is_clinit}
 use Rattle.vx_heap.specs.Heap.{Globals}
 use Rattle.vx_java.specs.Checks.{width_of_type}
@@ -8,15 +8,8 @@ use Rattle.vx_java.specs.Initialisation.{when_initialised}
 use Rattle.vx_java.specs.Machine.{Here, Outcome, Value, go, has_room, illegal, when}
 use Rattle.vx_java.specs.declared.operation.Operation.{Operation}
 use Rattle.vx_java.specs.declared.operation.Operation.TheVariants.{GetStatic, PutStatic}
-use Rattle.vx_java.specs.declared.operation.Sort.{Sort}
-use Rattle.vx_java.specs.declared.operation.Sort.TheVariants as sort
 use Rattle.vx_link.specs.Parts.{field_at, method_at}
 use Rattle.vx_link.specs.declared.program.Program.{Program}
-use Rattle.vx_value.specs.Arithmetic.{narrow_of}
-use Rattle.vx_value.specs.declared.operation.Narrow.{Narrow}
-use Rattle.vx_value.specs.declared.slot.Slot.{Slot}
-use Rattle.vx_value.specs.declared.slot.Slot.TheVariants.{Top, Int, Long, Null, Ref}
-use Rattle.vx_families.specs.Sorts.{slot_is_of}
 
 -- the operations of this family
 abbrev pub is_of_statics : Operation → Bool
@@ -32,24 +25,6 @@ got found h =
     when (has_room h (width_of_type found.type) h.state.top.operands)
     (when_initialised h (declaring h found) (λ g. go g (static_value g.state found ∷ g.state.top.operands)))
     (illegal h)
-
-abbrev pub slot_fits : Option Sort → Slot → Bool
-slot_fits None slot = false
-slot_fits (Some sort) slot = slot_is_of sort slot
-
--- the operand on top fits
-abbrev pub top_fits : Option Sort → List Slot → Bool
-top_fits sort [] = false
-top_fits sort (slot ∷ slots) = slot_fits sort slot
-
-abbrev pub top_of : List Slot → Slot
-top_of [] = Top
-top_of (slot ∷ slots) = slot
-
--- the slot of a store
-abbrev pub narrowed_slot : Option Narrow → Slot → Slot
-narrowed_slot (Some narrow) (Int n) = Int (narrow_of narrow n)
-narrowed_slot _ slot = slot
 
 -- an option keeps its value where the <clinit> of its own class writes it
 abbrev pub keeps_option : Program → (method field : ℕ) → Bool

@@ -1,9 +1,8 @@
-//! The family of static fields.
+//! The family of static fields (getstatic, putstatic), and the field that any instruction of fields names, or what comes of it where there is none.
 #![tactic(auto)]
 
 mod operands;
 pub mod statics;
 pub mod unresolved;
 
-pub use operands::{fits, narrowed, second_operand, top_operand, width_of};
 pub use statics::{attempt, field_named};

@@ -1,6 +1,6 @@
 //! What a store or a load of a static field asks of the operands, at each configuration of a group.
 
-ghost use Rattle.std.specs.Prelude.{◌≡◌, ◌&&◌, ◌+◌, ◌-◌, ◌<◌, ◌^◌, Bool, IfOk, List, Some, length, nat_le, slice_get, true};
+ghost use Rattle.std.specs.Prelude.{◌≡◌, ◌&&◌, ◌+◌, ◌<◌, ◌^◌, Bool, IfOk, List, length, nat_le, true};
 ghost use Rattle.vx_cond.specs.Cond.{IsCond, IsInside};
 ghost use Rattle.vx_cond.specs.Slots.{slot_at, slots_at};
 ghost use Rattle.vx_group.specs.Group.{IsGroup, path_of};
@@ -10,74 +10,24 @@ ghost use Rattle.vx_space.specs.Sets.{Extends, IsKnown, IsSet};
 ghost use Rattle.vx_group_states.specs.Answering.{operands_at};
 ghost use Rattle.vx_group_states.specs.Widths.{slots_size};
 ghost use Rattle.vx_value.specs.Slot.{slot_cmp};
-ghost use Rattle.vx_families.specs.Sorts.{slot_is_of};
-ghost use Rattle.vx_fields.specs.Statics.{narrowed_slot, slot_fits, top_fits, top_of};
+ghost use Rattle.vx_families.specs.Sorts.{narrowed_slot, slot_fits, top_fits, top_of};
 
 use std::alloc::Global;
 use vx_cond::Cond;
-use vx_desc::{Base, JavaType};
-use vx_families::slot_is_of;
+use vx_desc::JavaType;
+use vx_families::{fits, narrowed, top_operand};
 use vx_group::Group;
 use vx_group_states::stack_size;
-use vx_java::Sort;
-use vx_numbers::narrow;
 use vx_ready::where_yes;
-use vx_references::sort_of;
+use vx_references::fields::width_of;
 use vx_space::{Space, SpaceFault};
-use vx_value::{Narrow, Slot};
-
-/// How many words a value of a type takes on the operand stack; a float or a double is never one.
-pub fn width_of(field_type: JavaType) -> u64
-    ensures { result ≡ width_of_type field_type }
-{
-    match sort_of(field_type) {
-        Some(Sort::Long) => 2,
-        Some(Sort::Int | Sort::Reference) => 1,
-        None => 0,
-    }
-}
+use vx_value::Slot;
 
 /// Whether a value of so many words fits beside operands of a size.
 fn has_room(size: u64, width: u64, room: u16) -> bool
     ensures { result ≡ nat_le (width + size) room }
 {
     size.saturating_add(width) <= u64::from(room)
-}
-
-/// Whether a slot is of the sort of a type.
-pub fn fits(field_type: JavaType, slot: Slot) -> bool
-    ensures { result ≡ slot_fits (sort_of field_type) slot }
-{
-    match sort_of(field_type) {
-        Some(sort) => slot_is_of(sort, slot),
-        None => false,
-    }
-}
-
-/// What a store to a field of a type narrows an int to.
-fn narrow_of(field_type: JavaType) -> Option<Narrow>
-    ensures { result ≡ narrow_of_type field_type }
-{
-    if field_type.dimensions != 0 {
-        return None;
-    }
-    match field_type.base {
-        Base::Byte => Some(Narrow::Byte),
-        Base::Char => Some(Narrow::Char),
-        Base::Short => Some(Narrow::Short),
-        Base::Bool => Some(Narrow::Bool),
-        Base::Double | Base::Float | Base::Long | Base::Class | Base::Int => None,
-    }
-}
-
-/// The slot that a store to a field of a type puts there (JVMS 6.5 putstatic).
-pub fn narrowed(field_type: JavaType, slot: Slot) -> Slot
-    ensures { result ≡ narrowed_slot (narrow_of_type field_type) slot }
-{
-    match (narrow_of(field_type), slot) {
-        (Some(to), Slot::Int(n)) => Slot::Int(narrow(to, n)),
-        _ => slot,
-    }
 }
 
 /// The configurations of a group in which a value of a type has room on the operands.
@@ -100,24 +50,6 @@ pub(crate) fn where_room<S: Space>(
     { has_room(size, width, room) };
     let answers = sizes.map(space, is_within)?;
     Ok(where_yes(space, &answers))
-}
-
-/// The operand on top.
-pub fn top_operand<S: Space>(group: &Group<S>) -> &Cond<Slot, S>
-    requires { 0 < length group.now.top.stack.conds }
-    ensures { Some result.now ≡ slice_get group.now.top.stack.conds (length group.now.top.stack.conds - 1) }
-{
-    let stack = &group.top_frame().stack;
-    stack.get(stack.len() - 1)
-}
-
-/// The operand below the one on top.
-pub fn second_operand<S: Space>(group: &Group<S>) -> &Cond<Slot, S>
-    requires { 1 < length group.now.top.stack.conds }
-    ensures { Some result.now ≡ slice_get group.now.top.stack.conds (length group.now.top.stack.conds - 2) }
-{
-    let stack = &group.top_frame().stack;
-    stack.get(stack.len() - 2)
 }
 
 /// The configurations of a group, which has an operand, in which the operand on top is of the sort of a type.

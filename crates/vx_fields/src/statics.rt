@@ -9,7 +9,7 @@ ghost use Rattle.vx_java.specs.Checks.{sort_of};
 ghost use Rattle.vx_java.specs.Fields.{put_value};
 ghost use Rattle.vx_java.specs.FirstObjects.{narrowed_value};
 ghost use Rattle.vx_java.specs.Machine.{Go, Top, at_position, go};
-ghost use Rattle.vx_link.specs.Parts.{class_at, field_at, is_static_field};
+ghost use Rattle.vx_link.specs.Parts.{class_at, is_static_field};
 ghost use Rattle.vx_list.specs.Places.{item_or};
 ghost use Rattle.vx_space.specs.Sets.{Extends, IsKnown};
 ghost use Rattle.vx_group_states.specs.Answering.{operands_at};
@@ -20,7 +20,8 @@ ghost use Rattle.vx_ready.specs.Changing.{IsChanged};
 ghost use Rattle.vx_references.specs.Fields.{IsFieldReference};
 ghost use Rattle.vx_ready.specs.Initialising.{proceeding};
 ghost use Rattle.vx_ready.specs.Running.{IsRunning};
-ghost use Rattle.vx_fields.specs.Statics.{got, is_of_statics, keeps_option, stored, top_of};
+ghost use Rattle.vx_fields.specs.Statics.{got, is_of_statics, keeps_option, stored};
+ghost use Rattle.vx_families.specs.Sorts.{top_of};
 
 use crate::operands::{narrowed_top, where_fitting, where_room};
 use crate::unresolved::unresolved;
@@ -30,7 +31,7 @@ use vx_group::Group;
 use vx_group_states::{Site, illegal};
 use vx_heap::Heap;
 use vx_java::Operation;
-use vx_java::parts::{class_of_method, name_of_method};
+use vx_java::parts::{class_of_field, class_of_method, is_option_field, name_of_method};
 use vx_link::Program;
 use vx_outcome::Outcomes;
 use vx_ready::{Readiness, make_ready, stop_others};
@@ -38,31 +39,12 @@ use vx_references::{FieldReference, field_reference, named_member};
 use vx_space::{Space, SpaceFault};
 use vx_value::{ClassId, FieldId, MethodId};
 
-/// The class that declares a field.
-fn class_of_field(program: &Program, field: FieldId) -> ClassId
-    ensures { result ≡ (field_at program.now field.0).class }
-{
-    match program.field(field) {
-        Some(field) => field.class,
-        None => ClassId(0),
-    }
-}
-
-fn is_option(program: &Program, field: FieldId) -> bool
-    ensures { result ≡ is_some (field_at program.now field.0).option }
-{
-    match program.field(field) {
-        Some(field) => field.option.is_some(),
-        None => false,
-    }
-}
-
 /// Whether a field keeps its value where a method writes it: it is an option's, and the method is the `<clinit>` of its
 /// own class.
 fn keeps_option(program: &Program, method: MethodId, field: FieldId) -> bool
     ensures { result ≡ keeps_option program.now method.0 field.0 }
 {
-    is_option(program, field)
+    is_option_field(program, field)
         && is_clinit(name_of_method(program, method))
         && class_of_method(program, method).0 == class_of_field(program, field).0
 }

@@ -1,7 +1,7 @@
 //! Instructions of fields whose reference names no field that they can take (JVMS 5.4.3.2, 6.5).
 
 ghost use Rattle.std.specs.Prelude.{◌≡◌, IfOk, false, true};
-ghost use Rattle.vx_java.specs.Fields.{Found, field_text};
+ghost use Rattle.vx_java.specs.Fields.{Found};
 ghost use Rattle.vx_java.specs.Ids.{HasClassNumbers};
 ghost use Rattle.vx_java.specs.Machine.{Outcome as PlainOutcome};
 ghost use Rattle.vx_java.specs.Named.{in_bytes};
@@ -9,27 +9,15 @@ ghost use Rattle.vx_space.specs.Sets.{Sets};
 ghost use Rattle.vx_group_states.specs.Sites.{Gives, here};
 ghost use Rattle.vx_references.specs.Fields.{by_reference, is_ending, is_found};
 
-use std::alloc::{AllocError, Global};
+use std::alloc::Global;
 use vx_families::{CLASS_WORD, FIELD_WORD, FLOAT_WORD, raise, unsupported};
 use vx_group::Group;
 use vx_group_states::{Site, illegal};
 use vx_java::MemberReference;
 use vx_outcome::Outcomes;
-use vx_references::FieldReference;
+use vx_references::{FieldReference, field_text};
 use vx_space::{Space, SpaceFault};
 use vx_value::Name;
-
-/// The class, the name and the descriptor of a field, as reports name it.
-fn field_text(alloc: Global, named: &MemberReference<'_>) -> Result<Name, AllocError>
-    ensures { IfOk result (λ text. text ≡ field_text (in_bytes named.now)) }
-{
-    let mut text = Vec::from_slice(alloc, named.class)?;
-    text.extend_from_slice(b".")?;
-    text.extend_from_slice(named.name)?;
-    text.extend_from_slice(b":")?;
-    text.extend_from_slice(named.descriptor)?;
-    Ok(Name::from_vec(text))
-}
 
 /// All runs of a group end, as the reference says whose field isn't found.
 fn ended<S: Space>(

@@ -1,5 +1,5 @@
 -- A group that is divided by the answers to a question, and the outcomes of its parts, one after the other.
-use Rattle.std.proofs.Common.{◌≡◌, ℕ, ◌+◌, ◌<◌, ◌≤◌, zero, suc, Bool, true, false, List, [], ◌∷◌, ◌++◌, refl, sym, ◌∙◌, ap, arith, take, get_or, length}
+use Rattle.std.proofs.Common.{◌≡◌, ℕ, ◌+◌, ◌<◌, ◌≤◌, zero, suc, Bool, true, false, List, [], ◌∷◌, ◌++◌, refl, sym, ◌∙◌, ap, subst, arith, take, get_or, length}
 use Rattle.std.proofs.lemmas.List.{take_all}
 use Rattle.std.specs.Prelude.{Option, Some, None, is_some, ◌&&◌, ◌||◌, not, if◌then◌else◌}
 use Rattle.std.specs.declared.cmp.Ordering.{Ordering}
@@ -17,6 +17,7 @@ use Rattle.vx_java.specs.Machine.{State}
 use Rattle.vx_java.specs.Machine.{Outcome as PlainOutcome}
 use Rattle.vx_link.specs.declared.program.Program.{Program}
 use Rattle.vx_outcome.specs.declared.outcome.Outcome.{Outcome}
+use Rattle.vx_group_states.specs.Parting.{IsLeft}
 use Rattle.vx_group_states.specs.Sites.{Cover, HasPast}
 use Rattle.vx_group_states.specs.declared.site.Site.{Site}
 use Rattle.vx_group_states.proofs.EndingLaws.{HasPast-part}
@@ -167,3 +168,53 @@ IsGathering-step {K = K} {S = S} {I = I} cmp p {s0 = s0} {s1 = s1} {s2 = s2} {s3
 pub IsGathering-end : {K S I : Type 0} (p : Program) {s0 s1 : Sets I} (group : GroupView S I) (Q : HeapView S I → Type 0) (says : HeapView S I → List Bool → State → PlainOutcome) (xs : List (Leaf K S I)) (i : ℕ) (rest : GroupView S I) (outcomes : List (Outcome S I)) → Cover s0 (path_of group) xs → IsGathering p s0 s1 group Q says xs i rest outcomes → length xs ≤ i → (heap : HeapView S I) → Q heap → (tree : List (Option (Caller S I))) → IsHeap s0 heap → StandsIn p s0 heap tree group → CameTo p s0 s1 heap tree group (λ c. says heap c (state_at s0 heap tree group c)) (s0.test (path_of group)) outcomes
 IsGathering-end p {s0 = s0} {s1 = s1} group Q says xs i rest outcomes inside g l heap q tree h s =
     CameTo-same p s0 s1 heap tree group _ _ (λ c. is_some (value_at s0 (take i xs) c)) (s0.test (path_of group)) outcomes (λ c. ap (λ ys. is_some (value_at s0 ys c)) (take_all i xs l) ∙ inside.at c) (λ c t. refl) (g.came heap tree q h s)
+
+-- what is left where some is
+pub left_some : {S I : Type 0} (s1 s2 : Sets I) (rest : GroupView S I) (condition : I) (left : Option (GroupView S I)) (others : GroupView S I) → left ≡ Some others → IsLeft s1 s2 rest condition left → IsPartOf s1 s2 (λ c. s1.test (path_of rest) c && not (s1.test condition c)) rest others
+left_some {S = S} {I = I} s1 s2 rest condition left others e h = let P : Option (GroupView S I) → Type 0 = λ o. IsLeft s1 s2 rest condition o in subst P e h
+
+pub left_none : {S I : Type 0} (s1 s2 : Sets I) (rest : GroupView S I) (condition : I) (left : Option (GroupView S I)) → left ≡ None → IsLeft s1 s2 rest condition left → path_of rest ≡ condition
+left_none {S = S} {I = I} s1 s2 rest condition left e h = let P : Option (GroupView S I) → Type 0 = λ o. IsLeft s1 s2 rest condition o in subst P e h
+
+-- the first leaves have a value only where all have one
+taken_some : {K S I : Type 0} (sets : Sets I) (xs : List (Leaf K S I)) (i : ℕ) (c : List Bool) → is_some (value_at sets (take i xs) c) ≡ true → is_some (value_at sets xs c) ≡ true
+taken_some sets [] zero c h = h
+taken_some sets [] (suc i) c h = h
+taken_some sets (x ∷ xs) zero c h = cc h
+taken_some sets (x ∷ xs) (suc i) c h = cases (sets.test x.condition c) x.value (value_at sets (take i xs) c) (value_at sets xs c) (taken_some sets xs i c) h
+  where
+    cases : {T : Type 0} (b : Bool) (v : T) (r q : Option T) → (is_some r ≡ true → is_some q ≡ true) → is_some (if b then Some v else r) ≡ true → is_some (if b then Some v else q) ≡ true
+    cases true v r q f m = refl
+    cases false v r q f m = f m
+
+-- the outcomes of the last part, where what is left is all of a leaf's condition
+pub IsGathering-last : {K S I : Type 0} (cmp : K → K → Ordering) (p : Program) {s0 s1 s2 s3 : Sets I} (group : GroupView S I) (Q : HeapView S I → Type 0) (says says_there : HeapView S I → List Bool → State → PlainOutcome) (xs : List (Leaf K S I)) (i : ℕ) (x : Leaf K S I) (rest inner : GroupView S I) (outcomes made : List (Outcome S I)) → AreLeaves cmp s0 xs → Cover s0 (path_of group) xs → i < length xs → x ≡ get_or xs i x → ((heap : HeapView S I) → IsHeap s0 heap → (c : List Bool) → s0.test x.condition c ≡ true → (s : State) → says_there heap c s ≡ says heap c s) → IsGathering p s0 s1 group Q says xs i rest outcomes → path_of rest ≡ x.condition → Extends s1 s2 → IsPartOf s1 s2 (λ c. s1.test (path_of rest) c && s1.test x.condition c) rest inner → Extends s2 s3 → ((heap : HeapView S I) (tree : List (Option (Caller S I))) → Q heap → IsHeap s0 heap → IsHeap s2 heap → StandsIn p s2 heap tree inner → CameTo p s2 s3 heap tree inner (λ c. says_there heap c (state_at s2 heap tree inner c)) (s2.test (path_of inner)) made) → (heap : HeapView S I) → Q heap → (tree : List (Option (Caller S I))) → IsHeap s0 heap → StandsIn p s0 heap tree group → CameTo p s0 s3 heap tree group (λ c. says heap c (state_at s0 heap tree group c)) (s0.test (path_of group)) (outcomes ++ made)
+IsGathering-last {K = K} {S = S} {I = I} cmp p {s0 = s0} {s1 = s1} {s2 = s2} {s3 = s3} group Q says says_there xs i x rest inner outcomes made leaves inside l e law g whole f a k part heap q tree h s =
+    let next = next_leaf cmp s0 xs i x leaves l e in
+    let before : List Bool → Bool = λ c. is_some (value_at s0 (take i xs) c) in
+    let here : (c : List Bool) → s0.test x.condition c ≡ true → (s0.test (path_of group) c ≡ true) × (before c ≡ false) = λ c t. (leaf_inside s0 (path_of group) xs i x inside l e c t, ap is_some (next.before.none c t)) in
+    let rest_of : (c : List Bool) → s0.test x.condition c ≡ (s0.test (path_of group) c && not (before c)) = λ c. sym (g.extends.test x.condition c next.known) ∙ ap (λ j. s1.test j c) (sym whole) ∙ part_path s0 s1 _ group rest g.rest_is c in
+    let taken = IsGathering-inner cmp p s2 group Q says xs i x rest inner outcomes leaves inside l e g a in
+    let to2 = Extends-trans g.extends f in
+    let there = StandsIn-part p tree to2 heap h (s0.test x.condition) group inner (λ c t. (here c t).0) s taken in
+    let one = CameTo-part p s3 heap tree group inner (s0.test x.condition) (says heap) (says_there heap) made to2 h s (λ c t. (here c t).0) taken (λ c t. law heap h c t) (part heap tree q h (IsHeap-extends to2 heap h) there) in
+    let all = CameTo-extends p s0 tree (Extends-trans f k) heap (IsHeap-extends g.extends heap h) group _ before outcomes (g.came heap tree q h s) in
+    CameTo-same p s0 s3 heap tree group _ _ (λ c. before c || s0.test x.condition c) (s0.test (path_of group)) (outcomes ++ made) (λ c. both (before c) (s0.test x.condition c) (s0.test (path_of group) c) (rest_of c) (λ t. sym (inside.at c) ∙ taken_some s0 xs i c t)) (λ c t. refl) (CameTo-append p s0 s3 heap tree group _ before (s0.test x.condition) outcomes made (λ c t. not_both (before c) (s0.test x.condition c) (λ d. (here c d).1) t) all one)
+  where
+    both : (a d b : Bool) → d ≡ (b && not a) → (a ≡ true → b ≡ true) → (a || d) ≡ b
+    both true d b h f = sym (f refl)
+    both false d true h f = h
+    both false d false h f = h
+
+    not_both : (a b : Bool) → (b ≡ true → a ≡ false) → a ≡ true → b ≡ false
+    not_both a true f h = cc (f refl, h)
+    not_both a false f h = refl
+
+-- a group is its own part in its path
+pub IsPartOf-whole : {S I : Type 0} (sets : Sets I) (group : GroupView S I) (condition : I) → IsGroup sets group → path_of group ≡ condition → IsPartOf sets sets (λ c. sets.test (path_of group) c && sets.test condition c) group group
+unfolding IsPartOf
+IsPartOf-whole sets group condition v e = record { is_group = v; path = record { known = IsGroup-path_known sets group v; test = λ c. twice (sets.test (path_of group) c) ∙ ap (λ j. sets.test (path_of group) c && sets.test j c) e }; below = refl; caller = refl; shape = refl; at = λ c t. refl }
+  where
+    twice : (a : Bool) → a ≡ (a && a)
+    twice true = refl
+    twice false = refl

@@ -3,3 +3,4 @@ pub mod Answering
 pub mod Answers
 pub mod Sites
 pub mod Widths
+pub mod Parting

@@ -17,6 +17,7 @@ ghost use Rattle.vx_group_states.specs.Stands.{IsMessage, message_of};
 
 use crate::answer::Answer;
 use crate::endings::{illegal, pass};
+use crate::parting::part_in;
 use crate::settling::settle;
 use crate::site::Site;
 use std::alloc::{AllocError, Global};
@@ -335,9 +336,12 @@ fn answered_parts<S: Space>(
     let mut outcomes = Outcomes::new(alloc);
     let mut rest = group;
     for leaf in kinds {
-        let (part, others) = rest.split(space, leaf.condition)?;
+        let (part, left) = part_in(space, rest, leaf.condition)?;
         let made = answered_part(alloc, site, space, part, taken, leaf.value, answers)?;
         outcomes.append(made)?;
+        let Some(others) = left else {
+            return Ok(outcomes);
+        };
         rest = others;
     }
     Ok(outcomes)

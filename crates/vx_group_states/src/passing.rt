@@ -10,6 +10,7 @@ ghost use Rattle.vx_java.specs.Machine.{go, illegal as illegal_of, when};
 ghost use Rattle.vx_group_states.specs.Sites.{Cover, Gives, GivesAt, HasPast, here, settled_by};
 
 use crate::endings::{illegal, pass};
+use crate::parting::part_in;
 use crate::site::Site;
 use std::alloc::Global;
 use vx_cond::Leaf;
@@ -55,9 +56,12 @@ pub fn pass_where<S: Space>(
     let mut outcomes = Outcomes::new(alloc);
     let mut rest = group;
     for leaf in holds {
-        let (part, others) = rest.split(space, leaf.condition)?;
+        let (part, left) = part_in(space, rest, leaf.condition)?;
         let made = passed_part(alloc, site, space, part, leaf.value)?;
         outcomes.append(made)?;
+        let Some(others) = left else {
+            return Ok(outcomes);
+        };
         rest = others;
     }
     Ok(outcomes)

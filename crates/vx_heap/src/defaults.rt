@@ -1,50 +1,18 @@
 //! The cells with which an object of a class begins (JVMS 2.3, 2.4).
 
-ghost use Rattle.std.specs.Prelude.{◌≡◌, ◌++◌, IfOk, List, OnOk, map};
+ghost use Rattle.std.specs.Prelude.{◌++◌, IfOk, List, OnOk};
 ghost use Rattle.vx_heap.specs.Defaults.{AreSlotsOf, IsSlotOf};
 ghost use Rattle.vx_java.specs.FirstObjects.{field_default, new_cells, own_cells};
-ghost use Rattle.vx_java.specs.Ids.{as_class};
 ghost use Rattle.vx_java.specs.Machine.{Value};
-ghost use Rattle.vx_link.specs.Hierarchy.{superclasses};
-ghost use Rattle.vx_link.specs.Parts.{field_at, is_static_field};
+ghost use Rattle.vx_link.specs.Parts.{field_at};
 
-use bitflags::Flags;
 use std::alloc::{AllocError, Global};
 use vx_initial_heap::default_of;
-use vx_java::parts::{descriptor_of_field, fields_of, superclass_of};
-use vx_link::{AccessFlags, Program};
+use vx_java::parts::{descriptor_of_field, fields_of};
+use vx_java::superclasses;
+use vx_link::Program;
+use vx_references::fields::is_static_field;
 use vx_value::{ClassId, FieldId, Slot};
-
-fn is_static_field(program: &Program, field: FieldId) -> bool
-    ensures { result ≡ is_static_field program.now field.0 }
-{
-    match program.field(field) {
-        Some(field) => field.flags.contains(AccessFlags::STATIC),
-        None => false,
-    }
-}
-
-/// A class and its superclasses upward.
-fn superclasses(
-    alloc: Global,
-    program: &Program,
-    class: ClassId,
-) -> Result<Vec<ClassId>, AllocError>
-    ensures { IfOk result (λ chain. chain.items ≡ map as_class (superclasses program.now class.0)) }
-{
-    let mut chain = Vec::new(alloc);
-    let mut left = program.classes.len();
-    let mut next = Some(class);
-    while left > 0 {
-        let Some(class) = next else {
-            return Ok(chain);
-        };
-        chain.push(class)?;
-        next = superclass_of(program, class);
-        left -= 1;
-    }
-    Ok(chain)
-}
 
 /// What a field begins with, where the empty text has this number.
 fn started(program: &Program, field: FieldId, empty: u64) -> Slot

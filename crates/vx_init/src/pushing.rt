@@ -3,25 +3,15 @@
 ghost use Rattle.std.specs.Prelude.{◌≡◌, ◌<◌, ◌+◌, ◌^◌, IfOk, length};
 ghost use Rattle.vx_group.specs.Callers.{Keeps};
 ghost use Rattle.vx_group.specs.Group.{IsGroupIn, depth_of};
-ghost use Rattle.vx_link.specs.Parts.{class_at};
 ghost use Rattle.vx_init.specs.Beginning.{IsChainPushed, kind_of};
 
 use std::alloc::Global;
 use vx_frames::entered;
 use vx_group::{Callers, Group};
+use vx_java::parts::initialiser_of;
 use vx_link::Program;
 use vx_space::{Space, SpaceFault};
-use vx_value::{ClassId, Kind, MethodId};
-
-/// The method that initialises a class.
-fn initialiser_of(program: &Program, class: ClassId) -> MethodId
-    ensures { result ≡ (class_at program.now class.0).initialiser }
-{
-    match program.class(class) {
-        Some(class) => class.initialiser,
-        None => MethodId(0),
-    }
-}
+use vx_value::{ClassId, Kind};
 
 /// The kind of the frame of a class of a chain.
 fn kind_of(is_last: bool) -> Kind

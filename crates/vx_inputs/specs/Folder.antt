@@ -1,6 +1,7 @@
 -- The part of a plan that lists a folder and reads its class files.
-use Rattle.std.specs.Prelude.{ℕ, List, [], ◌∷◌, ◌++◌, length, filter, Ok, Err}
+use Rattle.std.specs.Prelude.{ℕ, List, Option, [], ◌∷◌, ◌++◌, ◌≡◌, ◌≤◌, IfSome, length, filter, Ok, Err}
 use Rattle.std.specs.declared.result.Result.{Result}
+use Rattle.vx_io.specs.Held.{Held, IsListing}
 use Rattle.vx_pool.specs.Reading.{Fault}
 use Rattle.vx_plans.specs.declared.status.Status.{Status}
 use Rattle.vx_plans.specs.declared.status.Status.TheVariants.{ReadFault, BadClass}
@@ -34,6 +35,13 @@ read_classes given folder next front (path ∷ paths) =
 -- the class files among the paths of a folder
 abbrev pub class_paths : List (List ℕ) → List (List ℕ)
 class_paths paths = filter is_class_path paths
+
+-- these are the paths of the class files of a folder that was listed, not too many
+pub record WasListed (held : Option Held) (folder : List ℕ) (paths : List (List ℕ)) : Type 0 where
+  pub listing : List (List ℕ)
+  pub told : IfSome held (λ files. IsListing files folder listing)
+  pub classes : paths ≡ class_paths listing
+  pub few : length paths ≤ most_classes
 
 -- lists the folder and goes on with its class files
 abbrev pub list_classes : List ℕ → (List (List ℕ) → Plan) → Plan

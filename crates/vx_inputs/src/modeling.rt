@@ -30,7 +30,7 @@ pub struct Modeled {
 }
 
 /// The model that the bytes of a file of this path spell, in DIMACS form where the path says so.
-fn spelled_model(alloc: Global, path: &str, text: &[u8]) -> Result<Model, ModelFault>
+pub fn spelled_model(alloc: Global, path: &str, text: &[u8]) -> Result<Model, ModelFault>
     ensures exact { Answers result (spelled_model path.now text.now) }
     ensures lawful { IfOk result IsModel }
     ensures names { IfOk result HasOptionNames }
@@ -57,7 +57,7 @@ pub fn model_of(alloc: Global, path: &str, text: &[u8]) -> Result<Model, Status>
 }
 
 /// A model with a space of its options and the set of the configurations that it allows.
-fn with_allowed(alloc: Global, model: Model) -> Result<Modeled, Status>
+pub fn with_allowed(alloc: Global, model: Model) -> Result<Modeled, Status>
     requires lawful { IsModel model }
     ensures model { IfOk result (λ found. found.model ≡ model) }
     ensures options { IfOk result (λ found. (⟦<BddSpace as Space>⟧.sets found.space).options ≡ length model.options) }
@@ -74,7 +74,7 @@ fn with_allowed(alloc: Global, model: Model) -> Result<Modeled, Status>
 }
 
 /// Whether a model allows a configuration, by the set of those that it allows.
-fn is_allowing<S: Space>(space: &S, model: &Model, allowed: S::Id) -> bool
+pub fn is_allowing<S: Space>(space: &S, model: &Model, allowed: S::Id) -> bool
     requires { IsSet (S.sets space.now) allowed (is_allowed model.now) }
     ensures some { result ≡ true → AllowsSome model.now }
     ensures nonempty { result ≡ true → allowed ≢ (S.sets space.now).never }

@@ -6,7 +6,8 @@ ghost use Rattle.vx_class.specs.File.{Holds};
 ghost use Rattle.vx_pool.specs.Place.{IsBytes};
 ghost use Rattle.vx_plans.specs.Plan.{Plan, Leads, MayStop};
 ghost use Rattle.vx_plans.specs.Sized.{read_sized};
-ghost use Rattle.vx_inputs.specs.Folder.{or_bad_class, read_checked, read_classes, read_folder, list_classes, place_of, class_paths};
+ghost use Rattle.vx_inputs.specs.Files.{WasRead};
+ghost use Rattle.vx_inputs.specs.Folder.{WasListed, or_bad_class, read_checked, read_classes, read_folder, list_classes, place_of, class_paths};
 ghost use Rattle.vx_plans.specs.KeepsFiles.{KeepsFiles};
 
 use crate::job::is_class_file;
@@ -41,6 +42,7 @@ pub fn read_file<F: Files>(
     requires { room < 2 ^ 63 }
     ensures ok { IfOk result (λ bytes. (next : List ℕ → Plan) →
         Leads (F.seen files.old).held (read_sized room place.now shown.now next) (next bytes.items)) }
+    ensures read { IfOk result (λ bytes. WasRead (F.seen files.old).held room place.now bytes.items) }
     ensures err { IfErr result (λ status. (next : List ℕ → Plan) →
         MayStop (F.seen files.old) (F.seen files.new) (read_sized room place.now shown.now next) status) }
     ensures keeps { KeepsFiles (F.seen files.old) (F.seen files.new) }
@@ -77,6 +79,7 @@ pub fn list_class_files<F: Files>(
 ) -> Result<Vec<String>, Status>
     ensures ok { IfOk result (λ paths. (next : List (List ℕ) → Plan) →
         Leads (F.seen files.old).held (list_classes folder.now next) (next (map string_bytes paths.items))) }
+    ensures listed { IfOk result (λ paths. WasListed (F.seen files.old).held folder.now (map string_bytes paths.items)) }
     ensures few { IfOk result (λ paths. length paths.items ≤ 1024) }
     ensures err { IfErr result (λ status. (next : List (List ℕ) → Plan) →
         MayStop (F.seen files.old) (F.seen files.new) (list_classes folder.now next) status) }
@@ -103,7 +106,7 @@ pub fn list_class_files<F: Files>(
 }
 
 /// The path of a file below a folder.
-fn place_below(alloc: Global, folder: &str, path: &str) -> Result<String, AllocError>
+pub fn place_below(alloc: Global, folder: &str, path: &str) -> Result<String, AllocError>
     ensures { IfOk result (λ place. string_bytes place ≡ place_of folder.now path.now) }
 {
     let mut place = String::from_str(alloc, folder)?;

@@ -56,7 +56,7 @@ fn with_source(alloc: Global, bytes: &[u8], class: ClassFile) -> Result<Traced, 
 }
 
 /// The class that the bytes of a class file hold, with what they say of its source, or the first check that fails.
-fn class_with_source(alloc: Global, bytes: &[u8]) -> Result<Traced, ClassFault>
+pub fn class_with_source(alloc: Global, bytes: &[u8]) -> Result<Traced, ClassFault>
     ensures exact { Answers result (traced_of bytes.now) }
     ensures found { IfOk result (λ traced. File bytes.now traced.class) }
 {

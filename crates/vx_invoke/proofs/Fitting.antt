@@ -8,7 +8,7 @@ use Rattle.vx_cond.specs.Slots.{or_top, slot_at}
 use Rattle.vx_cond.proofs.CondLaws.{IsCond-extends, cond_at-extends}
 use Rattle.vx_cond.proofs.RowSteps.{IsRow-get}
 use Rattle.vx_desc.specs.declared.java_type.JavaType.{JavaType}
-use Rattle.vx_fields.specs.Statics.{slot_fits}
+use Rattle.vx_families.specs.Sorts.{slot_fits}
 use Rattle.vx_frame.proofs.FrameLaws.{IsFrame-stack}
 use Rattle.vx_frames.specs.Entering.{arguments_at}
 use Rattle.vx_group.specs.Group.{GroupView, IsGroup, path_of}

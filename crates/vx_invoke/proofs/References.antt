@@ -7,7 +7,7 @@ use Rattle.vx_families.specs.Attempts.{AttemptsBy, AttemptsIn, IsAttemptIn, IsGi
 use Rattle.vx_families.specs.Bounds.{IsBounded, is_short}
 use Rattle.vx_families.specs.Pools.{pool_of}
 use Rattle.vx_families.proofs.AttemptLaws.{AttemptsBy-gives, AttemptsIn-by}
-use Rattle.vx_fields.proofs.Pools.{below}
+use Rattle.vx_families.proofs.ShortPools.{below}
 use Rattle.vx_frame.specs.declared.frame.Frame.{Frame}
 use Rattle.vx_frames.specs.Giving.{GivesIn}
 use Rattle.vx_frames.proofs.GivingLaws.{Attempts-gives}

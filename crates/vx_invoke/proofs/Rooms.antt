@@ -13,7 +13,7 @@ use Rattle.vx_cond.proofs.RowSteps.{IsRow-get}
 use Rattle.vx_desc.specs.Descriptors.{slots_of}
 use Rattle.vx_desc.specs.declared.java_type.JavaType.{JavaType}
 use Rattle.vx_families.specs.Bounds.{IsBounded, argument_words, has_argument_room}
-use Rattle.vx_fields.proofs.Storing.{fits_plain}
+use Rattle.vx_families.proofs.SlotSorts.{fits_plain}
 use Rattle.vx_frame.specs.Frame.{PlainFrame, Shape}
 use Rattle.vx_frame.proofs.FrameLaws.{IsFrame-stack}
 use Rattle.vx_frames.specs.Entering.{AreArguments, arguments_at, is_long}

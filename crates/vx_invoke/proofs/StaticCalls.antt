@@ -5,7 +5,7 @@ use Rattle.std.specs.Prelude.{Option, if◌then◌else◌}
 use Rattle.vx_cond.specs.Cond.{IsInside}
 use Rattle.vx_desc.specs.declared.java_type.JavaType.{JavaType}
 use Rattle.vx_families.specs.Attempts.{AttemptsIn}
-use Rattle.vx_fields.proofs.Gets.{AttemptsBy-stays, and_none, unready}
+use Rattle.vx_ready.proofs.Given.{AttemptsBy-stays, and_none, unready}
 use Rattle.vx_families.proofs.AttemptLaws.{AttemptsIn-by}
 use Rattle.vx_frames.specs.Giving.{GivesIn}
 use Rattle.vx_group.specs.declared.callers.Caller.{Caller}

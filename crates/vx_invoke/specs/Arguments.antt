@@ -2,7 +2,7 @@
 use Rattle.std.specs.Prelude.{◌≡◌, ℕ, Bool, true, false, List, [], ◌∷◌, ◌&&◌, length, reverse, take}
 use Rattle.vx_class.specs.Members.{STATIC}
 use Rattle.vx_desc.specs.declared.java_type.JavaType.{JavaType}
-use Rattle.vx_fields.specs.Statics.{slot_fits}
+use Rattle.vx_families.specs.Sorts.{slot_fits}
 use Rattle.vx_group.specs.Group.{GroupView}
 use Rattle.vx_java.specs.Checks.{sort_of}
 use Rattle.vx_link.specs.Parts.{has, method_at}

@@ -3,7 +3,7 @@
 ghost use Rattle.std.specs.Prelude.{◌≡◌, ◌&&◌, ◌≤◌, ◌-◌, IfOk, OnOk, length, take};
 ghost use Rattle.vx_cond.specs.Cond.{IsCond};
 ghost use Rattle.vx_cond.specs.Slots.{slot_at};
-ghost use Rattle.vx_fields.specs.Statics.{slot_fits};
+ghost use Rattle.vx_families.specs.Sorts.{slot_fits};
 ghost use Rattle.vx_frame.specs.Frame.{scope_of};
 ghost use Rattle.vx_group.specs.Group.{IsGroup, path_of};
 ghost use Rattle.vx_java.specs.Checks.{sort_of};
@@ -15,7 +15,7 @@ ghost use Rattle.vx_invoke.specs.Called.{top_conds};
 use std::alloc::{AllocError, Global};
 use vx_cond::{Cond, Row};
 use vx_desc::JavaType;
-use vx_fields::fits;
+use vx_families::fits;
 use vx_group::Group;
 use vx_ready::where_yes;
 use vx_space::{Space, SpaceFault};

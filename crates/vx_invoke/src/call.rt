@@ -7,6 +7,7 @@ ghost use Rattle.vx_invoke.specs.Called.{by_selected, call_of, call_on, entered}
 
 use crate::target::{Target, accepts, selected};
 use vx_heap::Heap;
+use vx_java::parts::native_number;
 use vx_java::{Selected, assignable};
 use vx_link::Program;
 use vx_space::Space;
@@ -43,15 +44,6 @@ fn has_code(program: &Program, method: MethodId) -> bool
     match program.method(method) {
         Some(method) => method.code.is_some(),
         None => false,
-    }
-}
-
-fn native_number(program: &Program, method: MethodId) -> u32
-    ensures { result ≡ (method_at program.now method.0).native }
-{
-    match program.method(method) {
-        Some(method) => method.native,
-        None => 0,
     }
 }
 

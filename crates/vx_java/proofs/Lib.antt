@@ -10,3 +10,4 @@ pub mod Chains
 pub mod Specifics
 pub mod MemberNumbers
 pub mod OwnMembers
+pub mod InstructionSizes

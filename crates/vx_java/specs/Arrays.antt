@@ -48,10 +48,14 @@ abbrev pub elements_of_numbers : List ℕ
 elements_of_numbers =
     boolean_element ∷ char_element ∷ float_element ∷ double_element ∷ byte_element ∷ short_element ∷ int_element ∷ long_element ∷ []
 
+-- the element of a type number
+abbrev pub element_of_number : ℕ → ℕ
+element_of_number number = item_or elements_of_numbers (number - 4) int_element
+
 -- newarray: a float or a double ends the run
 abbrev pub new_primitives : Here → ℕ → Outcome
 new_primitives h number =
-    let element = item_or elements_of_numbers (number - 4) int_element in
+    let element = element_of_number number in
     when ((element == float_element) || (element == double_element)) (unsupported h float_word (codes "-"))
     (new_array h (array_class h.program 1 element) h.state.top.operands)
 

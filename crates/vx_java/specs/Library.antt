@@ -1,12 +1,13 @@
 -- The native methods of System, Number, Integer, Boolean, Math, Enum and Throwable (the class library of Java SE 7; what it leaves open is own).
 use Rattle.std.specs.Fmt.{signed_decimal}
-use Rattle.std.specs.Int.{int_wrapping_sub, w32, w64}
+use Rattle.std.specs.Int.{Width, int_wrapping_sub, w32, w64}
 use Rattle.std.specs.Prelude.{Bool, List, None, Option, Some, [], drop, false, if◌then◌else◌, int_le, length, map, nat_le, neg_ℤ, negsuc, not, option_map, pos, take, take_while, true, ℕ, ℤ, ◌&&◌, ◌*◌, ◌++◌, ◌+◌, ◌-◌, ◌==◌, ◌||◌, ◌∷◌}
 use Rattle.vx_java.specs.FirstObjects.{core_object, first_boolean, first_integer, units_of}
 use Rattle.vx_java.specs.Machine.{Ended, Here, Int, Long, Null, Object, Outcome, Ref, Value, cell_at, fit, go, illegal, in_state, object_at, push_new, raise, when, with_cell, with_cells}
 use Rattle.vx_java.specs.Texts.{NativeMethod, answer, answer_bool, answer_int, answer_text, bool_text, null_pointer, text_of_object}
 use Rattle.vx_link.specs.Assignability.{assignable}
 use Rattle.vx_link.specs.ClassNames.{class_text, component_of, has_reference_components, is_array}
+use Rattle.vx_link.specs.declared.program.Program.{Program}
 use Rattle.vx_value.specs.Arithmetic.{compare_long_of, natural, negation, negative, same_int}
 use Rattle.vx_value.specs.declared.end.End.TheVariants.{Exit}
 
@@ -35,11 +36,13 @@ abbrev pub within_array : (at count : ℤ) → ℕ → Bool
 within_array (pos at) (pos count) size = nat_le (at + count) size
 within_array _ _ size = false
 
--- both arrays of references, or both of one primitive type
+-- the classes of two arrays of references, or of two of one primitive type
+abbrev pub are_like : Program → (from to : ℕ) → Bool
+are_like p from to =
+    is_array p from && (is_array p to && ((from == to) || (has_reference_components p from && has_reference_components p to)))
+
 abbrev pub like_kinds : Here → (from to : Object) → Bool
-like_kinds h from to =
-    is_array h.program from.class && (is_array h.program to.class
-    && ((from.class == to.class) || (has_reference_components h.program from.class && has_reference_components h.program to.class)))
+like_kinds h from to = are_like h.program from.class to.class
 
 abbrev pub copy_within : Here → List Value → (from : ℕ) → (i : ℤ) → (to : ℕ) → (j count : ℤ) → Outcome
 copy_within h rest from i to j count =
@@ -154,12 +157,16 @@ boolean_to_string h _ rest = illegal h
 
 -- ---- Math
 
+-- the distance from 0; that of the least number is itself
+abbrev pub absolute : Width → ℤ → ℤ
+absolute w a = if negative a then negation w a else a
+
 abbrev pub absolute_int : NativeMethod
-absolute_int h (Int a ∷ []) rest = answer_int h rest (if negative a then negation w32 a else a)
+absolute_int h (Int a ∷ []) rest = answer_int h rest (absolute w32 a)
 absolute_int h _ rest = illegal h
 
 abbrev pub absolute_long : NativeMethod
-absolute_long h (Long a ∷ []) rest = answer h rest (Long (if negative a then negation w64 a else a))
+absolute_long h (Long a ∷ []) rest = answer h rest (Long (absolute w64 a))
 absolute_long h _ rest = illegal h
 
 abbrev pub of_ints : (ℤ → ℤ → ℤ) → NativeMethod

@@ -1,6 +1,7 @@
 //! The numbers of array classes: their dimensions, elements and components.
 
 ghost use Rattle.std.specs.Prelude.{◌≡◌, ◌+◌};
+ghost use Rattle.vx_java.specs.Library.{are_like};
 ghost use Rattle.vx_link.specs.Parts.{class_count};
 ghost use Rattle.vx_link.specs.ClassNames.{component_of, dimensions_of, element_of, has_reference_components};
 
@@ -56,4 +57,15 @@ pub fn component_of(program: &Program, class: ClassId) -> ClassId
         element_of(program, class).saturating_sub(PRIMITIVE_ELEMENTS)
     };
     ClassId(component as u32)
+}
+
+/// Whether two classes are both of arrays of references, or both of arrays of one primitive type.
+pub fn are_like(program: &Program, from: ClassId, to: ClassId) -> bool
+    ensures { result ≡ are_like program.now from.0 to.0 }
+{
+    is_array(program, from)
+        && (is_array(program, to)
+            && (from.0 == to.0
+                || (has_reference_components(program, from)
+                    && has_reference_components(program, to))))
 }

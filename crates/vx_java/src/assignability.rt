@@ -20,7 +20,8 @@ fn class_assignable(program: &Program, from: ClassId, to: ClassId) -> bool
     is_superclass(program, to.0 as usize, from) || is_superinterface(program, to.0 as usize, from)
 }
 
-fn is_above_arrays(program: &Program, class: ClassId) -> bool
+/// Whether a class is Object, Cloneable or Serializable, which all arrays are.
+pub fn is_above_arrays(program: &Program, class: ClassId) -> bool
     ensures { result ≡ is_among class.0 (above_arrays program.now) }
 {
     let wanted = class.0 as usize;

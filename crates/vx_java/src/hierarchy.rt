@@ -1,11 +1,13 @@
 //! Superclasses and superinterfaces (JVMS 4.1, 5.3.5).
 
-ghost use Rattle.std.specs.Prelude.{◌≡◌, nat_eq};
+ghost use Rattle.std.specs.Prelude.{◌≡◌, IfOk, map, nat_eq};
+ghost use Rattle.vx_java.specs.Ids.{as_class};
 ghost use Rattle.vx_java.specs.Specific.{number_if};
 ghost use Rattle.vx_link.specs.Hierarchy.{interfaces_below, is_among, superclasses, superinterfaces};
 
 use crate::parts::superclass_of;
 use crate::questions::{Question, ask_below, ask_superinterfaces, no_marks};
+use std::alloc::{AllocError, Global};
 use vx_link::Program;
 use vx_value::ClassId;
 
@@ -52,6 +54,28 @@ pub fn is_superclass(program: &Program, wanted: usize, class: ClassId) -> bool
         left -= 1;
     }
     false
+}
+
+/// A class and its superclasses upward.
+pub fn superclasses(
+    alloc: Global,
+    program: &Program,
+    class: ClassId,
+) -> Result<Vec<ClassId>, AllocError>
+    ensures { IfOk result (λ chain. chain.items ≡ map as_class (superclasses program.now class.0)) }
+{
+    let mut chain = Vec::new(alloc);
+    let mut left = program.classes.len();
+    let mut next = Some(class);
+    while left > 0 {
+        let Some(class) = next else {
+            return Ok(chain);
+        };
+        chain.push(class)?;
+        next = superclass_of(program, class);
+        left -= 1;
+    }
+    Ok(chain)
 }
 
 /// Whether a class stands among the direct superinterfaces of another and those of these.

@@ -3,10 +3,10 @@
 ghost use Rattle.std.specs.Prelude.{◌≡◌, ◌<◌, ◌&&◌, IfOk, IfSome, is_some, map, not, option_map};
 ghost use Rattle.std.specs.List.{list_any};
 ghost use Rattle.vx_java.specs.Ids.{as_class, HasClassNumbers};
-ghost use Rattle.vx_java.specs.Initialisation.{blocked, blocks, init_chain, is_failed, is_not, quiet_chain};
+ghost use Rattle.vx_java.specs.Initialisation.{blocked, blocks, chain_blocked, init_chain, is_failed, is_not, quiet_chain};
 ghost use Rattle.vx_java.specs.Machine.{init_at};
 ghost use Rattle.vx_link.specs.Hierarchy.{is_among, superinterfaces};
-ghost use Rattle.vx_link.specs.Parts.{class_at, class_count, is_abstract, is_instance, is_interface, method_at};
+ghost use Rattle.vx_link.specs.Parts.{class_at, class_count, is_abstract, is_instance, method_at};
 
 use crate::hierarchy::is_superinterface;
 use crate::parts::{flags_of_method, has_initialiser, is_interface, superclass_of};
@@ -126,6 +126,19 @@ fn is_quiet(program: &Program, class: ClassId) -> bool
     ensures { result ≡ (not (class_at program.now class.0).own_initialiser && not (is_some (blocked program.now class.0))) }
 {
     !has_initialiser(program, class) && blocking_place(program, class).is_none()
+}
+
+/// The first interface that blocks a class of a chain.
+pub fn chain_blocked(program: &Program, chain: &[ClassId]) -> Option<ClassId>
+    requires { HasClassNumbers program.now }
+    ensures { result ≡ option_map as_class (chain_blocked program.now (map (λ c. c.0) chain.now)) }
+{
+    for class in chain {
+        if let Some(interface) = blocked(program, *class) {
+            return Some(interface);
+        }
+    }
+    None
 }
 
 /// Whether marking the chain of a class has no other effect: none of its classes has a `<clinit>` or is blocked, and the

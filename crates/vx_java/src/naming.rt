@@ -1,6 +1,6 @@
 //! The class that a name or a descriptor names (JVMS 4.2.1, 4.3.2, 5.3.3).
 
-ghost use Rattle.std.specs.Prelude.{◌≡◌, ◌<◌, ◌+◌, ◌^◌, IfSome, length, option_map};
+ghost use Rattle.std.specs.Prelude.{◌≡◌, ◌<◌, ◌+◌, ◌^◌, IfSome, length, option_map, unwrap_or};
 ghost use Rattle.vx_java.specs.Ids.{as_class, HasClassNumbers};
 ghost use Rattle.vx_link.specs.ClassNames.{class_named, class_of_name, class_of_type, core_class, element_of_base, object_class, primitive_element};
 ghost use Rattle.vx_link.specs.Parts.{class_count};
@@ -30,6 +30,14 @@ pub fn class_of_name(program: &Program, name: &[u8]) -> Option<ClassId>
         Some(place) => Some(ClassId(place as u32)),
         None => None,
     }
+}
+
+/// The core class of a name, or class 0 where it isn't there.
+pub fn core_class(program: &Program, name: &[u8]) -> ClassId
+    requires { HasClassNumbers program.now }
+    ensures { result.0 ≡ unwrap_or (class_of_name program.now name.now) 0 }
+{
+    class_of_name(program, name).unwrap_or(ClassId(0))
 }
 
 /// The place of the core class Object, or 0 where it isn't there.

@@ -1,5 +1,8 @@
 //! What an instruction does, by name (JVMS 6.5).
 
+ghost use Rattle.std.specs.Prelude.{◌≡◌};
+ghost use Rattle.vx_java.specs.Jumps.{passes};
+
 use vx_value::{IntOp, Narrow, ShiftOp};
 
 /// The sort of a value: an int, a long or a reference.
@@ -44,6 +47,22 @@ pub enum Test {
     Ge,
     Gt,
     Le,
+}
+
+impl Test {
+    /// Whether two ints pass the test.
+    pub fn passes(self, a: i32, b: i32) -> bool
+        ensures { result ≡ passes self a b }
+    {
+        match self {
+            Test::Eq => a == b,
+            Test::Ne => a != b,
+            Test::Lt => a < b,
+            Test::Ge => a >= b,
+            Test::Gt => a > b,
+            Test::Le => a <= b,
+        }
+    }
 }
 
 /// The four calls.

@@ -1,10 +1,12 @@
 //! The parts of a program by their numbers. A number that the program doesn't have is that of a part without anything.
 
-ghost use Rattle.std.specs.Prelude.{◌≡◌};
+ghost use Rattle.std.specs.Prelude.{◌≡◌, ◌||◌, is_some, option_copied};
+ghost use Rattle.vx_class.specs.Members.{ABSTRACT};
 ghost use Rattle.vx_link.specs.ClassNames.{is_array};
-ghost use Rattle.vx_link.specs.Parts.{class_at, field_at, is_interface, method_at};
+ghost use Rattle.vx_link.specs.Parts.{class_at, field_at, has, is_interface, method_at};
 
 use bitflags::Flags;
+use vx_class::Code;
 use vx_link::{AccessFlags, Program};
 use vx_value::{ClassId, FieldId, MethodId};
 
@@ -55,6 +57,36 @@ pub fn descriptor_of_field(program: &Program, field: FieldId) -> &[u8]
     }
 }
 
+/// The class that declares a field.
+pub fn class_of_field(program: &Program, field: FieldId) -> ClassId
+    ensures { result ≡ (field_at program.now field.0).class }
+{
+    match program.field(field) {
+        Some(field) => field.class,
+        None => ClassId(0),
+    }
+}
+
+/// The cell of a field in the objects that have it.
+pub fn cell_of(program: &Program, field: FieldId) -> u32
+    ensures { result ≡ (field_at program.now field.0).cell }
+{
+    match program.field(field) {
+        Some(field) => field.cell,
+        None => 0,
+    }
+}
+
+/// Whether a field is that of an option.
+pub fn is_option_field(program: &Program, field: FieldId) -> bool
+    ensures { result ≡ is_some (field_at program.now field.0).option }
+{
+    match program.field(field) {
+        Some(field) => field.option.is_some(),
+        None => false,
+    }
+}
+
 /// Whether a class is an interface.
 pub fn is_interface(program: &Program, class: ClassId) -> bool
     ensures { result ≡ is_interface program.now class.0 }
@@ -62,6 +94,29 @@ pub fn is_interface(program: &Program, class: ClassId) -> bool
     match program.class(class) {
         Some(class) => class.flags.contains(AccessFlags::INTERFACE),
         None => false,
+    }
+}
+
+/// Whether a class is abstract or an interface, so that it has no objects.
+pub fn is_without_objects(program: &Program, class: ClassId) -> bool
+    ensures { result ≡ (has ABSTRACT (class_at program.now class.0).flags || is_interface program.now class.0) }
+{
+    match program.class(class) {
+        Some(class) => {
+            class.flags.contains(AccessFlags::ABSTRACT)
+                || class.flags.contains(AccessFlags::INTERFACE)
+        }
+        None => false,
+    }
+}
+
+/// The method that initialises a class.
+pub fn initialiser_of(program: &Program, class: ClassId) -> MethodId
+    ensures { result ≡ (class_at program.now class.0).initialiser }
+{
+    match program.class(class) {
+        Some(class) => class.initialiser,
+        None => MethodId(0),
     }
 }
 
@@ -122,6 +177,26 @@ pub fn flags_of_method(program: &Program, method: MethodId) -> AccessFlags
     match program.method(method) {
         Some(method) => method.flags,
         None => AccessFlags(0),
+    }
+}
+
+/// The code of a method, if it has any.
+pub fn code_of(program: &Program, method: MethodId) -> Option<&Code>
+    ensures { option_copied result ≡ (method_at program.now method.0).code }
+{
+    match program.method(method) {
+        Some(method) => method.code.as_ref(),
+        None => None,
+    }
+}
+
+/// The number of a method in the table of native methods; 0 where it is none.
+pub fn native_number(program: &Program, method: MethodId) -> u32
+    ensures { result ≡ (method_at program.now method.0).native }
+{
+    match program.method(method) {
+        Some(method) => method.native,
+        None => 0,
     }
 }
 

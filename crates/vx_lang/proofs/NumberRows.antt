@@ -7,9 +7,9 @@ use Rattle.std.specs.Prelude.{None, Option, Some, if◌then◌else◌, int_le, n
 use Rattle.vx_cells.proofs.ObjectClasses.{class_there, length_there}
 use Rattle.vx_cells.specs.Classes.{has_class}
 use Rattle.vx_group_states.proofs.StateLaws.{both, both_first, both_second}
-use Rattle.vx_heap.specs.Heap.{HeapView, IsHeapFor, are_held, class_at_slot, globals_at, is_held, name_at, object_in, objects_at, value_of}
+use Rattle.vx_heap.specs.Heap.{HeapView, IsHeapFor, are_held, class_at_slot, globals_at, is_held, name_at, object_in, objects_at}
 use Rattle.vx_java.specs.FirstObjects.{core_object, first_integer, first_words, units_of}
-use Rattle.vx_java.specs.Library.{copy_within, dotted, like_kinds, within_array}
+use Rattle.vx_java.specs.Library.{are_like, copy_within, dotted, like_kinds, within_array}
 use Rattle.vx_java.specs.Machine.{Here, Int as IntValue, Ref as RefValue, Value, go, no_object, object_at, push_new, raise, when}
 use Rattle.vx_java.specs.Texts.{answer_text, bool_text}
 use Rattle.vx_link.specs.ClassNames.{class_text}
@@ -35,8 +35,8 @@ use Rattle.vx_strings.specs.Spelled.{of_units}
 use Rattle.vx_value.specs.Arithmetic.{natural}
 use Rattle.vx_value.specs.declared.ids.ClassId.{ClassId}
 use Rattle.vx_value.specs.declared.slot.Slot.{Slot}
-use Rattle.vx_value.specs.declared.slot.Slot.TheVariants.{Int, Long, Null, Ref, Text, Top}
-use Rattle.vx_lang.specs.Numbers.{are_like, begun, class_named, class_units, copied, copied_between, like_slots, made_number}
+use Rattle.vx_value.specs.declared.slot.Slot.TheVariants.{Int, Null, Ref}
+use Rattle.vx_lang.specs.Numbers.{begun, class_named, class_units, copied, copied_between, like_slots, made_number}
 use Rattle.vx_lang.specs.Questions.{number_in}
 use Rattle.vx_lang.specs.Values.{gives}
 use Rattle.vx_lang.proofs.FirstObjects.{first_held, first_named}

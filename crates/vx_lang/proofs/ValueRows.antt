@@ -1,11 +1,11 @@
 -- What native methods answer by the values of a call is what the ordinary machine makes of the plain values.
-use Rattle.std.proofs.Common.{◌≡◌, ◌⊎◌, ℕ, ℤ, ◌+◌, ◌%◌, ◌<◌, ◌^◌, zero, suc, Bool, true, false, List, [], ◌∷◌, inl, inr, refl, ◌∙◌, ap, arith, pos}
+use Rattle.std.proofs.Common.{◌≡◌, ◌⊎◌, ℕ, ℤ, ◌+◌, ◌<◌, zero, suc, Bool, true, false, List, [], ◌∷◌, inl, inr, refl, ◌∙◌, ap, arith, pos}
 use Rattle.std.proofs.Math.Logic.{⊎_elim}
 use Rattle.std.specs.Int.{w32}
 use Rattle.std.specs.Prelude.{None, Option, Some}
-use Rattle.vx_fields.specs.Statics.{narrowed_slot}
+use Rattle.vx_families.specs.Sorts.{narrowed_slot}
 use Rattle.vx_group_states.proofs.StateLaws.{both_first, both_second}
-use Rattle.vx_heap.specs.Heap.{HeapView, IsHeapFor, are_held, globals_at, is_held, value_of}
+use Rattle.vx_heap.specs.Heap.{HeapView, IsHeapFor, are_held, globals_at, is_held}
 use Rattle.vx_java.specs.FirstObjects.{first_boolean}
 use Rattle.vx_java.specs.Machine.{Here, Value, go}
 use Rattle.vx_java.specs.Machine.{Ref as RefValue}

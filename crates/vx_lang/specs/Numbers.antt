@@ -1,12 +1,12 @@
 -- What native methods make of numbers, of classes and of objects that begin, at one configuration (the class library of Java SE 7).
 use Rattle.std.specs.Fmt.{signed_decimal}
-use Rattle.std.specs.Prelude.{ℕ, ℤ, Bool, List, None, Option, Some, [], if◌then◌else◌, int_le, nat_le, negsuc, not, option_map, pos, unwrap_or, ◌&&◌, ◌+◌, ◌==◌, ◌||◌, ◌∷◌}
+use Rattle.std.specs.Prelude.{ℕ, ℤ, Bool, List, None, Option, Some, [], if◌then◌else◌, int_le, negsuc, not, option_map, pos, ◌&&◌, ◌∷◌}
 use Rattle.vx_cells.specs.Classes.{has_class}
 use Rattle.vx_heap.specs.Heap.{HeapView, class_at_slot, object_in}
 use Rattle.vx_java.specs.FirstObjects.{first_integer, units_of}
-use Rattle.vx_java.specs.Library.{dotted, within_array}
+use Rattle.vx_java.specs.Library.{are_like, dotted, within_array}
 use Rattle.vx_java.specs.Texts.{bool_text}
-use Rattle.vx_link.specs.ClassNames.{class_text, has_reference_components, is_array}
+use Rattle.vx_link.specs.ClassNames.{class_text}
 use Rattle.vx_link.specs.declared.program.Program.{Program}
 use Rattle.vx_natives.specs.Deeds.{Deed, copies, gives_integer, raises, sets_cells}
 use Rattle.vx_natives.specs.declared.behaviour.Initialiser.{Initialiser}
@@ -60,11 +60,6 @@ begun init.Throwable (given.Three (Ref r) message cause) = sets_cells r message 
 begun _ call = refused
 
 -- ---- arrays that are copied
-
--- both arrays of references, or both of one primitive type
-abbrev pub are_like : Program → (from to : ℕ) → Bool
-are_like p from to =
-    is_array p from && (is_array p to && ((from == to) || (has_reference_components p from && has_reference_components p to)))
 
 abbrev pub like_slots : {S I : Type 0} → Program → HeapView S I → (from to : Slot) → Bool
 like_slots p heap from to = has_class (λ a. has_class (λ b. are_like p a b) (class_at_slot heap to)) (class_at_slot heap from)

@@ -1,9 +1,9 @@
 -- What native methods answer by the values of a call alone, at one configuration (the class library of Java SE 7).
-use Rattle.std.specs.Int.{Width, int_max, int_min, w32, w64}
+use Rattle.std.specs.Int.{int_max, int_min, w32, w64}
 use Rattle.std.specs.Prelude.{ℕ, ℤ, false, if◌then◌else◌, pos}
-use Rattle.vx_group_states.specs.declared.answer.Answer.{Answer}
 use Rattle.vx_group_states.specs.declared.answer.Answer.TheVariants as answer
 use Rattle.vx_java.specs.FirstObjects.{first_boolean}
+use Rattle.vx_java.specs.Library.{absolute}
 use Rattle.vx_natives.specs.Deeds.{Deed, answers, raises}
 use Rattle.vx_natives.specs.declared.behaviour.Computation.{Computation}
 use Rattle.vx_natives.specs.declared.behaviour.Computation.TheVariants as compute
@@ -12,16 +12,12 @@ use Rattle.vx_natives.specs.declared.call.Call.TheVariants as given
 use Rattle.vx_natives.specs.declared.effect.Exception.TheVariants.{Null as NullRaised}
 use Rattle.vx_objects.specs.Answers.{same_slots}
 use Rattle.vx_strings.specs.Questions.{gives_bool, gives_int, refused}
-use Rattle.vx_value.specs.Arithmetic.{compare_long_of, negation, negative, same_int}
+use Rattle.vx_value.specs.Arithmetic.{compare_long_of, same_int}
 use Rattle.vx_value.specs.declared.slot.Slot.{Slot}
 use Rattle.vx_value.specs.declared.slot.Slot.TheVariants.{Int, Long, Null, Ref}
 
 abbrev pub gives : Slot → Deed
 gives slot = answers (answer.Give slot)
-
--- the distance from 0
-abbrev pub absolute : Width → ℤ → ℤ
-absolute w a = if negative a then negation w a else a
 
 -- the Boolean object of an int that is 0 for false
 abbrev pub first_boolean_of : ℤ → ℕ

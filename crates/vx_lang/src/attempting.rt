@@ -7,7 +7,6 @@ ghost use Rattle.vx_heap.specs.Heap.{IsHeap, IsHeapFor};
 ghost use Rattle.vx_java.specs.Ids.{HasClassNumbers};
 ghost use Rattle.vx_java.specs.Natives.{native as native_of};
 ghost use Rattle.vx_java.specs.declared.operation.Operation.{Operation};
-ghost use Rattle.vx_link.specs.Parts.{method_at};
 ghost use Rattle.vx_natives.specs.CallOrder.{call_cmp};
 ghost use Rattle.vx_natives.specs.Calls.{call_at};
 ghost use Rattle.vx_natives.specs.Cells.{AreCallsHeld};
@@ -22,6 +21,7 @@ use vx_cond::Cond;
 use vx_group::Group;
 use vx_group_states::{Answer, Site, carry_out, illegal};
 use vx_heap::Heap;
+use vx_java::parts::native_number;
 use vx_link::Program;
 use vx_natives::{Behaviour, Call, behaviour_of, native_call, read_calls};
 use vx_outcome::Outcomes;
@@ -88,16 +88,6 @@ fn attempt<S: Space>(
     }
     let answers = answered(alloc, site.program, space, heap, behaviour, native.calls)?;
     carry_out(alloc, site, space, group, native.taken, &answers)
-}
-
-/// The number of a method in the table of native methods; 0 where it is none.
-fn native_number(program: &Program, method: MethodId) -> u32
-    ensures { result ≡ (method_at program.now method.0).native }
-{
-    match program.method(method) {
-        Some(method) => method.native,
-        None => 0,
-    }
 }
 
 /// Carries out a native method for a group that stands at the call. A method of no number breaks a rule. The only refusal is want of

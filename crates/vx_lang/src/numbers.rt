@@ -2,7 +2,7 @@
 
 ghost use Rattle.std.specs.Prelude.{◌≡◌, IfOk, option_map};
 ghost use Rattle.vx_java.specs.Library.{within_array};
-ghost use Rattle.vx_lang.specs.Numbers.{are_like, begun, class_named, class_units, copied, copied_between, integer_of, like_slots, made_number};
+ghost use Rattle.vx_lang.specs.Numbers.{begun, class_named, class_units, copied, copied_between, integer_of, like_slots, made_number};
 ghost use Rattle.vx_natives.specs.Deeds.{deed_of};
 ghost use Rattle.vx_strings.specs.Lengths.{gives_short};
 ghost use Rattle.vx_strings.specs.Spelled.{of_units};
@@ -13,15 +13,14 @@ use crate::values::give;
 use std::alloc::{AllocError, Global};
 use vx_heap::Heap;
 use vx_initial_heap::units_of;
-use vx_java::arrays::has_reference_components;
-use vx_java::parts::is_array;
+use vx_java::arrays::are_like;
 use vx_link::Program;
 use vx_natives::{Call, Effect, Exception, Initialiser, Maker};
 use vx_space::Space;
 use vx_spelling::class_text;
-use vx_strings::{SpelledText, bool_units, give_short, refuse};
-use vx_units::{decimal, dotted};
-use vx_value::{ClassId, Slot};
+use vx_strings::{SpelledText, give_short, refuse};
+use vx_units::{bool_units, decimal, dotted};
+use vx_value::Slot;
 
 /// The Integer object of a number: a first one, or a new one.
 fn integer_of<S: Space>(heap: &Heap<S>, n: i32) -> Effect
@@ -135,17 +134,6 @@ pub(crate) fn begun(initialiser: Initialiser, call: Call) -> Effect
         }
         _ => refuse(),
     }
-}
-
-/// Whether two classes are both of arrays of references, or both of arrays of one primitive type.
-fn are_like(program: &Program, from: ClassId, to: ClassId) -> bool
-    ensures { result ≡ are_like program.now from.0 to.0 }
-{
-    is_array(program, from)
-        && (is_array(program, to)
-            && (from.0 == to.0
-                || (has_reference_components(program, from)
-                    && has_reference_components(program, to))))
 }
 
 /// Whether two slots are such arrays.

@@ -1,14 +1,13 @@
 //! What native methods answer by the values of a call alone, at one configuration.
 
 ghost use Rattle.std.specs.Prelude.{◌≡◌};
-ghost use Rattle.std.specs.Int.{w32, w64};
-ghost use Rattle.vx_lang.specs.Values.{absolute, computed, computed_one, computed_two, first_boolean_of, gives, of_two_ints, of_two_longs, of_two_numbers, suppressed};
+ghost use Rattle.vx_lang.specs.Values.{computed, computed_one, computed_two, first_boolean_of, gives, of_two_ints, of_two_longs, of_two_numbers, suppressed};
 ghost use Rattle.vx_natives.specs.Deeds.{deed_of};
 
 use vx_group_states::Answer;
 use vx_heap::Heap;
 use vx_natives::{Call, Computation, Effect, Exception};
-use vx_numbers::{compare_long, negate_int, negate_long};
+use vx_numbers::{absolute_of_int, absolute_of_long, compare_long};
 use vx_objects::same_slots;
 use vx_space::Space;
 use vx_strings::{give_bool, give_int, refuse};
@@ -19,20 +18,6 @@ pub(crate) fn give(slot: Slot) -> Effect
     ensures { deed_of result ≡ gives slot }
 {
     Effect::Answer(Answer::Give(slot))
-}
-
-/// The distance of an int from 0; that of the least one is itself.
-fn absolute_int(a: i32) -> i32
-    ensures { result ≡ absolute w32 a }
-{
-    if a < 0 { negate_int(a) } else { a }
-}
-
-/// The distance of a long from 0; that of the least one is itself.
-fn absolute_long(a: i64) -> i64
-    ensures { result ≡ absolute w64 a }
-{
-    if a < 0 { negate_long(a) } else { a }
 }
 
 /// The number of the Boolean object of a boolean.
@@ -52,8 +37,8 @@ fn computed_one<S: Space>(heap: &Heap<S>, computation: Computation, a: Slot) -> 
         (Computation::Receiver, Slot::Ref(_)) => give(a),
         (Computation::Exit, Slot::Int(code)) => Effect::Answer(Answer::Exit(code)),
         (Computation::BooleanOf, Slot::Int(n)) => give(Slot::Ref(boolean_object(heap, n))),
-        (Computation::AbsoluteInt, Slot::Int(n)) => give_int(absolute_int(n)),
-        (Computation::AbsoluteLong, Slot::Long(n)) => give(Slot::Long(absolute_long(n))),
+        (Computation::AbsoluteInt, Slot::Int(n)) => give_int(absolute_of_int(n)),
+        (Computation::AbsoluteLong, Slot::Long(n)) => give(Slot::Long(absolute_of_long(n))),
         _ => refuse(),
     }
 }

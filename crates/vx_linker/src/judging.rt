@@ -82,8 +82,8 @@ fn super_is_final(files: &Files, class: &ClassFile) -> bool
     }
 }
 
-/// Whether the class of an option's field is in the folder and declares it as a static field of type `Z`.
-fn is_option_field(class: &ClassFile, name: &[u8], field: Field) -> bool
+/// Whether a field of a class has a name, and an option can have it: it is static, as all fields of an interface are, and of type `Z`.
+pub fn is_option_field(class: &ClassFile, name: &[u8], field: Field) -> bool
     ensures { result ≡ is_option_field class.now name.now field }
 {
     utf8(&class.pool, field.name) == name
@@ -123,7 +123,8 @@ fn is_main(class: &ClassFile, method: &Method) -> bool
         && method.code.is_some()
 }
 
-fn has_main_method(class: &ClassFile) -> bool
+/// Whether a class has a `main` that can be run: one that is public and static and has code (JVMS 5.2).
+pub fn has_main_method(class: &ClassFile) -> bool
     ensures { result ≡ list_any (is_main class.now) class.now.methods }
 {
     let methods = class.methods.as_slice();

@@ -16,4 +16,5 @@ mod shared_texts;
 mod whole;
 
 pub use files::Files;
+pub use judging::{has_main_method, is_option_field};
 pub use linking::{link, linkable};

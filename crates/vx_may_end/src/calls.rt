@@ -1,30 +1,28 @@
 //! What a call lacks (JVMS 6.5 invokevirtual, invokespecial, invokestatic, invokeinterface).
 
-ghost use Rattle.std.specs.Prelude.{◌≡◌, ◌++◌, ◌∷◌, ◌<◌, ◌^◌, ◌&&◌, ◌==◌, [], OnOk, flat_map, if◌then◌else◌, is_none, length, not, option_map, unwrap_or};
-ghost use Rattle.vx_class.specs.Members.{STATIC};
+ghost use Rattle.std.specs.Prelude.{◌≡◌, ◌++◌, ◌∷◌, ◌<◌, ◌^◌, ◌&&◌, ◌==◌, [], OnOk, flat_map, if◌then◌else◌, is_none, length, not, option_map};
 ghost use Rattle.vx_desc.specs.Names.{is_init};
 ghost use Rattle.vx_java.specs.Selection.{selected_if_concrete};
-ghost use Rattle.vx_link.specs.Assignability.{above_arrays, assignable};
-ghost use Rattle.vx_link.specs.ClassNames.{class_of_name, object_class};
-ghost use Rattle.vx_link.specs.Hierarchy.{is_among, is_proper_superclass};
+ghost use Rattle.vx_link.specs.Assignability.{assignable};
+ghost use Rattle.vx_link.specs.ClassNames.{object_class};
+ghost use Rattle.vx_link.specs.Hierarchy.{is_proper_superclass};
 ghost use Rattle.vx_java.specs.Ids.{HasClassNumbers};
 ghost use Rattle.vx_java.specs.Named.{in_bytes};
-ghost use Rattle.vx_link.specs.Parts.{PRIVATE, has, method_at};
+ghost use Rattle.vx_link.specs.Parts.{method_at};
 ghost use Rattle.vx_link.specs.Resolution.{is_array_clone};
 ghost use Rattle.vx_may_end.specs.Lacks.{of_call, of_class_there, of_initialisation, of_method_there, of_receiver, of_receivers, of_resolved, of_selected, special_selection, takes_arrays};
 
 use crate::classes::put_initialisation;
 use crate::lack::{CLASS, Lack, METHOD, NATIVE, When, put_lack, put_named};
-use bitflags::Flags;
 use std::alloc::{AllocError, Global};
 use vx_desc::is_init;
-use vx_java::parts::{class_of_method, flags_of_method, is_array, is_interface, superclass_of};
+use vx_java::parts::{class_of_method, is_array, is_interface, superclass_of};
 use vx_java::{
-    MemberReference, Mode, Selected, assignable, class_named, class_of_name, is_superclass,
+    MemberReference, Mode, Selected, assignable, class_named, is_above_arrays, is_superclass,
     object_id, resolve_method, select, select_special, selected_if_concrete,
 };
-use vx_link::{AccessFlags, Program};
-use vx_references::{is_static, member_text, method_name};
+use vx_link::Program;
+use vx_references::{is_private, is_static, member_text, method_name};
 use vx_value::{ClassId, MethodId};
 
 /// Whether a method has neither code nor a native method of the machine.
@@ -75,25 +73,6 @@ fn put_receiver(
         When::On(class),
         select(program, class, resolved),
     )
-}
-
-/// A core class, or class 0 where it isn't there.
-fn core_class(program: &Program, name: &[u8]) -> ClassId
-    requires { HasClassNumbers program.now }
-    ensures { result.0 ≡ unwrap_or (class_of_name program.now name.now) 0 }
-{
-    class_of_name(program, name).unwrap_or(ClassId(0))
-}
-
-/// Whether a class is Object, Cloneable or Serializable, which all arrays are.
-fn is_above_arrays(program: &Program, class: ClassId) -> bool
-    requires { HasClassNumbers program.now }
-    ensures { result ≡ is_among class.0 (above_arrays program.now) }
-{
-    let object = core_class(program, b"java/lang/Object");
-    let cloneable = core_class(program, b"java/lang/Cloneable");
-    let serializable = core_class(program, b"java/io/Serializable");
-    class.0 == object.0 || (class.0 == cloneable.0 || class.0 == serializable.0)
 }
 
 /// Whether an array may stand where a class is named.
@@ -208,13 +187,6 @@ fn put_static(
         When::Always,
         selected_if_concrete(program, resolved),
     )
-}
-
-/// Whether a method is private.
-fn is_private(program: &Program, method: MethodId) -> bool
-    ensures { result ≡ has PRIVATE (method_at program.now method.0).flags }
-{
-    flags_of_method(program, method).contains(AccessFlags::PRIVATE)
 }
 
 /// A call in a method of a class: the class that it names, and how it names the method.

@@ -1,24 +1,19 @@
 //! What an instruction lacks that names or initialises a class.
 
-ghost use Rattle.std.specs.Prelude.{◌≡◌, ◌++◌, ◌-◌, ◌<◌, ◌^◌, ◌==◌, ◌||◌, [], OnOk, length, map, option_map};
+ghost use Rattle.std.specs.Prelude.{◌≡◌, ◌++◌, ◌<◌, ◌^◌, [], OnOk, length, map};
 ghost use Rattle.std.specs.List.{cons_option};
-ghost use Rattle.vx_class.specs.Members.{ABSTRACT};
-ghost use Rattle.vx_java.specs.Arrays.{elements_of_numbers};
 ghost use Rattle.vx_java.specs.Ids.{HasClassNumbers};
 ghost use Rattle.vx_java.specs.Initialisation.{blocked};
-ghost use Rattle.vx_link.specs.ClassNames.{double_element, float_element, int_element};
 ghost use Rattle.vx_link.specs.Names.{class_name};
-ghost use Rattle.vx_link.specs.Parts.{class_at, has, is_interface};
-ghost use Rattle.vx_list.specs.Places.{item_or};
 ghost use Rattle.vx_may_end.specs.Lacks.{of_blocking, of_class, of_initialisation, of_new, of_primitives};
 
 use crate::lack::{CLASS, FLOAT, Lack, When, put_lack, put_named, put_nameless};
-use bitflags::Flags;
 use std::alloc::{AllocError, Global};
-use vx_java::parts::{is_interface, superclass_of};
+use vx_java::parts::{is_without_objects, superclass_of};
 use vx_java::{blocked, class_named};
-use vx_link::{AccessFlags, Program};
+use vx_link::Program;
 use vx_pool::{Pool, class_text as name_in};
+use vx_references::arrays::{element_of_number, is_float};
 use vx_spelling::class_text;
 use vx_value::ClassId;
 
@@ -90,17 +85,6 @@ pub(crate) fn put_initialisation(
     Ok(())
 }
 
-/// Whether `new` raises, since the class is abstract or an interface.
-fn is_uninstantiable(program: &Program, class: ClassId) -> bool
-    ensures { result ≡ (has ABSTRACT (class_at program.now class.0).flags || is_interface program.now class.0) }
-{
-    let is_abstract = match program.class(class) {
-        Some(class) => class.flags.contains(AccessFlags::ABSTRACT),
-        None => false,
-    };
-    is_abstract || is_interface(program, class)
-}
-
 /// Puts what `new` of a class lacks.
 fn put_new_of(
     alloc: Global,
@@ -111,7 +95,7 @@ fn put_new_of(
     requires { HasClassNumbers program.now }
     ensures { OnOk result (out.new.items ≡ out.old.items ++ of_new program.now class.0) }
 {
-    if is_uninstantiable(program, class) {
+    if is_without_objects(program, class) {
         return Ok(());
     }
     put_initialisation(alloc, out, program, class)
@@ -132,29 +116,6 @@ pub(crate) fn put_new(
         Some(class) => put_new_of(alloc, out, program, class),
         None => put_named(alloc, out, When::Always, CLASS, name),
     }
-}
-
-/// The element of a type number of newarray, from 4 to 11: boolean, char, float, double, byte, short, int, long.
-fn element_of_number(number: u32) -> u32
-    ensures { result ≡ item_or elements_of_numbers (number - 4) int_element }
-{
-    match number {
-        0..=4 => 0,
-        5 => 2,
-        6 => 4,
-        7 => 3,
-        8 => 1,
-        9 => 7,
-        11 => 6,
-        _ => 5,
-    }
-}
-
-/// Whether an element is a float or a double.
-fn is_float(element: u32) -> bool
-    ensures { result ≡ ((element == float_element) || (element == double_element)) }
-{
-    element == 4 || element == 3
 }
 
 /// Puts what `newarray` lacks.

@@ -1,53 +1,20 @@
 //! What an instruction lacks that names a field (JVMS 6.5 getstatic, putstatic, getfield, putfield).
 
-ghost use Rattle.std.specs.Prelude.{◌≡◌, ◌++◌, ◌<◌, ◌^◌, IfOk, OnOk, length, option_map};
-ghost use Rattle.vx_java.specs.Fields.{field_text};
-ghost use Rattle.vx_java.specs.Ids.{HasClassNumbers, as_field};
+ghost use Rattle.std.specs.Prelude.{◌≡◌, ◌++◌, ◌<◌, ◌^◌, OnOk, length, option_map};
+ghost use Rattle.vx_java.specs.Ids.{HasClassNumbers};
 ghost use Rattle.vx_java.specs.Named.{in_bytes};
-ghost use Rattle.vx_link.specs.Parts.{field_at, is_static_field};
-ghost use Rattle.vx_may_end.specs.Lacks.{of_class, of_field, of_field_there, of_found};
+ghost use Rattle.vx_may_end.specs.Lacks.{of_field, of_field_there, of_found};
 
 use crate::classes::put_initialisation;
 use crate::lack::{CLASS, FIELD, FLOAT, Lack, When, put_lack, put_named, put_nameless};
-use bitflags::Flags;
 use std::alloc::{AllocError, Global};
 use vx_desc::field_type;
+use vx_java::parts::class_of_field;
 use vx_java::{MemberReference, class_named, resolve_field};
-use vx_link::{AccessFlags, Program};
-use vx_references::sort_of;
-use vx_value::{ClassId, FieldId, Name};
-
-/// The class, the name and the descriptor of a field, as reports name it.
-fn field_text(alloc: Global, named: &MemberReference<'_>) -> Result<Name, AllocError>
-    ensures { IfOk result (λ text. text ≡ field_text (in_bytes named.now)) }
-{
-    let mut text = Vec::from_slice(alloc, named.class)?;
-    text.extend_from_slice(b".")?;
-    text.extend_from_slice(named.name)?;
-    text.extend_from_slice(b":")?;
-    text.extend_from_slice(named.descriptor)?;
-    Ok(Name::from_vec(text))
-}
-
-/// The class that declares a field.
-fn class_of_field(program: &Program, field: FieldId) -> ClassId
-    ensures { result ≡ (field_at program.now field.0).class }
-{
-    match program.field(field) {
-        Some(field) => field.class,
-        None => ClassId(0),
-    }
-}
-
-/// Whether a field is static; one that isn't there is not.
-fn is_static_field(program: &Program, field: FieldId) -> bool
-    ensures { result ≡ is_static_field program.now field.0 }
-{
-    match program.field(field) {
-        Some(field) => field.flags.contains(AccessFlags::STATIC),
-        None => false,
-    }
-}
+use vx_link::Program;
+use vx_references::fields::is_static_field;
+use vx_references::{field_text, sort_of};
+use vx_value::FieldId;
 
 /// Puts what an instruction lacks whose field is there: a static one has its class initialised.
 fn put_found(

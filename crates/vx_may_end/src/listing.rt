@@ -1,7 +1,6 @@
 //! The list of all instructions of a program that lack something.
 
 ghost use Rattle.std.specs.List.{list_all};
-ghost use Rattle.std.specs.Option.{option_copied};
 ghost use Rattle.std.specs.Prelude.{◌≡◌, ◌++◌, ◌+◌, ◌≤◌, IfOk, IfSome, OnOk, Some, flat_map, length, option_map, true};
 ghost use Rattle.vx_opcode.specs.Decode.{instruction_at};
 ghost use Rattle.vx_java.specs.Ids.{HasClassNumbers};
@@ -15,7 +14,7 @@ use crate::instructions::lacks_at;
 use crate::lack::{Lack, Spot};
 use std::alloc::{AllocError, Global};
 use vx_class::Code;
-use vx_java::parts::class_of_method;
+use vx_java::parts::{class_of_method, code_of};
 use vx_link::Program;
 use vx_list::Items;
 use vx_numbered::next_number;
@@ -99,19 +98,6 @@ fn put_spots_in(
         left -= 1;
     }
     Ok(())
-}
-
-/// The code of a method, if it has any.
-fn code_of(program: &Program, method: MethodId) -> Option<&Code>
-    ensures { option_copied result ≡ (method_at program.now method.0).code }
-{
-    match program.method(method) {
-        Some(method) => match &method.code {
-            Some(code) => Some(code),
-            None => None,
-        },
-        None => None,
-    }
 }
 
 /// Puts the instructions of a method that lack something.

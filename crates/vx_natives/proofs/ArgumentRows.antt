@@ -5,9 +5,9 @@ use Rattle.std.specs.List.{AllZip}
 use Rattle.std.specs.Prelude.{◌&&◌, None, Option, Some, nat_le, option_map}
 use Rattle.vx_cells.proofs.ObjectClasses.{class_there}
 use Rattle.vx_desc.specs.declared.java_type.JavaType.{JavaType}
-use Rattle.vx_fields.specs.Statics.{narrowed_slot, slot_fits}
-use Rattle.vx_fields.proofs.Storing.{fits_plain, narrowed_plain}
-use Rattle.vx_fields.proofs.Sizes.{plain_size}
+use Rattle.vx_families.specs.Sorts.{narrowed_slot, slot_fits}
+use Rattle.vx_families.proofs.SlotSorts.{fits_plain, narrowed_plain}
+use Rattle.vx_families.proofs.Sizes.{plain_size}
 use Rattle.vx_heap.specs.Heap.{HeapView, are_held, is_held, name_at, objects_at, value_of}
 use Rattle.vx_java.specs.Calls.{top_values, values_matching}
 use Rattle.vx_java.specs.Checks.{is_instance_of, sort_of, width_of_type}

@@ -14,7 +14,7 @@ use Rattle.vx_cond.proofs.SideLaws.{cond_at-covers}
 use Rattle.vx_desc.specs.declared.java_type.JavaType.{JavaType}
 use Rattle.vx_families.proofs.Given.{given_operands_held}
 use Rattle.vx_families.specs.Attempts.{AttemptsBy, IsGiven}
-use Rattle.vx_fields.specs.Statics.{slot_fits, narrowed_slot}
+use Rattle.vx_families.specs.Sorts.{slot_fits, narrowed_slot}
 use Rattle.vx_group.specs.Group.{GroupView, path_of}
 use Rattle.vx_group.proofs.GroupLaws.{IsGroup-path_known}
 use Rattle.vx_group_states.proofs.AnswerLaws.{all_drop}

@@ -5,7 +5,7 @@ use Rattle.vx_cells.specs.Classes.{has_class}
 use Rattle.vx_class.specs.Members.{STATIC}
 use Rattle.vx_cond.specs.Cond.{Conditional, IsCond}
 use Rattle.vx_desc.specs.declared.java_type.JavaType.{JavaType}
-use Rattle.vx_fields.specs.Statics.{narrowed_slot, slot_fits}
+use Rattle.vx_families.specs.Sorts.{narrowed_slot, slot_fits}
 use Rattle.vx_group.specs.Group.{GroupView, path_of}
 use Rattle.vx_group_states.specs.Answering.{operands_at}
 use Rattle.vx_group_states.specs.Widths.{slots_size}

@@ -7,7 +7,7 @@ ghost use Rattle.vx_natives.specs.Calls.{call_given};
 
 use crate::call::Call;
 use vx_desc::JavaType;
-use vx_fields::{fits, narrowed};
+use vx_families::{fits, narrowed};
 use vx_heap::Heap;
 use vx_java::assignable;
 use vx_link::Program;

@@ -1,9 +1,7 @@
 //! One attempt, and the frames that it notes in an object.
 
-ghost use Rattle.std.specs.Prelude.{◌≡◌, ◌<◌, ◌≤◌, ◌+◌, ◌^◌, IfOk, option_map};
+ghost use Rattle.std.specs.Prelude.{◌≡◌, ◌≤◌, ◌+◌, IfOk, option_map};
 ghost use Rattle.vx_java.specs.Ids.{HasClassNumbers};
-ghost use Rattle.vx_java.specs.Machine.{next_object};
-ghost use Rattle.vx_link.specs.Parts.{method_at};
 ghost use Rattle.vx_noted.specs.Noted.{by_constructor, by_throwing, constructor_arguments, in_raised, in_receiver, in_wrapper, is_object, is_receiver, standings_of, texts_of};
 ghost use Rattle.vx_noted.specs.Runs.{IsNoting, IsNotingBy, lead};
 ghost use Rattle.vx_plain.specs.Views.{state_of, value_of};
@@ -13,6 +11,7 @@ ghost use Rattle.vx_plain_tables.specs.Tables.{AreTables};
 use crate::frames::{Standing, standings_of};
 use crate::wrapping::below_wrapped;
 use std::alloc::{AllocError, Global};
+use vx_java::parts::native_number;
 use vx_link::Program;
 use vx_list::GivenUp;
 use vx_plain::{State, Value};
@@ -29,16 +28,6 @@ pub enum Noting {
     Frames(Vec<Standing>),
     Goes,
     Ends,
-}
-
-/// The number of a native method, or 0.
-fn native_of_method(program: &Program, method: MethodId) -> u32
-    ensures { result ≡ (method_at program.now method.0).native }
-{
-    match program.method(method) {
-        Some(method) => method.native,
-        None => 0,
-    }
 }
 
 /// How many arguments the native constructor of a number takes; `None` for any other method.
@@ -86,7 +75,7 @@ fn in_receiver(
 ) -> Result<Option<Vec<Standing>>, AllocError>
     ensures { IfOk result (λ noted. option_map (λ frames. frames.items) noted ≡ in_receiver program.now (state_of state.now) method.0 object) }
 {
-    let arguments = constructor_arguments(native_of_method(program, method));
+    let arguments = constructor_arguments(native_number(program, method));
     if is_receiver(state, object, arguments) {
         let frames = standings_of(alloc, state)?;
         return Ok(Some(frames));
@@ -113,15 +102,6 @@ fn by_constructor(
         Outcome::Write(_, _) => Ok(None),
         Outcome::Ended(_) => Ok(None),
     }
-}
-
-/// The number of the object that is made next.
-#[tactic(auto, unfolding(vx_plain::specs::Views::state_of))]
-fn next_object(state: &State) -> u64
-    ensures place { result ≡ next_object (state_of state.now) }
-    ensures few { result < 2 ^ 63 }
-{
-    state.heap.len() as u64
 }
 
 /// The frames that a wrapper notes, where an object is that wrapper.
@@ -169,7 +149,7 @@ fn in_raised(
     requires few { texts ≤ 1 }
     ensures { IfOk result (λ noted. option_map (λ frames. frames.items) noted ≡ in_raised program.now (state_of state.now) class.0 (texts + 1) object) }
 {
-    let made = next_object(state) + texts;
+    let made = state.next_object() + texts;
     if made == object {
         let frames = standings_of(alloc, state)?;
         return Ok(Some(frames));
@@ -193,7 +173,7 @@ fn by_throwing(
             in_raised(alloc, program, *class, texts_of(message), state, object)
         }
         Outcome::Throw(thrown) => {
-            let wrapper = next_object(state);
+            let wrapper = state.next_object();
             in_wrapper(
                 alloc,
                 program,

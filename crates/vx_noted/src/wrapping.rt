@@ -2,15 +2,12 @@
 
 ghost use Rattle.std.specs.Prelude.{◌≡◌, MatchOption, None, Some};
 ghost use Rattle.vx_java.specs.Ids.{HasClassNumbers};
-ghost use Rattle.vx_link.specs.Assignability.{assignable};
-ghost use Rattle.vx_link.specs.ClassNames.{core_class};
 ghost use Rattle.vx_noted.specs.Noted.{below_initialisation, below_wrapped, called_below, handler_by, handles, is_call};
 
 use crate::frames::Standing;
 use vx_java::parts::class_of_method;
-use vx_java::{assignable, handler_for};
+use vx_java::{assignable, core_class, handler_for};
 use vx_link::Program;
-use vx_plain_ready::core_class;
 use vx_value::{ClassId, Kind};
 
 /// The handler of a frame for an object of a class; one that waits handles nothing.

@@ -1,9 +1,9 @@
 //! What the arithmetic instructions compute of plain numbers (JVMS 6.5). No call takes memory.
 #![tactic(auto)]
 
-ghost use Rattle.std.specs.Prelude.{◌≡◌};
+ghost use Rattle.std.specs.Prelude.{◌≡◌, if◌then◌else◌};
 ghost use Rattle.std.specs.Int.{w32, w64};
-ghost use Rattle.vx_value.specs.Arithmetic.{int_op_of, long_op_of, negation, shift_int_of, shift_long_of, compare_long_of, narrow_of, long_to_int as int_of_long};
+ghost use Rattle.vx_value.specs.Arithmetic.{int_op_of, long_op_of, negation, shift_int_of, shift_long_of, compare_long_of, narrow_of, negative, long_to_int as int_of_long};
 
 use vx_value::{IntOp, Narrow, ShiftOp};
 
@@ -88,6 +88,20 @@ pub fn negate_long(a: i64) -> i64
     ensures { result ≡ negation w64 a }
 {
     0i64.wrapping_sub(a)
+}
+
+/// The distance of an int from 0; that of the least one is itself.
+pub fn absolute_of_int(a: i32) -> i32
+    ensures { result ≡ (if negative a then negation w32 a else a) }
+{
+    if a < 0 { negate_int(a) } else { a }
+}
+
+/// The distance of a long from 0; that of the least one is itself.
+pub fn absolute_of_long(a: i64) -> i64
+    ensures { result ≡ (if negative a then negation w64 a else a) }
+{
+    if a < 0 { negate_long(a) } else { a }
 }
 
 /// ishl, ishr, iushr: the distance is the lowest five bits.

@@ -13,7 +13,7 @@ use Rattle.vx_cond.proofs.SideLaws.{cond_at-covers}
 use Rattle.vx_families.specs.Attempts.{IsGiven}
 use Rattle.vx_families.proofs.Given.{IsGiven-extends, given_operands_held}
 use Rattle.vx_families.proofs.Tops.{lifting2_at}
-use Rattle.vx_fields.specs.Statics.{narrowed_slot, top_of}
+use Rattle.vx_families.specs.Sorts.{narrowed_slot, top_of}
 use Rattle.vx_fields.proofs.Storing.{stored_held}
 use Rattle.vx_group.specs.Group.{GroupView, path_of}
 use Rattle.vx_group.proofs.GroupLaws.{IsGroup-path_known}

@@ -4,8 +4,8 @@ use Rattle.std.specs.Prelude.{◌&&◌, nat_le}
 use Rattle.vx_cells.specs.Places.{place_if}
 use Rattle.vx_cells.specs.Through.{by_place}
 use Rattle.vx_cells.specs.declared.place.Place.TheVariants as place
-use Rattle.vx_fields.proofs.Sizes.{plain_size}
-use Rattle.vx_fields.proofs.Storing.{fits_plain}
+use Rattle.vx_families.proofs.Sizes.{plain_size}
+use Rattle.vx_families.proofs.SlotSorts.{fits_plain}
 use Rattle.vx_group_states.specs.Widths.{slots_size}
 use Rattle.vx_group_states.proofs.Operands.{item_held}
 use Rattle.vx_heap.specs.Heap.{HeapView, are_held, is_held, name_at, objects_at, value_of}

@@ -8,19 +8,19 @@ use Rattle.vx_cond.proofs.CondLaws.{IsCond-of, cond_at-of}
 use Rattle.vx_cond.specs.Cond.{Conditional, IsCond, IsCondOf, cond_at}
 use Rattle.vx_cond.specs.Leaves.{value_within}
 use Rattle.vx_cond.specs.Slots.{or_top, slot_at}
-use Rattle.vx_families.proofs.AttemptLaws.{AttemptsBy-ended}
+use Rattle.vx_families.proofs.AttemptLaws.{AttemptsBy-ended, AttemptsBy-same}
 use Rattle.vx_families.proofs.Pushes.{operand_count, words_at_least}
-use Rattle.vx_fields.proofs.Families.{AttemptsBy-same, pool_class}
-use Rattle.vx_fields.proofs.Gets.{AttemptsBy-stays, and_none, unready}
+use Rattle.vx_families.specs.Pools.{pool_class}
+use Rattle.vx_ready.proofs.Given.{AttemptsBy-stays, and_none, unready}
 use Rattle.vx_fields.proofs.Moving.{pushed-gives}
-use Rattle.vx_fields.proofs.Tops.{value_inside}
+use Rattle.vx_ready.proofs.Tops.{value_inside}
 use Rattle.vx_families.specs.Attempts.{AttemptsBy, IsAttemptBy, IsGiven, row_by}
 use Rattle.vx_frame.specs.declared.frame.Frame.{Frame}
 use Rattle.vx_group.proofs.CallerLaws.{Keeps-refl}
 use Rattle.vx_group.proofs.GroupLaws.{IsGroup-path_known}
 use Rattle.vx_group.specs.Group.{GroupView, IsGroup, IsPartOf, path_of}
 use Rattle.vx_group.specs.declared.callers.Caller.{Caller}
-use Rattle.vx_fields.proofs.Sizes.{plain_size}
+use Rattle.vx_families.proofs.Sizes.{plain_size}
 use Rattle.vx_group_states.proofs.Gathering.{part_path}
 use Rattle.vx_group_states.proofs.GrownStates.{StandsIn-grown}
 use Rattle.vx_group_states.proofs.OutcomeStates.{CameTo-none}

@@ -3,8 +3,8 @@ use Rattle.std.proofs.Common.{◌≡◌, ℕ, ◌<◌, ◌≤◌, Bool, true, fa
 use Rattle.std.specs.Prelude.{◌&&◌, Option, None, Some, not, option_map}
 use Rattle.vx_cond.specs.Cond.{Conditional, IsCondOf}
 use Rattle.vx_cond.specs.Leaves.{value_within}
-use Rattle.vx_fields.specs.Statics.{top_of}
-use Rattle.vx_fields.proofs.Families.{pool_class}
+use Rattle.vx_families.specs.Sorts.{top_of}
+use Rattle.vx_families.specs.Pools.{pool_class}
 use Rattle.vx_frame.specs.declared.frame.Frame.{Frame}
 use Rattle.vx_group.specs.Group.{GroupView, IsPartOf, path_of}
 use Rattle.vx_group_states.specs.Answering.{AreHeld, answered, answered_by, is_answer_held, operands_at}

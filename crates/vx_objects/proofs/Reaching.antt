@@ -16,8 +16,8 @@ use Rattle.vx_families.specs.Texts.{HasMoreTexts}
 use Rattle.vx_families.proofs.Answered.{AttemptsBy-answered, answered-extends}
 use Rattle.vx_families.proofs.Given.{given_operands_held}
 use Rattle.vx_families.proofs.MoreTexts.{Grows-texts, IsHeap-texts, IsHeapFor-texts, globals_at-texts}
-use Rattle.vx_fields.specs.Statics.{narrowed_slot}
-use Rattle.vx_fields.proofs.Storing.{narrowed_plain}
+use Rattle.vx_families.specs.Sorts.{narrowed_slot}
+use Rattle.vx_families.proofs.SlotSorts.{narrowed_plain}
 use Rattle.vx_group.specs.declared.callers.Caller.{Caller}
 use Rattle.vx_group.specs.Group.{GroupView, path_of}
 use Rattle.vx_group.proofs.CallerLaws.{Keeps-refl}

@@ -6,7 +6,7 @@ use Rattle.vx_cells.specs.Classes.{has_class}
 use Rattle.vx_cells.specs.Places.{place_if}
 use Rattle.vx_cells.specs.declared.place.Place.{Place}
 use Rattle.vx_cells.specs.declared.place.Place.TheVariants as place
-use Rattle.vx_fields.specs.Statics.{slot_fits}
+use Rattle.vx_families.specs.Sorts.{slot_fits}
 use Rattle.vx_group_states.specs.declared.answer.Answer.{Answer}
 use Rattle.vx_group_states.specs.declared.answer.Answer.TheVariants as answer
 use Rattle.vx_heap.specs.Heap.{HeapView, class_at_slot}

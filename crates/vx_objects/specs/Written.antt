@@ -5,7 +5,7 @@ use Rattle.vx_cells.specs.Through.{is_cell, place_at, written_through}
 use Rattle.vx_cells.specs.declared.place.Place.{Place}
 use Rattle.vx_cond.specs.Cond.{Conditional, IsCond}
 use Rattle.vx_cond.specs.Slots.{slot_at}
-use Rattle.vx_fields.specs.Statics.{narrowed_slot}
+use Rattle.vx_families.specs.Sorts.{narrowed_slot}
 use Rattle.vx_group.specs.Group.{GroupView, path_of}
 use Rattle.vx_group_states.specs.Answering.{operands_at}
 use Rattle.vx_group_states.specs.declared.site.Site.{Site}

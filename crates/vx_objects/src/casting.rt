@@ -2,7 +2,7 @@
 
 ghost use Rattle.std.specs.Prelude.{◌≡◌, ◌&&◌, ◌<◌, IfOk, drop, length, true};
 ghost use Rattle.vx_families.specs.Attempts.{AttemptsBy, IsAttemptBy, IsGiven};
-ghost use Rattle.vx_fields.specs.Statics.{top_of};
+ghost use Rattle.vx_families.specs.Sorts.{top_of};
 ghost use Rattle.vx_group.specs.Group.{IsGroup, path_of};
 ghost use Rattle.vx_group_states.specs.Answering.{answered, operands_at};
 ghost use Rattle.vx_group_states.specs.Sites.{Gives, GivesAt, HasPast, here};
@@ -16,13 +16,12 @@ ghost use Rattle.vx_space.specs.Sets.{Extends, IsKnown, IsSet, Sets};
 use crate::instances::is_instance;
 use std::alloc::Global;
 use vx_cond::Cond;
-use vx_families::{core_class, no_class};
-use vx_fields::top_operand;
+use vx_families::{no_class, top_operand};
 use vx_group::Group;
 use vx_group_states::{Answer, Site, carry_out, illegal};
 use vx_heap::Heap;
-use vx_java::Operation;
 use vx_java::parts::class_of_method;
+use vx_java::{Operation, core_class};
 use vx_link::Program;
 use vx_outcome::Outcomes;
 use vx_ready::where_yes;

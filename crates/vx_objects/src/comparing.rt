@@ -7,12 +7,11 @@ ghost use Rattle.vx_space.specs.Sets.{Extends};
 
 use std::alloc::Global;
 use vx_arith::{Spot, branch_by, spot_at};
-use vx_families::core_class;
-use vx_fields::{second_operand, top_operand};
+use vx_families::{second_operand, top_operand};
 use vx_group::Group;
 use vx_group_states::{Answer, Site, carry_out, illegal};
 use vx_heap::Heap;
-use vx_java::Operation;
+use vx_java::{Operation, core_class};
 use vx_outcome::Outcomes;
 use vx_space::{Space, SpaceFault};
 use vx_value::{ClassId, Slot};

@@ -6,7 +6,7 @@ ghost use Rattle.vx_cells.specs.Through.{ArePlacesHeld, place_at};
 ghost use Rattle.vx_cond.specs.Cond.{IsCond};
 ghost use Rattle.vx_families.specs.Attempts.{AttemptsBy, IsAttemptBy, IsGiven};
 ghost use Rattle.vx_cond.specs.Slots.{slot_at};
-ghost use Rattle.vx_fields.specs.Statics.{narrowed_slot};
+ghost use Rattle.vx_families.specs.Sorts.{narrowed_slot};
 ghost use Rattle.vx_group.specs.Group.{IsGroup, path_of};
 ghost use Rattle.vx_group_states.specs.Answering.{operands_at};
 ghost use Rattle.vx_group_states.specs.Sites.{here};
@@ -28,28 +28,20 @@ use std::alloc::Global;
 use vx_cells::{Place, passes_at, place_if, read_through, where_room, write_through};
 use vx_cond::Cond;
 use vx_desc::JavaType;
+use vx_families::{fits, narrowed, second_operand, top_operand};
+use vx_fields::field_named;
 use vx_fields::unresolved::unresolved;
-use vx_fields::{field_named, fits, narrowed, second_operand, top_operand, width_of};
 use vx_group::Group;
 use vx_group_states::{Site, carry_out, illegal};
 use vx_heap::Heap;
 use vx_java::Operation;
-use vx_java::parts::class_of_method;
+use vx_java::parts::{cell_of, class_of_method};
 use vx_link::Program;
 use vx_outcome::Outcomes;
+use vx_references::fields::width_of;
 use vx_references::{FieldReference, named_member};
 use vx_space::{Space, SpaceFault};
 use vx_value::{ClassId, FieldId, Slot};
-
-/// The place of a field among the cells of an object.
-fn cell_of(program: &Program, field: FieldId) -> u32
-    ensures { result ≡ (field_at program.now field.0).cell }
-{
-    match program.field(field) {
-        Some(field) => field.cell,
-        None => 0,
-    }
-}
 
 fn field_place<S: Space>(
     program: &Program,

@@ -19,7 +19,6 @@ ghost use Rattle.vx_ready.specs.Running.{IsRunning};
 ghost use Rattle.vx_space.specs.Sets.{Extends, IsKnown, IsSet};
 ghost use Rattle.vx_value.specs.declared.slot.Slot.TheVariants.{Ref};
 
-use bitflags::Flags;
 use std::alloc::Global;
 use vx_cells::where_room;
 use vx_cond::Cond;
@@ -28,28 +27,12 @@ use vx_group::Group;
 use vx_group_states::{Site, illegal};
 use vx_heap::Heap;
 use vx_java::Operation;
-use vx_java::parts::{class_of_method, is_interface};
-use vx_link::{AccessFlags, Program};
+use vx_java::parts::{class_of_method, is_without_objects};
+use vx_link::Program;
 use vx_outcome::Outcomes;
 use vx_ready::{Readiness, make_ready, stop_others, where_yes};
 use vx_space::{Space, SpaceFault};
 use vx_value::{ClassId, Slot};
-
-fn is_abstract(program: &Program, class: ClassId) -> bool
-    ensures { result ≡ has ABSTRACT (class_at program.now class.0).flags }
-{
-    match program.class(class) {
-        Some(class) => class.flags.contains(AccessFlags::ABSTRACT),
-        None => false,
-    }
-}
-
-/// Whether there are no objects of a class.
-fn has_no_objects(program: &Program, class: ClassId) -> bool
-    ensures { result ≡ (has ABSTRACT (class_at program.now class.0).flags || is_interface program.now class.0) }
-{
-    is_abstract(program, class) || is_interface(program, class)
-}
 
 /// The configurations of a group in which a reference has room on the operands.
 fn where_fitting<S: Space>(
@@ -180,7 +163,7 @@ fn new_of_class<S: Space>(
     ensures ok { IfOk result (λ r. AttemptsBy site.now (λ s. new_of_class (here site.now s) class.0) (S.sets space.old) (S.sets space.new) heap.old heap.new group r.items.items) }
 {
     let program = site.program;
-    if has_no_objects(program, class) {
+    if is_without_objects(program, class) {
         let raised = raise(alloc, program, group, b"java/lang/InstantiationError")?;
         return Ok(raised);
     }

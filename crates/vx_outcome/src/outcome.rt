@@ -105,11 +105,15 @@ impl<S: Space> Outcomes<S> {
         Ok(())
     }
 
-    /// Appends the outcomes of another part of the path. Want of memory leaves them as they were.
+    /// Appends the outcomes of another part of the path. Where there were none the others are taken as they are. Want of memory leaves them as they were.
     pub fn append(&mut self, other: Outcomes<S>) -> Result<(), AllocError>
         ensures ok { OnOk result (self.new.items.items ≡ self.old.items.items ++ other.items.items) }
         ensures err { OnErr result (self.new.items.items ≡ self.old.items.items) }
     {
+        if self.items.as_slice().is_empty() {
+            self.items = other.items;
+            return Ok(());
+        }
         let mut items = other.items;
         self.items.append(&mut items)?;
         Ok(())

@@ -10,7 +10,7 @@ pub one_told_text : (telling : Telling) (report : Report) (one other : List ℕ)
 one_told_text Interactions report one other h p q = one_interactions_text report one other p q
 one_told_text (Picture drawn) report one other h p q = p.spelled ∙ sym q.spelled
 one_told_text Cover report one other h p q = absurd h
-one_told_text Explanations report one other h p q = absurd h
+one_told_text (Explanations asked) report one other h p q = absurd h
 one_told_text Counts report one other h p q = p ∙ sym q
 one_told_text (Listed n) report one other h p q = p ∙ sym q
 one_told_text Page report one other h p q = p ∙ sym q

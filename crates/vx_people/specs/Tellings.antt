@@ -13,7 +13,8 @@ use Rattle.vx_cover.specs.Text.{cover_text}
 use Rattle.vx_cover.specs.declared.tries.Try.{Try}
 use Rattle.vx_explain.specs.Explanations.{AreExplained}
 use Rattle.vx_explain.specs.Text.{explanation_text}
-use Rattle.vx_explain.specs.declared.explained.Explained.{Explained}
+use Rattle.vx_explain.specs.declared.explained.Asked.{Asked}
+use Rattle.vx_explain.specs.declared.explained.Explanation.{Explanation}
 use Rattle.vx_page.specs.Page.{report_page}
 use Rattle.vx_people.specs.declared.telling.Telling.{Telling}
 use Rattle.vx_people.specs.declared.telling.Telling.TheVariants.{Interactions, Picture, Cover, Explanations, Counts, Listed, Page}
@@ -33,11 +34,11 @@ pub record IsCoverText (report : Report) (text : List ℕ) : Type 0 where
   pub cover : IsCover report tries
   pub spelled : text ≡ cover_text report.options tries
 
--- the text is that of rules and examples of a report's pieces and ends
-pub record IsExplanationText (report : Report) (text : List ℕ) : Type 0 where
-  pub explained : List Explained
-  pub are : AreExplained report explained
-  pub spelled : text ≡ explanation_text report.options explained
+-- the text is that of rules and examples of a report's pieces and ends, or of its ends alone
+pub record IsExplanationText (asked : Asked) (report : Report) (text : List ℕ) : Type 0 where
+  pub explanation : Explanation
+  pub are : AreExplained asked report explanation
+  pub spelled : text ≡ explanation_text report.options explanation
 
 -- how many configurations are listed
 abbrev pub list_length : Option ℕ → ℕ
@@ -47,7 +48,7 @@ abbrev pub IsToldText : Telling → Report → List ℕ → Type 0
 IsToldText Interactions report text = IsInteractionsText report text
 IsToldText (Picture drawn) report text = IsPictureText drawn report text
 IsToldText Cover report text = IsCoverText report text
-IsToldText Explanations report text = IsExplanationText report text
+IsToldText (Explanations asked) report text = IsExplanationText asked report text
 IsToldText Counts report text = text ≡ count_text report
 IsToldText (Listed n) report text = text ≡ list_text (list_length n) report
 IsToldText Page report text = text ≡ report_page report
@@ -66,7 +67,7 @@ abbrev pub is_told : Telling → Report → Bool
 is_told (Picture drawn) report = has_drawn drawn report
 is_told Interactions report = true
 is_told Cover report = true
-is_told Explanations report = true
+is_told (Explanations asked) report = true
 is_told Counts report = true
 is_told (Listed n) report = true
 is_told Page report = true
@@ -76,7 +77,7 @@ abbrev pub HasOneText : Telling → Type 0
 HasOneText Interactions = Unit {0}
 HasOneText (Picture drawn) = Unit {0}
 HasOneText Cover = ⊥
-HasOneText Explanations = ⊥
+HasOneText (Explanations asked) = ⊥
 HasOneText Counts = Unit {0}
 HasOneText (Listed n) = Unit {0}
 HasOneText Page = Unit {0}

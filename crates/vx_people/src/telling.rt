@@ -10,7 +10,7 @@ use std::alloc::{AllocError, Global};
 use vx_bdd::BddSpace;
 use vx_count::{count_report, counts_text, list_report, listed_text};
 use vx_cover::{cover, cover_text};
-use vx_explain::{explain, explanation_text};
+use vx_explain::{Asked, explain, explanation_text};
 use vx_interact::{interactions, interactions_text};
 use vx_page::write_page;
 use vx_picture::{Drawn, picture, picture_text};
@@ -18,14 +18,14 @@ use vx_report::Report;
 use vx_space::SpaceFault;
 
 /// What a report is asked for: on which options its pieces and ends depend, its picture or a part of it, a cover of it, rules and
-/// examples of its pieces and ends, how many configurations have each of them, the first
+/// examples of its pieces and ends or of its ends alone, how many configurations have each of them, the first
 /// configurations that have an end, or a page that shows it in a browser.
 #[derive(Clone, Copy)]
 pub enum Telling {
     Interactions,
     Picture(Drawn),
     Cover,
-    Explanations,
+    Explanations(Asked),
     Counts,
     /// So many of them; 1,000 where nothing is said.
     Listed(Option<u64>),
@@ -61,13 +61,13 @@ fn covering(alloc: Global, report: &Report) -> Result<Vec<u8>, SpaceFault>
 }
 
 /// The text of the explanations of a report.
-fn explaining(alloc: Global, report: &Report) -> Result<Vec<u8>, SpaceFault>
+fn explaining(alloc: Global, report: &Report, asked: Asked) -> Result<Vec<u8>, SpaceFault>
     requires { IsLawful report.now }
-    ensures { IfOk result (λ text. IsExplanationText report.now text.items) }
+    ensures { IfOk result (λ text. IsExplanationText asked report.now text.items) }
 {
     let mut space = BddSpace::new(alloc, report.options.len() as u32)?;
-    let explained = explain(alloc, &mut space, report)?;
-    Ok(explanation_text(alloc, report, explained.as_slice())?)
+    let explanation = explain(alloc, &mut space, report, asked)?;
+    Ok(explanation_text(alloc, report, &explanation)?)
 }
 
 /// The text of the counts of a report.
@@ -109,7 +109,7 @@ fn text_of(alloc: Global, telling: Telling, report: &Report) -> Result<Vec<u8>, 
         Telling::Interactions => Ok(interacting(alloc, report)?),
         Telling::Picture(drawn) => Ok(picturing(alloc, report, drawn)?),
         Telling::Cover => covering(alloc, report),
-        Telling::Explanations => explaining(alloc, report),
+        Telling::Explanations(asked) => explaining(alloc, report, asked),
         Telling::Counts => counting(alloc, report),
         Telling::Listed(n) => listing(alloc, report, n.unwrap_or(1000)),
         Telling::Page => Ok(write_page(alloc, report)?),

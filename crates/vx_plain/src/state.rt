@@ -1,10 +1,10 @@
 //! The plain state of a run (JVMS 2.5).
 
-ghost use Rattle.std.specs.Prelude.{◌≡◌, ◌+◌, ◌∷◌, [], IfOk, IfSome, MatchOption, OnErr, OnOk, drop, length, map, option_map, slice_get, slice_set};
+ghost use Rattle.std.specs.Prelude.{◌≡◌, ◌+◌, ◌<◌, ◌^◌, ◌∷◌, [], IfOk, IfSome, MatchOption, OnErr, OnOk, drop, length, map, option_map, slice_get, slice_set};
 ghost use Rattle.vx_java.specs.Initialisation.{quiet_chain};
 ghost use Rattle.vx_java.specs.Library.{number_in};
 ghost use Rattle.vx_java.specs.Locals.{with_locals};
-ghost use Rattle.vx_java.specs.Machine.{Text, Top, at_position, cell_at, current_class, depth, init_at, object_at, stack_size, with_cell, with_inits, with_objects, with_static};
+ghost use Rattle.vx_java.specs.Machine.{Text, Top, at_position, cell_at, current_class, depth, init_at, next_object, object_at, stack_size, with_cell, with_inits, with_objects, with_static};
 ghost use Rattle.vx_java.specs.Texts.{units_in};
 ghost use Rattle.vx_list.specs.Places.{item_or};
 ghost use Rattle.vx_plain.specs.Frames.{HasNoCaller, with_frame};
@@ -41,6 +41,15 @@ impl State {
     }
 
     // ---- objects
+
+    /// The number of the object that is made next.
+    #[tactic(auto, unfolding(crate::specs::Views::state_of))]
+    pub fn next_object(&self) -> u64
+        ensures place { result ≡ next_object (state_of self.now) }
+        ensures few { result < 2 ^ 63 }
+    {
+        self.heap.len() as u64
+    }
 
     /// The class of an object.
     #[tactic(auto, using(crate::proofs::Heaps::object_there, crate::proofs::Heaps::object_missing), unfolding(crate::specs::Views::state_of))]

@@ -5,14 +5,14 @@ use Rattle.std.proofs.lemmas.Bool.{ltb-false}
 use Rattle.std.proofs.lemmas.Bool.Decides.{nat_tests}
 use Rattle.std.proofs.lemmas.List.{append-nil, append_assoc, length-append, length-map, map-append, take_all, take_more}
 use Rattle.std.specs.List.{list_any}
-use Rattle.std.specs.Prelude.{IfOk, None, Option, Result, Some, slice_get}
+use Rattle.std.specs.Prelude.{IfOk, None, Result, Some}
 use Rattle.vx_java.specs.Arrays.{grid, grid_cells, grid_objects, lengths_off, new_grid_of, parts_of, push_grid, references_to}
 use Rattle.vx_java.specs.Machine as machine
 use Rattle.vx_java.specs.Machine.{Go, Here, State, go, illegal, in_state, length_bound, next_object, past, with_objects}
 use Rattle.vx_link.specs.ClassNames.{component_of}
 use Rattle.vx_link.specs.declared.program.Program.{Program}
 use Rattle.vx_value.specs.Arithmetic.{natural}
-use Rattle.vx_plain.specs.Views.{object_of, value_of, values_of}
+use Rattle.vx_plain.specs.Views.{value_of, values_of}
 use Rattle.vx_plain.specs.declared.object.Object.{Object}
 use Rattle.vx_plain.specs.declared.value.Value.{Value}
 use Rattle.vx_plain.specs.declared.value.Value.TheVariants.{Int, Long, Null, Ref, Top}
@@ -21,9 +21,6 @@ use Rattle.vx_plain_here.specs.Rows.{ComesTo, places_of}
 use Rattle.vx_plain_here.specs.declared.outcome.Outcome.{Outcome}
 use Rattle.vx_plain_arrays.specs.Elements.{int_in}
 use Rattle.vx_plain_arrays.specs.Grids.{grid_of_lengths, int_below, int_of}
-
-pub next_place : (heap : List Object) → length heap ≡ length (map object_of heap)
-next_place heap = sym (length-map heap object_of)
 
 pub none_left : (n : ℕ) (empty : Bool) → empty ≡ (n == 0) → empty ≡ true → n ≡ 0
 none_left n empty is holds = let e : (n == 0) ≡ true = sym is ∙ holds in grind (arith, nat_tests)

@@ -1,45 +1,19 @@
 -- Arrays and their classes.
-use Rattle.std.proofs.Common.{◌≡◌, ℕ, zero, suc, ◌+◌, ◌-◌, ◌*◌, ◌/◌, ◌%◌, ◌≤◌, Bool, true, false, List, [], ◌∷◌, map, replicate, refl, sym, ◌∙◌, ap, arith, drop, ℤ, nat_lt, not, if◌then◌else◌}
-use Rattle.std.proofs.lemmas.Bool.{ltb-false}
-use Rattle.std.proofs.lemmas.Nat.{div-add-mod'}
+use Rattle.std.proofs.Common.{◌≡◌, ℕ, zero, suc, List, [], ◌∷◌, replicate, refl, sym, ◌∙◌, ap, drop, ℤ}
 use Rattle.std.specs.Prelude.{None, Some, slice_get}
-use Rattle.std.specs.Fmt.{signed_decimal}
-use Rattle.vx_java.specs.Arrays.{array_length, at_index, load_element, may_hold, new_array, store_element, value_kept}
+use Rattle.vx_java.specs.Arrays.{array_length, load_element, may_hold, new_array, store_element, value_kept}
 use Rattle.vx_java.specs.Machine as machine
-use Rattle.vx_java.specs.Machine.{Here, Outcome, illegal, raise_with, object_at, when}
-use Rattle.vx_java.specs.Checks.{is_within}
+use Rattle.vx_java.specs.Machine.{Here, illegal, object_at}
 use Rattle.vx_java.specs.declared.operation.Element.{Element}
 use Rattle.vx_java.specs.declared.operation.Element.TheVariants.{Bytes, Chars, Ints, Longs, References, Shorts}
 use Rattle.vx_link.specs.Assignability.{assignable}
-use Rattle.vx_link.specs.ClassNames.{array_class, array_over, component_of}
-use Rattle.vx_link.specs.Parts.{class_count}
-use Rattle.vx_link.specs.declared.program.Program.{Program}
+use Rattle.vx_link.specs.ClassNames.{component_of}
 use Rattle.vx_plain.specs.Views.{value_of, values_of}
 use Rattle.vx_plain.specs.declared.value.Value.{Value}
 use Rattle.vx_plain.specs.declared.value.Value.TheVariants.{Int, Long, Null, Ref, Top}
 use Rattle.vx_plain_arrays.specs.Elements.{int_in, kept}
 use Rattle.vx_plain_casts.specs.Objects.{object_in}
 use Rattle.vx_plain_here.proofs.Operands.{no_top, top, top_alone, top_two}
-
--- one dimension more is so many numbers further
-pub array_over_is : (p : Program) (c : ℕ) → array_over p c ≡ c + (class_count p + 8)
-array_over_is p c = cases (nat_lt c (class_count p)) refl
-  where
-    n : ℕ
-    n = class_count p
-
-    cases : (b : Bool) → nat_lt c n ≡ b → array_class p ((if not b then (c - n) / (n + 8) + 1 else 0) + 1) (if not b then (c - n) % (n + 8) else 8 + c) ≡ c + (n + 8)
-    cases true e = omega arith
-    cases false e =
-        let above : n ≤ c = ltb-false c n e in
-        let parts : (c - n) / (n + 8) * (n + 8) + (c - n) % (n + 8) ≡ c - n = div-add-mod' (c - n) (n + 8) in
-        next ((c - n) / (n + 8)) ((c - n) % (n + 8)) above parts
-      where
-        next : (q r : ℕ) → n ≤ c → q * (n + 8) + r ≡ c - n → n + (q + 1 + 1 - 1) * (n + 8) + r ≡ c + (n + 8)
-        next q r above parts =
-            let more : (q + 1) * (n + 8) ≡ q * (n + 8) + (n + 8) = omega arith in
-            let one_more : q + 1 + 1 - 1 ≡ q + 1 = omega arith in
-            ap (λ k. n + k * (n + 8) + r) one_more ∙ omega (arith, more, above, parts)
 
 pub filled : (n : ℕ) (v : Value) → values_of (replicate n v) ≡ replicate n (value_of v)
 filled zero v = refl

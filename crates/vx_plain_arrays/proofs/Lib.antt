@@ -1,3 +1,2 @@
-mod CellCounts
 mod GridLaws
 mod Laws

@@ -1,10 +1,7 @@
 -- Elements of arrays and values that are stored in them.
-use Rattle.std.specs.Prelude.{None, Option, Some, if◌then◌else◌, pos, ℕ, ℤ, ◌-◌, ◌==◌, ◌||◌}
-use Rattle.vx_java.specs.Arrays.{elements_of_numbers}
+use Rattle.std.specs.Prelude.{None, Option, Some, if◌then◌else◌, pos, ℕ, ℤ, ◌==◌, ◌||◌}
 use Rattle.vx_java.specs.declared.operation.Element.{Element}
 use Rattle.vx_java.specs.declared.operation.Element.TheVariants.{Bytes, Chars, Shorts}
-use Rattle.vx_link.specs.ClassNames.{int_element}
-use Rattle.vx_list.specs.Places.{item_or}
 use Rattle.vx_plain.specs.declared.value.Value.{Value}
 use Rattle.vx_plain.specs.declared.value.Value.TheVariants.{Int, Long, Top}
 use Rattle.vx_value.specs.Arithmetic.{narrow_of}
@@ -14,10 +11,6 @@ use Rattle.vx_value.specs.declared.operation.Narrow.TheVariants.{Byte, Char, Sho
 abbrev pub int_in : Value → Option ℤ
 int_in (Int n) = Some n
 int_in v = None
-
--- the element of a type number
-abbrev pub element_of_number : ℕ → ℕ
-element_of_number number = item_or elements_of_numbers (number - 4) int_element
 
 -- what a primitive element begins with
 abbrev pub default_of_element : ℕ → Value

@@ -1,58 +1,18 @@
 //! The classes of arrays by their elements, and what elements begin with (JVMS 2.3, 2.4, 6.5).
 
-ghost use Rattle.std.specs.Prelude.{◌≡◌, ◌==◌, ◌<◌, IfOk, IfSome};
-ghost use Rattle.vx_java.specs.Arrays.{array_of, element_default, is_array_of};
+ghost use Rattle.std.specs.Prelude.{◌≡◌, IfOk, IfSome};
+ghost use Rattle.vx_java.specs.Arrays.{array_of, element_default};
 ghost use Rattle.vx_java.specs.Ids.{HasClassNumbers};
-ghost use Rattle.vx_link.specs.ClassNames.{array_class, array_over};
+ghost use Rattle.vx_link.specs.ClassNames.{array_over};
 ghost use Rattle.vx_plain.specs.Views.{object_of, value_of};
 ghost use Rattle.vx_plain_arrays.specs.Elements.{default_of_element};
 
 use std::alloc::{AllocError, Global};
-use vx_java::Element;
 use vx_java::arrays::{element_of, elements, has_reference_components};
 use vx_link::Program;
 use vx_plain::{Object, Value, held};
+use vx_references::arrays::{DOUBLE, FLOAT, LONG};
 use vx_value::ClassId;
-
-/// The elements that are primitive types.
-const BOOLEAN: u32 = 0;
-
-const BYTE: u32 = 1;
-
-const CHAR: u32 = 2;
-
-pub(crate) const DOUBLE: u32 = 3;
-
-pub(crate) const FLOAT: u32 = 4;
-
-const INT: u32 = 5;
-
-const LONG: u32 = 6;
-
-const SHORT: u32 = 7;
-
-/// Whether a class is that of arrays of one dimension with an element that is a primitive type.
-fn has_primitives(program: &Program, class: ClassId, element: u32) -> bool
-    ensures { result ≡ (class.0 == array_class program.now 1 element) }
-{
-    u64::from(class.0) == program.classes.as_slice().len() as u64 + u64::from(element)
-}
-
-/// Whether an instruction works on arrays of a class.
-pub(crate) fn is_array_of(program: &Program, element: Element, class: ClassId) -> bool
-    ensures { result ≡ is_array_of program.now element class.0 }
-{
-    match element {
-        Element::References => has_reference_components(program, class),
-        Element::Ints => has_primitives(program, class, INT),
-        Element::Longs => has_primitives(program, class, LONG),
-        Element::Bytes => {
-            has_primitives(program, class, BYTE) || has_primitives(program, class, BOOLEAN)
-        }
-        Element::Chars => has_primitives(program, class, CHAR),
-        Element::Shorts => has_primitives(program, class, SHORT),
-    }
-}
 
 /// What a primitive element begins with; a float or a double is never read.
 fn primitive_default(element: u64) -> Value
@@ -75,15 +35,6 @@ fn element_default(program: &Program, class: ClassId) -> Value
         return Value::Null;
     }
     primitive_default(element_of(program, class))
-}
-
-/// The class of arrays of one dimension with the primitive elements of a number.
-pub(crate) fn array_of_primitives(program: &Program, element: u32) -> ClassId
-    requires numbers { HasClassNumbers program.now }
-    requires element { element < 8 }
-    ensures { result.0 ≡ array_class program.now 1 element }
-{
-    ClassId(program.classes.len() as u32 + element)
 }
 
 /// The class of a number, if it fits.

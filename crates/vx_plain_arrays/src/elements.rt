@@ -2,38 +2,17 @@
 
 ghost use Rattle.std.specs.Fmt.{signed_decimal};
 ghost use Rattle.std.specs.Prelude.{◌≡◌, IfOk};
-ghost use Rattle.vx_java.specs.Arrays.{element_sort, is_array_of};
-ghost use Rattle.vx_java.specs.Checks.{is_object, width_of_sort};
+ghost use Rattle.vx_java.specs.Arrays.{is_array_of};
+ghost use Rattle.vx_java.specs.Checks.{is_object};
 ghost use Rattle.vx_java.specs.Machine.{raise_with};
 ghost use Rattle.vx_plain.specs.Views.{state_of, value_of};
 ghost use Rattle.vx_plain_here.specs.Rows.{ComesTo, here_in};
 
-use crate::classes::is_array_of;
-use vx_java::{Element, Sort};
+use vx_java::Element;
 use vx_plain::{State, Value};
 use vx_plain_here::{Here, Made};
+use vx_references::arrays::is_array_of;
 use vx_units::decimal;
-
-/// The sort of an element.
-pub(crate) fn sort_of(element: Element) -> Sort
-    ensures { result ≡ element_sort element }
-{
-    match element {
-        Element::Longs => Sort::Long,
-        Element::References => Sort::Reference,
-        Element::Ints | Element::Bytes | Element::Chars | Element::Shorts => Sort::Int,
-    }
-}
-
-/// How many words an element takes on the operand stack.
-pub(crate) fn width_of(element: Element) -> usize
-    ensures { result ≡ width_of_sort (element_sort element) }
-{
-    match element {
-        Element::Longs => 2,
-        _ => 1,
-    }
-}
 
 /// Whether a value is null, or an array that an instruction works on.
 pub(crate) fn is_wanted(here: &Here<'_>, state: &State, element: Element, value: Value) -> bool

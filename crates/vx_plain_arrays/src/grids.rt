@@ -9,7 +9,7 @@ ghost use Rattle.vx_plain_here.specs.Rows.{ComesTo, here_in};
 ghost use Rattle.vx_value.specs.Arithmetic.{natural};
 
 use crate::classes::array_of;
-use crate::lengths::{has_negative, int_at, is_large};
+use crate::lengths::int_at;
 use std::alloc::{AllocError, Global};
 use vx_java::arrays::component_of;
 use vx_link::{Program, class_name};
@@ -17,6 +17,7 @@ use vx_list::GivenUp;
 use vx_plain::{Object, State, Value};
 use vx_plain_here::{Here, Made, natural};
 use vx_plain_tables::Seen;
+use vx_references::lengths::{has_negative, is_large};
 use vx_value::ClassId;
 
 /// The number of the word for a class that ends a run as unsupported.
@@ -55,15 +56,6 @@ fn references_to(
     Ok(references)
 }
 
-/// Where the next object will stand.
-#[tactic(auto, using(crate::proofs::GridLaws::next_place), unfolding(vx_plain::specs::Views::state_of))]
-fn next_object(state: &State) -> u64
-    ensures value { result ≡ next_object (state_of state.now) }
-    ensures few { result < 2 ^ 63 }
-{
-    state.heap.len() as u64
-}
-
 /// An array whose components are arrays of so many objects each, which will stand behind it.
 fn array_of_parts(
     alloc: Global,
@@ -75,7 +67,7 @@ fn array_of_parts(
     requires { length * each < 2 ^ 63 }
     ensures { IfOk result (λ object. object_of object ≡ record { class = class.0; size = length; cells = references_to length each (next_object (state_of state.now) + 1) }) }
 {
-    let from = next_object(state) + 1;
+    let from = state.next_object() + 1;
     let references = references_to(alloc, length, each, from)?;
     Ok(Object::array(class, references))
 }
@@ -191,7 +183,7 @@ fn push_grid(
     ensures { let h = here_in here.now (state_of state.old) in IfOk result (ComesTo (push_grid h class.0 (map natural lengths.now) (drop taken h.state.top.operands)) h.state (state_of state.new)) }
 {
     let numbers = naturals(here.alloc, lengths)?;
-    let place = next_object(state);
+    let place = state.next_object();
     add_grid(here.alloc, here.program, state, class, &numbers)?;
     here.go_with(state, taken, Value::Ref(place))
 }

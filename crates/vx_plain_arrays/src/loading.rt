@@ -3,18 +3,19 @@
 ghost use Rattle.std.specs.Prelude.{◌≡◌, ◌&&◌, ◌∷◌, IfOk, Some, drop, pos, slice_get};
 ghost use Rattle.vx_java.specs.Arrays.{array_length, at_index, element_sort, is_array_of, load_element};
 ghost use Rattle.vx_java.specs.Checks.{is_object, non_null, width_of_sort};
-ghost use Rattle.vx_java.specs.Machine.{Int, cell_at, go, has_room, illegal, object_at, when};
+ghost use Rattle.vx_java.specs.Machine.{Int, cell_at, go, has_room, object_at};
 ghost use Rattle.vx_link.specs.ClassNames.{is_array};
 ghost use Rattle.vx_plain.specs.Views.{state_of, value_of};
 ghost use Rattle.vx_plain_here.specs.Rows.{ComesTo, here_in};
 ghost use Rattle.vx_value.specs.Arithmetic.{natural};
 
-use crate::elements::{bad_index, is_wanted, width_of};
+use crate::elements::{bad_index, is_wanted};
 use crate::lengths::int_in;
 use vx_java::Element;
 use vx_plain::{State, Value};
 use vx_plain_casts::object_in;
 use vx_plain_here::{Here, Made, int_of, is_within, natural};
+use vx_references::arrays::width_of;
 
 // ---- elements
 
@@ -51,7 +52,7 @@ fn load_in(here: &Here<'_>, state: &mut State, index: i32, array: Value) -> Made
 fn may_load(here: &Here<'_>, state: &State, element: Element, array: Value) -> bool
     ensures { let h = here_in here.now (state_of state.now) in result ≡ (is_object h (is_array_of h.program element) (value_of array) && has_room h (width_of_sort (element_sort element)) (drop 2 h.state.top.operands)) }
 {
-    is_wanted(here, state, element, array) && here.has_room(state, width_of(element), 2)
+    is_wanted(here, state, element, array) && here.has_room(state, width_of(element) as usize, 2)
 }
 
 /// A load of an index of an array.

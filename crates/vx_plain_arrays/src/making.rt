@@ -1,20 +1,21 @@
 //! New arrays of one dimension (JVMS 6.5 newarray, anewarray).
 
-ghost use Rattle.std.specs.Prelude.{◌≡◌, ◌==◌, ◌<◌, ◌||◌, ◌∷◌, IfOk, drop, nat_lt};
+ghost use Rattle.std.specs.Prelude.{◌∷◌, IfOk, drop, nat_lt};
 ghost use Rattle.vx_java.specs.Arrays.{array_of, new_array, new_primitives, new_references};
 ghost use Rattle.vx_java.specs.Machine.{Int, length_bound, push_new, raise, when};
-ghost use Rattle.vx_link.specs.ClassNames.{array_over, double_element, float_element};
+ghost use Rattle.vx_link.specs.ClassNames.{array_over};
 ghost use Rattle.vx_plain.specs.Views.{state_of, value_of};
-ghost use Rattle.vx_plain_arrays.specs.Elements.{element_of_number};
 ghost use Rattle.vx_plain_here.specs.Rows.{ComesTo, here_in};
 ghost use Rattle.vx_value.specs.Arithmetic.{natural};
 
-use crate::classes::{DOUBLE, FLOAT, array_of, array_of_primitives, array_over};
-use crate::lengths::{int_in, is_long, is_negative};
+use crate::classes::{array_of, array_over};
+use crate::lengths::{int_in, is_negative};
 use vx_link::class_name;
 use vx_plain::{State, Value};
 use vx_plain_here::{Here, Made, natural};
 use vx_plain_tables::Seen;
+use vx_references::arrays::{array_of_primitives, element_of_number, is_float};
+use vx_references::lengths::is_long;
 use vx_value::ClassId;
 
 /// The numbers of the words for what ends a run as unsupported.
@@ -70,29 +71,6 @@ fn new_array(here: &Here<'_>, state: &mut State, class: ClassId) -> Made
         Some(value) => new_of_value(here, state, class, value),
         None => here.illegal(state),
     }
-}
-
-/// The element of a type number of newarray, from 4 to 11: boolean, char, float, double, byte, short, int, long.
-fn element_of_number(number: u32) -> u32
-    ensures value { result ≡ element_of_number number }
-    ensures few { result < 8 }
-{
-    match number {
-        0..=4 => 0,
-        5 => 2,
-        6 => 4,
-        7 => 3,
-        8 => 1,
-        9 => 7,
-        11 => 6,
-        _ => 5,
-    }
-}
-
-fn is_float(element: u32) -> bool
-    ensures { result ≡ ((element == float_element) || (element == double_element)) }
-{
-    element == FLOAT || element == DOUBLE
 }
 
 /// newarray. A float or a double ends the run.

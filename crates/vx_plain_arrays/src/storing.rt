@@ -9,7 +9,7 @@ ghost use Rattle.vx_plain_arrays.specs.Elements.{kept};
 ghost use Rattle.vx_plain_here.specs.Rows.{ComesTo, here_in};
 ghost use Rattle.vx_value.specs.Arithmetic.{natural};
 
-use crate::elements::{bad_index, is_wanted, sort_of};
+use crate::elements::{bad_index, is_wanted};
 use crate::lengths::int_in;
 use vx_java::arrays::component_of;
 use vx_java::{Element, assignable};
@@ -17,6 +17,7 @@ use vx_numbers::narrow;
 use vx_plain::{State, Value};
 use vx_plain_casts::object_in;
 use vx_plain_here::{Here, Made, is_within, natural};
+use vx_references::arrays::sort_of;
 use vx_value::Narrow;
 
 fn kept(element: Element, value: Value) -> Value

@@ -2,36 +2,14 @@
 use Rattle.std.proofs.Common.{◌≡◌, ℕ, zero, suc, ◌-◌, ◌<◌, Bool, true, false, List, [], ◌∷◌, map, length, drop, get_or, reverse, refl, sym, ap, ◌∙◌, arith, drop-cons}
 use Rattle.std.proofs.Math.ListN.{get_or-map}
 use Rattle.std.proofs.lemmas.List.{get_or-reverse, length-map, length-reverse}
-use Rattle.std.proofs.lemmas.Bool.{le-ltb}
-use Rattle.std.specs.Prelude.{Err, None, Ok, Option, Some, ok_or, slice_get}
-use Rattle.vx_java.specs.Machine.{Frame, Go, Here, Outcome, State, Value, current_class, illegal, when, with_inits}
-use Rattle.vx_java.specs.Returns.{awake, fits_caller, frame_resumed, instruction_size, return_to}
+use Rattle.std.specs.Prelude.{None, Some, slice_get}
+use Rattle.vx_java.specs.Machine.{Frame, Go, Here, Value, illegal, when}
+use Rattle.vx_java.specs.Returns.{fits_caller, frame_resumed, return_to}
 use Rattle.vx_link.specs.declared.program.Program.{Program}
-use Rattle.vx_opcode.specs.Decode.{instruction_at}
-use Rattle.vx_opcode.specs.declared.instruction.DecodeFault.{DecodeFault}
-use Rattle.vx_opcode.specs.declared.instruction.Instruction.{Instruction}
-use Rattle.vx_plain.specs.Frames.{with_frame}
 use Rattle.vx_plain.specs.Views.{frame_of}
 use Rattle.vx_plain.specs.declared.frame.Frame as plain
 use Rattle.vx_plain_calls.specs.Returns.{fits_below, initialised}
-use Rattle.vx_value.specs.declared.key.Kind.{Kind}
 use Rattle.vx_value.specs.declared.key.Kind.TheVariants.{Call, Init, Wait}
-use Rattle.vx_value.specs.declared.slot.InitState.TheVariants.{Done}
-
--- ---- the length of an instruction
-
-pub size_found : (o : Option Instruction) (i : Instruction) (fault : DecodeFault) → Ok i ≡ ok_or o fault → i.length ≡ instruction_size o
-size_found None i fault e = cc e
-size_found (Some j) i fault e = let same : i ≡ j = cc e in ap (λ (x : Instruction). x.length) same
-
-pub size_missing : (o : Option Instruction) (found fault : DecodeFault) → Err found ≡ ok_or o fault → 0 ≡ instruction_size o
-size_missing None found fault e = refl
-size_missing (Some j) found fault e = cc e
-
--- in no code none stands
-pub size_of_none : (position : ℕ) → 0 ≡ instruction_size (instruction_at [] position)
-unfolding instruction_at
-size_of_none position = rw (le-ltb position 0 (omega arith)) refl
 
 -- ---- the nearest caller
 

@@ -1,11 +1,10 @@
 //! Returns (JVMS 2.6.4, 6.5 ireturn, lreturn, areturn, return).
 
-ghost use Rattle.std.specs.Prelude.{◌≡◌, ◌≤◌, ◌<◌, ◌+◌, ◌^◌, IfOk, OnOk, Some, length, option_copied, option_map, true};
+ghost use Rattle.std.specs.Prelude.{◌≡◌, ◌<◌, ◌+◌, ◌^◌, IfOk, OnOk, Some, option_map, true};
 ghost use Rattle.vx_java.specs.Checks.{sort_of};
-ghost use Rattle.vx_java.specs.Returns.{agrees, awake, fits_caller, frame_resumed, instruction_size, max_stack, return_from, return_to, return_value, same_sort, values_returned};
+ghost use Rattle.vx_java.specs.Returns.{agrees, awake, fits_caller, frame_resumed, return_from, return_to, return_value, same_sort, values_returned};
 ghost use Rattle.vx_link.specs.Parts.{method_at};
 ghost use Rattle.vx_link.specs.Signature.{signature};
-ghost use Rattle.vx_opcode.specs.Decode.{instruction_at};
 ghost use Rattle.vx_plain.specs.Views.{frame_of, state_of, value_of};
 ghost use Rattle.vx_plain_calls.specs.Returns.{as_list, fits_below, initialised, size_at, values_in};
 ghost use Rattle.vx_plain_here.specs.Rows.{ComesTo, here_in};
@@ -13,39 +12,16 @@ ghost use Rattle.vx_plain_tables.specs.Tables.{IsShort};
 ghost use Rattle.vx_value.specs.declared.key.Kind.TheVariants.{Call};
 
 use std::alloc::AllocError;
-use vx_class::Code;
 use vx_desc::JavaType;
-use vx_java::Sort;
+use vx_java::parts::code_of;
+use vx_java::{Sort, room_of, size_in};
 use vx_link::Program;
 use vx_list::GivenUp;
-use vx_opcode::decode;
 use vx_plain::{Frame, State, Value};
 use vx_plain_here::{Made, Outcome, words_fit};
 use vx_plain_tables::Seen;
 use vx_references::sort_of;
 use vx_value::{End, InitState, Kind};
-
-/// How long the instruction at a position of a code is; where none stands there, 0.
-fn size_in(code: &Code, position: u32) -> u32
-    requires { length code.now.bytes ≤ 65535 }
-    ensures value { result ≡ instruction_size (instruction_at code.now.bytes position) }
-    ensures within { position + result < 2 ^ 32 }
-{
-    match decode(code.bytes.as_slice(), position) {
-        Ok(instruction) => instruction.length,
-        Err(_fault) => 0,
-    }
-}
-
-/// The code of the method of a frame.
-fn code_of<'p>(program: &'p Program, frame: &Frame) -> Option<&'p Code>
-    ensures { option_copied result ≡ (method_at program.now (frame_of frame.now).method).code }
-{
-    match program.method(frame.method) {
-        Some(method) => method.code.as_ref(),
-        None => None,
-    }
-}
 
 /// How long the instruction is at which a frame stands.
 fn size_at(program: &Program, frame: &Frame) -> u32
@@ -54,18 +30,8 @@ fn size_at(program: &Program, frame: &Frame) -> u32
     ensures within { (frame_of frame.now).position + result < 2 ^ 32 }
 {
     let position = frame.position;
-    match code_of(program, frame) {
+    match code_of(program, frame.method) {
         Some(code) => size_in(code, position),
-        None => 0,
-    }
-}
-
-/// The greatest stack of the method of a frame.
-fn max_stack(program: &Program, frame: &Frame) -> usize
-    ensures { result ≡ max_stack (method_at program.now (frame_of frame.now).method).code }
-{
-    match code_of(program, frame) {
-        Some(code) => code.max_stack as usize,
         None => 0,
     }
 }
@@ -78,7 +44,7 @@ fn fits_caller(program: &Program, frame: &Frame, value: Option<Value>) -> bool
         Some(value) => words_fit(
             frame.words_under(0),
             value.width(),
-            max_stack(program, frame),
+            room_of(program, frame.method) as usize,
         ),
         None => true,
     }

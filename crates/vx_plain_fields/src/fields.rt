@@ -3,7 +3,6 @@
 ghost use Rattle.std.specs.Prelude.{◌≡◌, IfOk};
 ghost use Rattle.vx_java.specs.Fields.{field_text, with_field};
 ghost use Rattle.vx_java.specs.Machine.{unsupported};
-ghost use Rattle.vx_java.specs.Named.{in_bytes};
 ghost use Rattle.vx_java.specs.Operation.{class_word, field_word};
 ghost use Rattle.vx_link.specs.Names.{member};
 ghost use Rattle.vx_plain.specs.Views.{state_of};
@@ -13,14 +12,13 @@ ghost use Rattle.vx_references.specs.Fields.{IsFieldReference, by_reference};
 
 use crate::loading::{get_field, get_static};
 use crate::storing::{put_field, put_static};
-use std::alloc::{AllocError, Global};
 use vx_desc::JavaType;
-use vx_java::{MemberReference, member};
+use vx_java::member;
 use vx_plain::State;
 use vx_plain_here::{Made, unsupported_at};
 use vx_plain_tables::{Seen, descriptor_in};
-use vx_references::{FieldReference, field_reference};
-use vx_value::{ClassId, FieldId, Name};
+use vx_references::{FieldReference, field_reference, field_text};
+use vx_value::{ClassId, FieldId};
 
 /// The numbers of the words for what ends a run as unsupported.
 const FLOAT: u8 = 1;
@@ -53,18 +51,6 @@ fn is_static_use(as_what: Use) -> bool
         Use::GetStatic | Use::PutStatic => true,
         Use::GetField | Use::PutField => false,
     }
-}
-
-/// The class, the name and the descriptor of a field, as reports name it.
-fn field_text(alloc: Global, named: &MemberReference<'_>) -> Result<Name, AllocError>
-    ensures { IfOk result (λ text. text ≡ field_text (in_bytes named.now)) }
-{
-    let mut text = Vec::from_slice(alloc, named.class)?;
-    text.extend_from_slice(b".")?;
-    text.extend_from_slice(named.name)?;
-    text.extend_from_slice(b":")?;
-    text.extend_from_slice(named.descriptor)?;
-    Ok(Name::from_vec(text))
 }
 
 /// The class that is named isn't there.

@@ -1,17 +1,15 @@
 //! New objects (JVMS 6.5 new).
 
-ghost use Rattle.std.specs.Prelude.{◌≡◌, ◌||◌, IfOk};
-ghost use Rattle.vx_class.specs.Members.{ABSTRACT};
+ghost use Rattle.std.specs.Prelude.{IfOk};
 ghost use Rattle.vx_java.specs.FirstObjects.{new_object};
 ghost use Rattle.vx_java.specs.Initialisation.{when_initialised};
 ghost use Rattle.vx_java.specs.Machine.{has_room, illegal, push_new, when};
 ghost use Rattle.vx_java.specs.Objects.{new_instance, new_of_class};
-ghost use Rattle.vx_link.specs.Parts.{class_at, has, is_interface};
 ghost use Rattle.vx_plain.specs.Views.{state_of};
 ghost use Rattle.vx_plain_here.specs.Rows.{ComesTo, here_in};
 
-use bitflags::Flags;
-use vx_link::{AccessFlags, Program, class_name};
+use vx_java::parts::is_without_objects;
+use vx_link::class_name;
 use vx_plain::State;
 use vx_plain_here::Made;
 use vx_plain_ready::ready;
@@ -20,19 +18,6 @@ use vx_value::ClassId;
 
 /// The number of the word for a class that ends a run as unsupported.
 const CLASS: u8 = 6;
-
-/// Whether a class is abstract or an interface.
-fn is_without_objects(program: &Program, class: ClassId) -> bool
-    ensures { result ≡ (has ABSTRACT (class_at program.now class.0).flags || is_interface program.now class.0) }
-{
-    match program.class(class) {
-        Some(class) => {
-            class.flags.contains(AccessFlags::ABSTRACT)
-                || class.flags.contains(AccessFlags::INTERFACE)
-        }
-        None => false,
-    }
-}
 
 /// A new object is put on the operands.
 fn put_object(seen: &Seen<'_>, state: &mut State, class: ClassId) -> Made

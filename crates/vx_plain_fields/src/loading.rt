@@ -13,33 +13,14 @@ ghost use Rattle.vx_plain_fields.specs.declared.fields.Use.TheVariants.{GetField
 ghost use Rattle.vx_plain_here.specs.Rows.{ComesTo, here_in};
 
 use crate::fields::Found;
-use vx_link::Program;
+use vx_java::parts::{cell_of, class_of_field};
 use vx_plain::{State, Value};
 use vx_plain_casts::object_in;
-use vx_plain_here::{Made, width_of};
+use vx_plain_here::Made;
 use vx_plain_ready::ready;
 use vx_plain_tables::Seen;
-use vx_value::{ClassId, FieldId};
-
-/// The class that declares a field.
-pub(crate) fn class_of_field(program: &Program, field: FieldId) -> ClassId
-    ensures { result ≡ (field_at program.now field.0).class }
-{
-    match program.field(field) {
-        Some(field) => field.class,
-        None => ClassId(0),
-    }
-}
-
-/// The cell of a field in the objects that have it.
-pub(crate) fn cell_of(program: &Program, field: FieldId) -> usize
-    ensures { result ≡ (field_at program.now field.0).cell }
-{
-    match program.field(field) {
-        Some(field) => field.cell as usize,
-        None => 0,
-    }
-}
+use vx_references::fields::width_of;
+use vx_value::FieldId;
 
 /// Puts the value of a static field on the operands.
 fn load_static(seen: &Seen<'_>, state: &mut State, field: FieldId) -> Made
@@ -65,7 +46,10 @@ fn get_ready(seen: &Seen<'_>, state: &mut State, found: Found) -> Made
 pub(crate) fn get_static(seen: &Seen<'_>, state: &mut State, found: Found) -> Made
     ensures { let s = state_of state.old in IfOk result (ComesTo (used (here_in seen.now.here s) GetStatic (found_of found)) s (state_of state.new)) }
 {
-    if seen.here.has_room(state, width_of(found.field_type), 0) {
+    if seen
+        .here
+        .has_room(state, width_of(found.field_type) as usize, 0)
+    {
         get_ready(seen, state, found)
     } else {
         seen.here.illegal(state)
@@ -95,7 +79,9 @@ fn may_get(seen: &Seen<'_>, state: &State, found: Found, object: Value) -> bool
     ensures { let h = here_in seen.now.here (state_of state.now) in result ≡ (is_instance_of h found.named.0 (value_of object) && has_room h (width_of_type found.field_type) (drop 1 h.state.top.operands)) }
 {
     seen.here.is_instance(state, found.named, object)
-        && seen.here.has_room(state, width_of(found.field_type), 1)
+        && seen
+            .here
+            .has_room(state, width_of(found.field_type) as usize, 1)
 }
 
 /// getfield of what stands on top.
@@ -103,7 +89,12 @@ fn get_of(seen: &Seen<'_>, state: &mut State, found: Found, object: Value) -> Ma
     ensures { let h = here_in seen.now.here (state_of state.old) in IfOk result (ComesTo (when (is_instance_of h found.named.0 (value_of object) && has_room h (width_of_type found.field_type) (drop 1 h.state.top.operands)) (non_null h (value_of object) (λ r. go h (cell_at h.state r (field_at h.program found.field.0).cell ∷ drop 1 h.state.top.operands))) (illegal h)) h.state (state_of state.new)) }
 {
     if may_get(seen, state, found, object) {
-        get_from(seen, state, cell_of(seen.here.program, found.field), object)
+        get_from(
+            seen,
+            state,
+            cell_of(seen.here.program, found.field) as usize,
+            object,
+        )
     } else {
         seen.here.illegal(state)
     }

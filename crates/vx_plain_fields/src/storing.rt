@@ -1,6 +1,6 @@
 //! Stores to fields (JVMS 6.5 putstatic, putfield).
 
-ghost use Rattle.std.specs.Prelude.{◌≡◌, ◌&&◌, IfOk, Some, drop, is_some, slice_get};
+ghost use Rattle.std.specs.Prelude.{◌≡◌, ◌&&◌, IfOk, Some, drop, slice_get};
 ghost use Rattle.vx_java.specs.Checks.{fits_type, is_instance_of, non_null};
 ghost use Rattle.vx_java.specs.Fields.{declaring, with_written};
 ghost use Rattle.vx_java.specs.FirstObjects.{narrowed_value};
@@ -13,9 +13,8 @@ ghost use Rattle.vx_plain_fields.specs.declared.fields.Use.TheVariants.{PutField
 ghost use Rattle.vx_plain_here.specs.Rows.{ComesTo, here_in};
 
 use crate::fields::Found;
-use crate::loading::{cell_of, class_of_field};
 use vx_desc::{JavaType, is_clinit};
-use vx_java::parts::{class_of_method, name_of_method};
+use vx_java::parts::{cell_of, class_of_field, class_of_method, is_option_field, name_of_method};
 use vx_link::Program;
 use vx_plain::{State, Value};
 use vx_plain_casts::object_in;
@@ -26,20 +25,11 @@ use vx_value::{FieldId, MethodId};
 
 // ---- static fields
 
-fn is_option(program: &Program, field: FieldId) -> bool
-    ensures { result ≡ is_some (field_at program.now field.0).option }
-{
-    match program.field(field) {
-        Some(field) => field.option.is_some(),
-        None => false,
-    }
-}
-
 /// Whether a field keeps its value where a method writes it: it is an option's, and the method is the `<clinit>` of its own class.
 fn keeps_option(program: &Program, method: MethodId, field: FieldId) -> bool
     ensures { result ≡ keeps program.now method.0 field.0 }
 {
-    is_option(program, field)
+    is_option_field(program, field)
         && (is_clinit(name_of_method(program, method))
             && class_of_method(program, method).0 == class_of_field(program, field).0)
 }
@@ -155,7 +145,7 @@ fn put_both(seen: &Seen<'_>, state: &mut State, found: Found, value: Value, obje
         put_in(
             seen,
             state,
-            cell_of(seen.here.program, found.field),
+            cell_of(seen.here.program, found.field) as usize,
             found.field_type,
             value,
             object,

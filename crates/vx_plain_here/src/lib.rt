@@ -18,4 +18,4 @@ pub use here::Here;
 pub use lengths::{int_of, is_within, natural};
 pub use outcome::{Made, Outcome};
 pub use passing::words_fit;
-pub use values::{fits, narrowed, width_of};
+pub use values::{fits, narrowed};

@@ -1,15 +1,9 @@
 -- What arraycopy asks of arrays and makes of them.
 use Rattle.std.specs.List.{take_while}
-use Rattle.std.specs.Prelude.{Bool, List, not, if◌then◌else◌, ℕ, ℤ, ◌&&◌, ◌==◌, ◌||◌}
+use Rattle.std.specs.Prelude.{Bool, List, not, if◌then◌else◌, ℕ, ℤ, ◌&&◌}
 use Rattle.vx_java.specs.Library.{copy_within, fits_component, like_kinds, within_array}
 use Rattle.vx_java.specs.Machine.{Here, Outcome, Value, go, object_at, raise, when}
-use Rattle.vx_link.specs.ClassNames.{component_of, has_reference_components, is_array}
-use Rattle.vx_link.specs.declared.program.Program.{Program}
-
--- both of arrays of references, or both of arrays of one primitive type
-abbrev pub are_like : Program → (from to : ℕ) → Bool
-are_like p from to =
-    is_array p from && (is_array p to && ((from == to) || (has_reference_components p from && has_reference_components p to)))
+use Rattle.vx_link.specs.ClassNames.{component_of, has_reference_components}
 
 -- the first values, up to one that does not fit in an array of a class
 abbrev pub fitting : Here → (class : ℕ) → List Value → List Value

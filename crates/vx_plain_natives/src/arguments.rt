@@ -14,8 +14,9 @@ use vx_desc::JavaType;
 use vx_java::class_of_type;
 use vx_link::LinkedMethod;
 use vx_plain::{State, Value, held};
-use vx_plain_here::{Here, narrowed, values_on_top, width_of};
+use vx_plain_here::{Here, narrowed, values_on_top};
 use vx_plain_strings::Arguments;
+use vx_references::fields::width_of;
 
 // ---- what is asked of them
 
@@ -60,7 +61,7 @@ fn has_room(here: &Here<'_>, state: &State, answer: Option<JavaType>, taken: usi
     ensures { let s = state_of state.now in result ≡ room_for (here_in here.now s) answer (drop taken s.top.operands) }
 {
     match answer {
-        Some(answer) => here.has_room(state, width_of(answer), taken),
+        Some(answer) => here.has_room(state, width_of(answer) as usize, taken),
         None => true,
     }
 }

@@ -1,24 +1,24 @@
 //! The native methods of Integer, Boolean and Math.
 
 ghost use Rattle.std.specs.Prelude.{◌≡◌, ◌==◌, ◌&&◌, int_le, negsuc, pos};
-ghost use Rattle.std.specs.Int.{int_max, int_min, w32, w64};
+ghost use Rattle.std.specs.Int.{int_max, int_min};
 ghost use Rattle.vx_java.specs.FirstObjects.{first_boolean, first_integer};
 ghost use Rattle.vx_java.specs.Library.{absolute_int, absolute_long, boolean_to_string, boolean_value_of, compare_numbers, integer_compare, integer_int_value, integer_long_value, integer_parse, integer_to_string, integer_to_string_of, integer_value_of, number_of_object, of_ints, of_longs, same_number};
 ghost use Rattle.vx_java.specs.Machine.{object_at};
 ghost use Rattle.vx_plain.specs.Views.{state_of};
 ghost use Rattle.vx_plain_here.specs.Rows.{here_in};
 ghost use Rattle.vx_plain_strings.specs.Answers.{Answers, Does};
-ghost use Rattle.vx_plain_natives.specs.Numbers.{absolute, integer_object, parsed};
+ghost use Rattle.vx_plain_natives.specs.Numbers.{integer_object, parsed};
 ghost use Rattle.vx_value.specs.Arithmetic.{natural, same_int};
 
-use vx_numbers::{compare_long, negate_int, negate_long};
+use vx_numbers::{absolute_of_int, absolute_of_long, compare_long};
 use vx_plain::{Object, State, Value};
 use vx_plain_here::Made;
 use vx_plain_strings::{
-    Arguments, Call, answer, answer_bool, answer_int, answer_new, answer_text, bool_units, illegal,
+    Arguments, Call, answer, answer_bool, answer_int, answer_new, answer_text, illegal,
     not_a_number, null_pointer,
 };
-use vx_units::{decimal, int_in};
+use vx_units::{bool_units, decimal, int_in};
 
 // ---- Integer
 
@@ -217,20 +217,6 @@ pub(crate) fn boolean_to_string(call: &Call<'_>, state: &mut State) -> Made
 }
 
 // ---- Math
-
-/// The distance of an int from 0; that of the least one is itself.
-fn absolute_of_int(a: i32) -> i32
-    ensures { result ≡ absolute w32 a }
-{
-    if a < 0 { negate_int(a) } else { a }
-}
-
-/// The distance of a long from 0; that of the least one is itself.
-fn absolute_of_long(a: i64) -> i64
-    ensures { result ≡ absolute w64 a }
-{
-    if a < 0 { negate_long(a) } else { a }
-}
 
 /// abs of an int.
 pub(crate) fn absolute_int(call: &Call<'_>, state: &mut State) -> Made

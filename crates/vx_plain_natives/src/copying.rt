@@ -7,15 +7,13 @@ ghost use Rattle.vx_java.specs.Machine.{object_at, raise};
 ghost use Rattle.vx_plain.specs.Views.{state_of, value_of, values_of};
 ghost use Rattle.vx_plain_here.specs.Rows.{here_in};
 ghost use Rattle.vx_plain_strings.specs.Answers.{Answers, Does};
-ghost use Rattle.vx_plain_natives.specs.Copying.{are_like, copied, copy_elements, fitting};
+ghost use Rattle.vx_plain_natives.specs.Copying.{copied, copy_elements, fitting};
 ghost use Rattle.vx_value.specs.Arithmetic.{natural};
 
 use crate::cells::write_cells;
 use std::alloc::{AllocError, Global};
-use vx_java::arrays::{component_of, has_reference_components};
+use vx_java::arrays::{are_like, component_of, has_reference_components};
 use vx_java::assignable;
-use vx_java::parts::is_array;
-use vx_link::Program;
 use vx_plain::{State, Value};
 use vx_plain_here::{Made, natural};
 use vx_plain_strings::{Arguments, Call, illegal, nothing, null_pointer};
@@ -34,16 +32,6 @@ fn out_of_bounds(call: &Call<'_>, state: &State) -> Made
 {
     call.here
         .raise(state, b"java/lang/ArrayIndexOutOfBoundsException")
-}
-
-/// Whether two classes are both of arrays of references, or both of arrays of one primitive type.
-fn are_like(program: &Program, from: ClassId, to: ClassId) -> bool
-    ensures { result ≡ are_like program.now from.0 to.0 }
-{
-    is_array(program, from)
-        && is_array(program, to)
-        && (from.0 == to.0
-            || (has_reference_components(program, from) && has_reference_components(program, to)))
 }
 
 /// Whether so many elements from an index on are within a length.

@@ -1,31 +1,16 @@
 //! What the instructions of numbers and the jumps make of plain operands (JVMS 6.5).
 
 ghost use Rattle.std.specs.Prelude.{◌≡◌};
-ghost use Rattle.vx_java.specs.Jumps.{passes};
 ghost use Rattle.vx_plain_numbers.specs.Numbers.{are_one, branch_by, int_or, long_or, of_int, of_ints, of_long, of_longs, of_mixed, of_one, of_reference, of_same, of_two};
 
 use crate::answer::Answer;
-use vx_java::{Operation, Test};
+use vx_java::Operation;
 use vx_numbers::{
     compare_long, int_op, long_op, long_to_int, narrow, negate_int, negate_long, shift_int,
     shift_long,
 };
 use vx_plain::Value;
 use vx_switches::{pair_jump, table_jump};
-
-/// Whether two ints pass a test.
-fn passes(test: Test, a: i32, b: i32) -> bool
-    ensures { result ≡ passes test a b }
-{
-    match test {
-        Test::Eq => a == b,
-        Test::Ne => a != b,
-        Test::Lt => a < b,
-        Test::Ge => a >= b,
-        Test::Gt => a > b,
-        Test::Le => a <= b,
-    }
-}
 
 /// Goes so far from the opcode, or past the instruction.
 fn branch_by(taken: bool, offset: i32) -> Answer
@@ -46,7 +31,7 @@ fn of_int(code: &[u8], operation: Operation, a: i32) -> Answer
         Operation::IntNegate => Answer::Push(Value::Int(negate_int(a))),
         Operation::IntToLong => Answer::Push(Value::Long(i64::from(a))),
         Operation::IntNarrow(to) => Answer::Push(Value::Int(narrow(to, a))),
-        Operation::IfInt(test, offset) => branch_by(passes(test, a, 0), offset),
+        Operation::IfInt(test, offset) => branch_by(test.passes(a, 0), offset),
         Operation::SwitchTable {
             fallback,
             low,
@@ -123,7 +108,7 @@ fn of_ints(operation: Operation, a: i32, b: i32) -> Answer
     match operation {
         Operation::IntArithmetic(op) => int_or(int_op(op, a, b)),
         Operation::IntShift(op) => Answer::Push(Value::Int(shift_int(op, a, b))),
-        Operation::IfInts(test, offset) => branch_by(passes(test, a, b), offset),
+        Operation::IfInts(test, offset) => branch_by(test.passes(a, b), offset),
         _ => Answer::Illegal,
     }
 }

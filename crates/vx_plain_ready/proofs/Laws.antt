@@ -1,12 +1,12 @@
 -- Chains of classes that are made ready or begin.
 use Rattle.std.proofs.Common.{◌≡◌, ℕ, ◌+◌, ◌<◌, ◌++◌, Bool, true, false, List, [], ◌∷◌, map, length, drop, get_or, refl, sym, ap, ◌∙◌, subst, cond, reverse, arith, add-one, drop-cons}
 use Rattle.std.proofs.lemmas.List.{length-reverse, reverse-append}
-use Rattle.std.specs.Prelude.{find, not, None, Option, Some, option_map}
-use Rattle.vx_java.proofs.Chains.{begins_stops, not_begun}
+use Rattle.std.specs.Prelude.{find, not, Some}
+use Rattle.vx_java.proofs.Chains.{not_begun}
 use Rattle.vx_java.specs.Ids.{as_class}
-use Rattle.vx_java.specs.Initialisation.{blocked, by_state, chain_blocked, has_failed, init_chain, init_frame, is_failed, is_not, quiet_chain, when_initialised, when_not, with_frames}
+use Rattle.vx_java.specs.Initialisation.{by_state, has_failed, init_chain, init_frame, is_failed, quiet_chain, when_initialised, when_not, with_frames}
 use Rattle.vx_java.specs.Machine as machine
-use Rattle.vx_java.specs.Machine.{Begin, Frame, Here, Outcome, State, in_state, init_at, with_inits}
+use Rattle.vx_java.specs.Machine.{Begin, Frame, Here, Outcome, State, init_at, with_inits}
 use Rattle.vx_link.specs.declared.program.Program.{Program}
 use Rattle.vx_plain.specs.Frames.{with_frame}
 use Rattle.vx_plain_here.specs.Rows.{ComesTo}
@@ -14,7 +14,7 @@ use Rattle.vx_plain_here.specs.declared.outcome.Outcome as plain
 use Rattle.vx_plain_ready.specs.Ready.{Proceeds}
 use Rattle.vx_plain_ready.specs.Waiting.{numbers_of, roused, waiting}
 use Rattle.vx_value.specs.declared.ids.ClassId.{ClassId}
-use Rattle.vx_value.specs.declared.key.Kind.TheVariants.{Init, Wait}
+use Rattle.vx_value.specs.declared.key.Kind.TheVariants.{Wait}
 use Rattle.vx_value.specs.declared.slot.InitState.{InitState}
 use Rattle.vx_value.specs.declared.slot.InitState.TheVariants.{Done, Failed, Not, Running}
 
@@ -50,28 +50,6 @@ failed_goes_on inits c above e = ap (λ b. has_failed inits (cond (not b) (Some 
 
 pub failed_above : (inits : List InitState) (c : ℕ) (above : List ℕ) → not_begun inits c ≡ false → failed_on inits (c ∷ above) ≡ is_failed (init_at inits c)
 failed_above inits c above e = ap (λ b. has_failed inits (cond (not b) (Some c) (find (λ d. not (not_begun inits d)) above))) e
-
--- ---- blocking interfaces
-
-abbrev if_blocked : Program → Option ℕ → List ℕ → Option ℕ
-if_blocked p o classes = elim o as (λ _. Option ℕ) [ Some i ↦ Some i | None ↦ chain_blocked p classes ]
-
-one_blocked : (p : Program) (classes : List ClassId) (i : ℕ) (d : ClassId) → i < length classes → chain_blocked p (numbers_of (drop i classes)) ≡ if_blocked p (blocked p (get_or classes i d).0) (numbers_of (drop (i + 1) classes))
-one_blocked p classes i d lt = rw add-one (ap (λ cs. chain_blocked p (numbers_of cs)) (drop-cons classes i d lt))
-
-pub blocked_goes_on : (p : Program) (classes : List ClassId) (i : ℕ) (d : ClassId) → i < length classes → None ≡ option_map as_class (blocked p (get_or classes i d).0) → chain_blocked p (numbers_of (drop i classes)) ≡ chain_blocked p (numbers_of (drop (i + 1) classes))
-blocked_goes_on p classes i d lt none = one_blocked p classes i d lt ∙ free (blocked p (get_or classes i d).0) none
-  where
-    free : (o : Option ℕ) → None ≡ option_map as_class o → if_blocked p o (numbers_of (drop (i + 1) classes)) ≡ chain_blocked p (numbers_of (drop (i + 1) classes))
-    free None e = refl
-    free (Some j) e = cc
-
-pub blocked_here : (p : Program) (classes : List ClassId) (i : ℕ) (d : ClassId) (j : ClassId) → i < length classes → Some j ≡ option_map as_class (blocked p (get_or classes i d).0) → Some j ≡ option_map as_class (chain_blocked p (numbers_of (drop i classes)))
-blocked_here p classes i d j lt some = some ∙ sym (ap (option_map as_class) (one_blocked p classes i d lt) ∙ free (blocked p (get_or classes i d).0) some)
-  where
-    free : (o : Option ℕ) → Some j ≡ option_map as_class o → option_map as_class (if_blocked p o (numbers_of (drop (i + 1) classes))) ≡ option_map as_class o
-    free None e = cc
-    free (Some k) e = refl
 
 -- ---- frames
 

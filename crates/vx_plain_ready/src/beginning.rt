@@ -1,11 +1,11 @@
 //! The beginning of the initialisation of a class (JVMS 5.5).
 
-ghost use Rattle.std.specs.Prelude.{◌≡◌, IfOk, None, codes, option_map, unwrap_or};
-ghost use Rattle.vx_java.specs.Ids.{HasClassNumbers, as_class};
+ghost use Rattle.std.specs.Prelude.{◌≡◌, IfOk, None};
+ghost use Rattle.vx_java.specs.Ids.{HasClassNumbers};
 ghost use Rattle.vx_java.specs.Initialisation.{begin, begin_chain, begin_free, chain_blocked, is_below_failed, pushed_chain};
 ghost use Rattle.vx_java.specs.Machine.{Go, Raise as RaiseOutcome, unsupported_in, with_inits};
 ghost use Rattle.vx_java.specs.Operation.{class_word};
-ghost use Rattle.vx_link.specs.ClassNames.{class_of_name, class_text, core_class};
+ghost use Rattle.vx_link.specs.ClassNames.{class_text, core_class};
 ghost use Rattle.vx_plain.specs.Views.{state_of};
 ghost use Rattle.vx_plain_here.specs.Rows.{ComesTo};
 ghost use Rattle.vx_plain_ready.specs.Waiting.{numbers_of};
@@ -13,8 +13,8 @@ ghost use Rattle.vx_value.specs.declared.slot.InitState.TheVariants.{Failed};
 
 use crate::above::is_below_failed;
 use crate::frames::{push_chain, too_many};
-use std::alloc::{AllocError, Global};
-use vx_java::{blocked, class_of_name, init_chain};
+use std::alloc::Global;
+use vx_java::{chain_blocked, core_class, init_chain};
 use vx_link::Program;
 use vx_plain::State;
 use vx_plain_here::{Made, Outcome, unsupported_at};
@@ -23,27 +23,6 @@ use vx_value::{ClassId, InitState};
 
 /// The number of the word for a class that ends a run as unsupported.
 const CLASS: u8 = 6;
-
-/// The core class of a name.
-pub fn core_class(program: &Program, name: &[u8]) -> ClassId
-    requires { HasClassNumbers program.now }
-    ensures { result.0 ≡ unwrap_or (class_of_name program.now name.now) 0 }
-{
-    class_of_name(program, name).unwrap_or(ClassId(0))
-}
-
-/// The first interface that blocks a class of a chain.
-pub fn chain_blocked(program: &Program, chain: &[ClassId]) -> Option<ClassId>
-    requires { HasClassNumbers program.now }
-    ensures { result ≡ option_map as_class (chain_blocked program.now (numbers_of chain.now)) }
-{
-    for class in chain {
-        if let Some(interface) = blocked(program, *class) {
-            return Some(interface);
-        }
-    }
-    None
-}
 
 /// A blocking interface ends the run.
 fn end_blocked(alloc: Global, program: &Program, state: &State, interface: ClassId) -> Made

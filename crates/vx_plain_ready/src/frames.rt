@@ -1,32 +1,23 @@
 //! The frames of a chain of classes whose initialisation begins (JVMS 5.5).
 
-ghost use Rattle.std.specs.Prelude.{◌≡◌, ◌∷◌, OnErr, OnOk, length, map};
+ghost use Rattle.std.specs.Prelude.{◌≡◌, OnErr, OnOk, length};
 ghost use Rattle.std.specs.Prelude.{nat_lt, ◌+◌};
 ghost use Rattle.vx_java.specs.Initialisation.{init_frame, pushed_chain};
 ghost use Rattle.vx_java.specs.Machine.{depth, frame_bound};
-ghost use Rattle.vx_link.specs.Parts.{class_at};
 ghost use Rattle.vx_plain.specs.Frames.{with_frame};
 ghost use Rattle.vx_plain.specs.Views.{state_of};
 ghost use Rattle.vx_plain_ready.specs.Waiting.{numbers_of, roused, waiting};
 ghost use Rattle.vx_value.specs.declared.key.Kind.TheVariants.{Wait};
 
 use std::alloc::{AllocError, Global};
+use vx_java::parts::initialiser_of;
 use vx_link::Program;
 use vx_list::GivenUp;
 use vx_plain::{Frame, State};
-use vx_value::{ClassId, InitState, Kind, MethodId};
+use vx_value::{ClassId, InitState, Kind};
 
 /// The most frames that a run may have.
 pub const MOST_FRAMES: usize = 1024;
-
-fn initialiser_of(program: &Program, class: ClassId) -> MethodId
-    ensures { result ≡ (class_at program.now class.0).initialiser }
-{
-    match program.class(class) {
-        Some(class) => class.initialiser,
-        None => MethodId(0),
-    }
-}
 
 /// A frame of the initialiser of a class, which waits, is put on top. Want of memory leaves the state as it was.
 fn push_waiting(

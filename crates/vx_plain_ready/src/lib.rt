@@ -6,6 +6,6 @@ mod beginning;
 mod frames;
 mod readying;
 
-pub use beginning::{begin, chain_blocked, core_class};
+pub use beginning::begin;
 pub use frames::{MOST_FRAMES, push_chain, too_many};
 pub use readying::ready;

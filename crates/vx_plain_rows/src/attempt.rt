@@ -13,6 +13,7 @@ use crate::operations::row_of;
 use std::alloc::Global;
 use vx_class::Code;
 use vx_java::decoding::operation;
+use vx_java::parts::code_of;
 use vx_link::Program;
 use vx_list::Items;
 use vx_opcode::{Instruction, decode};
@@ -27,13 +28,7 @@ use vx_value::ClassId;
 pub fn code_on_top<'a>(program: &'a Program, state: &State) -> Option<&'a Code>
     ensures { option_copied result ≡ (method_at program.now (state_of state.now).top.method).code }
 {
-    match program.method(state.top.method) {
-        Some(method) => match &method.code {
-            Some(code) => Some(code),
-            None => None,
-        },
-        None => None,
-    }
+    code_of(program, state.top.method)
 }
 
 /// The pool of a class; that of one that isn't there is empty.

@@ -13,11 +13,11 @@ ghost use Rattle.vx_plain_start.specs.Beginning.{Began, started};
 ghost use Rattle.vx_value.specs.declared.end.End.TheVariants.{Uncaught, Unsupported};
 
 use std::alloc::{AllocError, Global};
-use vx_java::{init_chain, place};
+use vx_java::{chain_blocked, init_chain, place};
 use vx_link::Program;
 use vx_list::GivenUp;
 use vx_plain::State;
-use vx_plain_ready::{chain_blocked, push_chain, too_many};
+use vx_plain_ready::{push_chain, too_many};
 use vx_spelling::class_text;
 use vx_value::{ClassId, End, InitState, Name};
 

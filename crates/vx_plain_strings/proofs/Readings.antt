@@ -1,9 +1,9 @@
 -- Arrays of chars and texts by what native methods of the ordinary machine say of them.
-use Rattle.std.proofs.Common.{◌≡◌, ℕ, ℤ, pos, negsuc, zero, suc, List, [], ◌∷◌, length, refl, ap, ◌∙◌}
-use Rattle.std.specs.Prelude.{codes, map}
+use Rattle.std.proofs.Common.{◌≡◌, ℕ, pos, suc, List, [], ◌∷◌, length, refl, ap, ◌∙◌}
+use Rattle.std.specs.Prelude.{map}
 use Rattle.vx_java.specs.Machine as machine
 use Rattle.vx_java.specs.Machine.{Here}
-use Rattle.vx_java.specs.Texts.{bool_text, char_array, unit_of}
+use Rattle.vx_java.specs.Texts.{char_array, unit_of}
 use Rattle.vx_link.specs.ClassNames.{array_class, char_element}
 use Rattle.vx_plain.specs.Views.{value_of, values_of}
 use Rattle.vx_plain.specs.declared.value.Value.{Value}
@@ -30,10 +30,3 @@ pub chars_made : (h : Here) (class : ℕ) (cells : List Value) (units : List ℕ
     → record { class = class; size = length cells; cells = values_of cells } ≡ char_array h units
 chars_made h class cells units is_class made =
     λ i. record { class = is_class i; size = (ap length made ∙ as_many units) i; cells = (ap values_of made ∙ elements_there units) i }
-
--- ---- texts of truths
-
-pub truth : (n : ℤ) → (n ≡ pos 0 → ⊥) → bool_text n ≡ codes "true"
-truth (pos zero) other = absurd (other refl)
-truth (pos (suc n)) other = refl
-truth (negsuc n) other = refl

@@ -17,7 +17,7 @@ pub use builders::{
     builder_append, builder_delete, builder_init_capacity, builder_reverse, builder_set_length,
 };
 pub use call::{Arguments, Call};
-pub use spelling::{Spelling, bool_units, spelled};
+pub use spelling::{Spelling, spelled};
 pub use strings::{
     answer_false, answer_receiver, same_object, string_compare, string_concat, string_ends_with,
     string_equals, string_hash, string_index_of, string_index_of_point, string_init,

@@ -1,7 +1,7 @@
 //! The texts of values.
 
 ghost use Rattle.std.specs.Prelude.{◌≡◌, ◌∷◌, [], IfOk, IfSome, option_map};
-ghost use Rattle.vx_java.specs.Texts.{bool_text, char_text};
+ghost use Rattle.vx_java.specs.Texts.{char_text};
 ghost use Rattle.vx_plain.specs.Views.{state_of, value_of};
 ghost use Rattle.vx_plain_here.specs.Rows.{here_in};
 ghost use Rattle.vx_plain_strings.specs.Texts.{spell};
@@ -10,7 +10,7 @@ use crate::call::Call;
 use crate::texts::{chars_of, text_of};
 use std::alloc::{AllocError, Global};
 use vx_plain::{State, Value, held};
-use vx_units::{decimal, of_bytes};
+use vx_units::{bool_units, decimal, of_bytes};
 
 /// How the argument of a native method is spelled.
 #[derive(Clone, Copy)]
@@ -21,18 +21,6 @@ pub enum Spelling {
     Char,
     Text,
     Chars,
-}
-
-/// `false` for 0, and else `true`.
-#[tactic(auto, using(crate::proofs::Readings::truth))]
-pub fn bool_units(alloc: Global, n: i32) -> Result<Vec<u16>, AllocError>
-    ensures { IfOk result (λ made. made.items ≡ bool_text n) }
-{
-    if n == 0 {
-        of_bytes(alloc, b"false")
-    } else {
-        of_bytes(alloc, b"true")
-    }
 }
 
 /// The unit of a char, which is 0 for a negative number, if it fits.

@@ -1,11 +1,10 @@
 //! The native methods of Object and String.
 
-ghost use Rattle.std.specs.Prelude.{◌≡◌, ◌==◌, ◌&&◌, bytes_eq, length};
+ghost use Rattle.std.specs.Prelude.{◌≡◌, ◌==◌, ◌&&◌, bytes_eq};
 ghost use Rattle.vx_java.specs.Checks.{same_reference};
 ghost use Rattle.vx_java.specs.Machine.{object_at, push_new};
-ghost use Rattle.vx_java.specs.Texts.{answer_false, answer_receiver, answer_text, char_array, part, same_object, string_compare, string_concat, string_ends_with, string_equals, string_hash, string_index_of, string_index_of_point, string_init, string_init_chars, string_init_string, string_starts_with, string_substring, string_to_chars, text_char_at, text_is_empty, text_length, text_of_object, text_to_string};
-ghost use Rattle.vx_link.specs.ClassNames.{array_class, char_element, core_class};
-ghost use Rattle.vx_java.specs.Ids.{HasClassNumbers};
+ghost use Rattle.vx_java.specs.Texts.{answer_false, answer_receiver, char_array, part, same_object, string_compare, string_concat, string_ends_with, string_equals, string_hash, string_index_of, string_index_of_point, string_init, string_init_chars, string_init_string, string_starts_with, string_substring, string_to_chars, text_char_at, text_is_empty, text_length, text_of_object, text_to_string};
+ghost use Rattle.vx_link.specs.ClassNames.{core_class};
 ghost use Rattle.vx_plain.specs.Views.{state_of, value_of};
 ghost use Rattle.vx_plain_here.specs.Rows.{here_in};
 ghost use Rattle.vx_plain_strings.specs.Answers.{Answers, Does};
@@ -16,11 +15,10 @@ use crate::answers::{
 };
 use crate::call::{Arguments, Call};
 use crate::texts::{as_int, chars_of, elements_of, place_as_int, text_of};
-use vx_link::Program;
 use vx_plain::{Object, State, Value};
 use vx_plain_here::{Made, int_of, is_within};
+use vx_references::arrays::{CHAR, array_of_primitives};
 use vx_units::{difference, ends_with, hash, joined, place_of, place_of_point};
-use vx_value::ClassId;
 
 // ---- Object and Class
 
@@ -289,20 +287,12 @@ pub fn string_ends_with(call: &Call<'_>, state: &mut State) -> Made
 
 // ---- what is made of a text
 
-/// The class of arrays of chars.
-fn char_array(program: &Program) -> ClassId
-    requires { HasClassNumbers program.now }
-    ensures { result.0 ≡ array_class program.now 1 char_element }
-{
-    ClassId(program.classes.len() as u32 + 2)
-}
-
 /// Answers a new array of the units of a text.
 fn push_chars(call: &Call<'_>, state: &mut State, object: u64) -> Made
     ensures { Answers call.now (λ h rest. push_new h (char_array h (text_of_object h object)) rest) state.old state.new result }
 {
     let cells = elements_of(call.here.alloc, state.text(object))?;
-    let array = Object::array(char_array(call.here.program), cells);
+    let array = Object::array(array_of_primitives(call.here.program, CHAR), cells);
     answer_new(call, state, array)
 }
 

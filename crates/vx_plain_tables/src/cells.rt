@@ -1,21 +1,18 @@
 //! The cells with which objects begin (JVMS 2.3, 2.4).
 
-ghost use Rattle.std.specs.Prelude.{◌≡◌, ◌++◌, IfOk, OnOk, Some, map};
-ghost use Rattle.vx_initial_heap.specs.First.{empty_text};
-ghost use Rattle.vx_java.specs.FirstObjects.{field_default, new_cells, new_object, own_cells};
-ghost use Rattle.vx_java.specs.Ids.{as_class};
-ghost use Rattle.vx_link.specs.Hierarchy.{superclasses};
-ghost use Rattle.vx_link.specs.Parts.{field_at, is_static_field};
+ghost use Rattle.std.specs.Prelude.{◌≡◌, ◌++◌, IfOk, OnOk, Some};
+ghost use Rattle.vx_java.specs.FirstObjects.{new_cells, new_object, own_cells};
 ghost use Rattle.vx_plain.specs.Views.{object_of, values_of, cells_of};
 ghost use Rattle.vx_plain_tables.specs.Cells.{is_text, plain_of, values_in};
 
 use std::alloc::{AllocError, Global};
 use vx_initial_heap::default_of;
-use vx_java::parts::{descriptor_of_field, fields_of, superclass_of};
+use vx_java::parts::{descriptor_of_field, fields_of};
+use vx_java::superclasses;
 use vx_link::Program;
 use vx_plain::{Body, Object, Value, held};
 use vx_references::fields::is_static_field;
-use vx_value::{ClassId, FieldId, Slot};
+use vx_value::{ClassId, Slot};
 
 /// The value of a slot; `None` where it names a text.
 fn value_in(slot: Slot) -> Option<Value>
@@ -29,28 +26,6 @@ fn value_in(slot: Slot) -> Option<Value>
         Slot::Ref(object) => Some(Value::Ref(object)),
         Slot::Text(_) => None,
     }
-}
-
-/// A class and its superclasses upward.
-fn superclasses(
-    alloc: Global,
-    program: &Program,
-    class: ClassId,
-) -> Result<Vec<ClassId>, AllocError>
-    ensures { IfOk result (λ chain. chain.items ≡ map as_class (superclasses program.now class.0)) }
-{
-    let mut chain = Vec::new(alloc);
-    let mut left = program.classes.len();
-    let mut next = Some(class);
-    while left > 0 {
-        let Some(class) = next else {
-            return Ok(chain);
-        };
-        chain.push(class)?;
-        next = superclass_of(program, class);
-        left -= 1;
-    }
-    Ok(chain)
 }
 
 /// Appends what the instance fields of a class itself begin with.

@@ -8,10 +8,9 @@ ghost use Rattle.vx_link.specs.ClassNames.{core_class};
 ghost use Rattle.vx_plain.specs.Views.{frame_of, state_of};
 ghost use Rattle.vx_plain_throw.specs.Passing.{behind, class_behind, handler_at, uncaught_over, wrapper_or};
 
-use vx_java::{assignable, handler_for};
+use vx_java::{assignable, core_class, handler_for};
 use vx_link::Program;
 use vx_plain::{Frame, State};
-use vx_plain_ready::core_class;
 use vx_value::{ClassId, Kind};
 
 /// The handler of a frame for an object of a class; one that waits handles nothing.

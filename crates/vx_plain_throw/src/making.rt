@@ -8,10 +8,10 @@ ghost use Rattle.vx_java.specs.Throwing.{exception_objects, throwable};
 ghost use Rattle.vx_plain.specs.Views.{object_of, state_of, value_of};
 
 use std::alloc::{AllocError, Global};
+use vx_java::core_class;
 use vx_link::Program;
 use vx_list::GivenUp;
 use vx_plain::{Object, State, Value};
-use vx_plain_ready::core_class;
 use vx_plain_tables::new_object;
 use vx_value::ClassId;
 

@@ -11,10 +11,10 @@ ghost use Rattle.vx_value.specs.declared.slot.InitState.TheVariants.{Failed};
 use crate::handling::{handler_of, is_error};
 use crate::making::throwable;
 use std::alloc::{AllocError, Global};
+use vx_java::core_class;
 use vx_link::Program;
 use vx_list::GivenUp;
 use vx_plain::{State, Value};
-use vx_plain_ready::core_class;
 use vx_value::{InitState, Kind};
 
 /// The handler of the frame on top for an object: where it goes on, or `None` where it doesn't handle the object (JVMS 2.10).

@@ -1,3 +1,4 @@
 pub mod Puts
 pub mod Plans
 pub mod Told
+pub mod Linked

@@ -4,7 +4,7 @@ use Rattle.vx_io.specs.Call.{Call, Listing, Reading}
 use Rattle.vx_io.specs.Held.{Held, FilesState, contents}
 use Rattle.vx_plans.specs.declared.status.Status.{Status}
 use Rattle.vx_plans.specs.declared.status.Status.TheVariants.{ReadFault, TooLarge, NoMemory}
-use Rattle.vx_plans.specs.Plan.{Plan, Refuse, Say, Write, Read, List_below, If_allowed, As_report, Choose, Leads, MayGive, MayStop, unless, attempt, Outcome, done_with}
+use Rattle.vx_plans.specs.Plan.{Plan, Refuse, Say, Write, Read, List_below, By_allowed, As_report, Choose, Leads, MayGive, MayStop, unless, attempt, Outcome, done_with}
 use Rattle.vx_pool.specs.Place.{IsBytes}
 use Rattle.vx_plans.specs.Job.{Exactly, IsTextOf, Product}
 use Rattle.vx_plans.specs.KeepsFiles.{KeepsFiles}
@@ -55,8 +55,8 @@ from_before held before later after h (Read path room fault next) outcome (inl g
 from_before held before later after h (Read path room fault next) outcome (inr g) = inr (g.0, g.1, g.2, g.3, from_before held before later after h (next g.0) outcome g.4)
 from_before held before later after h (List_below folder fault next) outcome (inl g) = inl (omega (arith, g.0, h (Listing folder)), g.1)
 from_before held before later after h (List_below folder fault next) outcome (inr g) = inr (g.0, g.1, from_before held before later after h (next g.0) outcome g.2)
-from_before held before later after h (If_allowed model next) outcome (inl g) = inl g
-from_before held before later after h (If_allowed model next) outcome (inr g) = inr (g.0, from_before held before later after h next outcome g.1)
+from_before held before later after h (By_allowed model none some) outcome (inl g) = inl (g.0, from_before held before later after h none outcome g.1)
+from_before held before later after h (By_allowed model none some) outcome (inr g) = inr (g.0, from_before held before later after h some outcome g.1)
 from_before held before later after h (As_report bytes next) outcome (inl g) = inl g
 from_before held before later after h (As_report bytes next) outcome (inr g) = inr (g.0, g.1, from_before held before later after h (next g.0) outcome g.2)
 from_before held before later after h (Choose passes next) outcome g = (g.0, g.1, from_before held before later after h (next g.0) outcome g.2)

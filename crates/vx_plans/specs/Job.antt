@@ -21,6 +21,8 @@ use Rattle.vx_people.specs.Tellings.{IsToldText}
 use Rattle.vx_people.specs.declared.telling.Telling.{Telling}
 use Rattle.vx_report.specs.declared.report.Report as read
 use Rattle.vx_reporting.specs.Reported.{IsReported}
+use Rattle.vx_lines.specs.declared.table.LineTable.{LineTable}
+use Rattle.vx_plans.specs.Health.{IsHealthText}
 use Rattle.vx_space.specs.Sets.{IsSet, Sets}
 use Rattle.vx_plans.specs.Load.{IsSummary}
 use Rattle.vx_plans.specs.Verdicts.{IsVerdictText}
@@ -77,7 +79,7 @@ program_in main model classes = or_bad_link (linked_program classes model.option
 abbrev pub IsNoProgram : (main : List ℕ) → Model → List ClassFile → Status → Type 0
 IsNoProgram main model classes status = (status ≡ NoMemory) ⊎ (program_in main model classes ≡ Err status)
 
--- what a command makes: the report of a program's runs, of a version, with a model's options and the limit on attempts; what is told of a report; where two reports agree; the join of several reports; the summary of the workload of a seed and a number of options; the verdict over a program; the parts of a model's text by chosen options; whether the configurations of a report end as is expected; where two reports differ; or these bytes
+-- what a command makes: the report of a program's runs, of a version, with a model's options and the limit on attempts; what is told of a report; where two reports agree; the join of several reports; the summary of the workload of a seed and a number of options; the verdict over a program; the parts of a model's text by chosen options; whether the configurations of a report end as is expected; where two reports differ; what is told of a model and of class files that link under it to a program; or these bytes
 pub data Product : Type 0 where
   Report : (version : ℕ) (model : Model) (limit : ℕ) (program : Program) → Product
   Told : (telling : Telling) (report : read.Report) → Product
@@ -88,6 +90,7 @@ pub data Product : Type 0 where
   Parts : (dimacs : Bool) (text : List ℕ) (model : Model) (chosen : List Bool) → Product
   Check : (report : read.Report) (expected : List Expectation) → Product
   Comparison : (one other : read.Report) → Product
+  Health : (dimacs : Bool) (text : List ℕ) (model : Model) (classes : List ClassFile) (tables : List LineTable) (main : List ℕ) (program : Program) → Product
   Exactly : List ℕ → Product
 
 -- a text is that of a product; a report speaks of the configurations that its model allows
@@ -101,6 +104,7 @@ IsTextOf (Judged program) bytes = IsVerdictText program bytes
 IsTextOf (Parts dimacs text model chosen) bytes = IsCutText dimacs text model chosen bytes
 IsTextOf (Check report expected) bytes = IsCheckText report expected bytes
 IsTextOf (Comparison one other) bytes = IsComparisonText one other bytes
+IsTextOf (Health dimacs text model classes tables main program) bytes = IsHealthText dimacs text model classes tables main program bytes
 IsTextOf (Exactly given) bytes = bytes ≡ given
 
 -- a text is the report of the program of these class files under a model

@@ -1,8 +1,10 @@
 pub mod Status
 pub mod Line
 pub mod Verdicts
+pub mod Health
 pub mod Job
 pub mod Plan
+pub mod Alike
 pub mod Answers
 pub mod Sized
 pub mod KeepsFiles

@@ -15,20 +15,24 @@ use Rattle.vx_plans.specs.Job.{Product, IsTextOf}
 use Rattle.std.proofs.Common.{◌⊎◌}
 
 -- A plan: it refuses, or says a text of a product and ends with a status, or asks for the first bytes of a file or for the paths below a folder and goes on
--- with what is given. Beside each question stands the status where the call fails. Or it goes on where a model allows a
--- configuration, and refuses where it allows none; or it goes on with the report that bytes spell, and refuses where they spell none; or it goes on with any values that pass a test.
+-- with what is given. Beside each question stands the status where the call fails. Or it goes on by whether a model allows no
+-- configuration or some; or it goes on with the report that bytes spell, and refuses where they spell none; or it goes on with any values that pass a test.
 pub data Plan : Type 0 where
   Refuse : Status → Plan
   Say : (product : Product) (last : Status) → Plan
   Read : List ℕ → ℕ → Status → (List ℕ → Plan) → Plan
   List_below : List ℕ → Status → (List (List ℕ) → Plan) → Plan
-  If_allowed : Model → Plan → Plan
+  By_allowed : Model → (none some : Plan) → Plan
   As_report : List ℕ → (Report → Plan) → Plan
   Choose : (List Bool → Bool) → (List Bool → Plan) → Plan
 
 -- writes a text of a product, and is done
 abbrev pub Write : Product → Plan
 Write product = Say product Done
+
+-- goes on where a model allows a configuration, and refuses where it allows none
+abbrev pub If_allowed : Model → Plan → Plan
+If_allowed model next = By_allowed model (Refuse NoConfiguration) next
 
 -- refuses where there is a reason to
 abbrev pub unless : Option Status → Plan → Plan
@@ -79,8 +83,8 @@ MayGive held before after (Read path room fault next) outcome =
 MayGive held before after (List_below folder fault next) outcome =
     ((before (Listing folder) < after (Listing folder)) × (outcome ≡ Err fault))
     ⊎ ((paths : List (List ℕ)) × IfSome held (λ files. IsListing files folder paths) × MayGive held before after (next paths) outcome)
-MayGive held before after (If_allowed model next) outcome =
-    (AllowsNone model × (outcome ≡ Err NoConfiguration)) ⊎ (AllowsSome model × MayGive held before after next outcome)
+MayGive held before after (By_allowed model none some) outcome =
+    (AllowsNone model × MayGive held before after none outcome) ⊎ (AllowsSome model × MayGive held before after some outcome)
 MayGive held before after (As_report bytes next) outcome =
     ((line : ℕ) × IsBadReport bytes line × (outcome ≡ Err (BadReport line)))
     ⊎ ((report : Report) × ReportText bytes report × MayGive held before after (next report) outcome)
@@ -93,3 +97,7 @@ pub record Leads (held : Option Held) (plan rest : Plan) : Type 0 where
 -- The plan may be left with this status, between two states of the files: for want of memory, at any place, or by a refusal of its own.
 pub record MayStop (old new : FilesState) (plan : Plan) (status : Status) : Type 0 where
   pub why : (status ≡ NoMemory) ⊎ MayGive old.held old.faults new.faults plan (Err status)
+
+-- a plan gave this, or memory was wanting
+abbrev pub IsGiven : FilesState → FilesState → Plan → Outcome → Type 0
+IsGiven old new plan outcome = (outcome ≡ Err NoMemory) ⊎ MayGive old.held old.faults new.faults plan outcome

@@ -1,7 +1,7 @@
 //! How a call of the program ends.
 
 ghost use Rattle.std.specs.Prelude.{◌≡◌};
-ghost use Rattle.vx_plans.specs.Status.{code_of};
+ghost use Rattle.vx_plans.specs.Status.{code_of, name_of};
 
 use std::alloc::{AllocError, AllocFailed};
 use vx_link::LinkFault;
@@ -106,6 +106,32 @@ impl Status {
             Status::Failing => 15,
             Status::Differing => 16,
             Status::BadExpected { .. } => 17,
+        }
+    }
+
+    /// The name of the code.
+    pub fn name(&self) -> &'static [u8]
+        ensures { result.now ≡ name_of self.now }
+    {
+        match self {
+            Status::Done => b"done",
+            Status::NoMemory => b"no memory",
+            Status::Usage => b"usage",
+            Status::ReadFault { .. } => b"read fault",
+            Status::WriteFault => b"write fault",
+            Status::BadModel { .. } => b"bad model",
+            Status::NoConfiguration => b"no configuration",
+            Status::BadClass { .. } => b"bad class",
+            Status::BadLink { .. } => b"bad link",
+            Status::BadReport { .. } => b"bad report",
+            Status::NotAllowed => b"not allowed",
+            Status::BadSource { .. } => b"bad source",
+            Status::TooLarge { .. } => b"too large",
+            Status::Unlike => b"unlike",
+            Status::NotJoinable => b"not joinable",
+            Status::Failing => b"failing",
+            Status::Differing => b"differing",
+            Status::BadExpected { .. } => b"bad expected",
         }
     }
 }

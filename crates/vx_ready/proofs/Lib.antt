@@ -8,3 +8,5 @@ pub mod Attempting
 pub mod Rows
 pub mod Going
 pub mod Running
+pub mod Tops
+pub mod Given

@@ -1,7 +1,7 @@
--- Why an input is refused, in words: a sentence for each reason of each form (own).
+-- Why an input is refused, or a run ends as unsupported, in words: a sentence for each reason of each form (own).
 use Rattle.std.specs.Prelude.{ℕ, List, [], codes, slice_get, unwrap_or, ◌∷◌}
 use Rattle.vx_reasons.specs.declared.sentences.Form.{Form}
-use Rattle.vx_reasons.specs.declared.sentences.Form.TheVariants.{ClassFile, Model, Dimacs, Source}
+use Rattle.vx_reasons.specs.declared.sentences.Form.TheVariants.{ClassFile, Model, Dimacs, Source, Unsupported}
 
 abbrev pub class_file_sentences : List (List ℕ)
 class_file_sentences =
@@ -59,12 +59,26 @@ source_sentences =
     ∷ codes "a rule of class files: names, descriptors, flags, repeated members, values, locals, dimensions, keys, catch rows, a jump or a handler behind which no instruction stands, no instructions"
     ∷ []
 
+abbrev pub unsupported_sentences : List (List ℕ)
+unsupported_sentences =
+    []
+    ∷ codes "an instruction of floats or doubles, a constant or a field of such a type, a new array of them"
+    ∷ codes "jsr, jsr_w or ret"
+    ∷ codes "invokedynamic"
+    ∷ codes "ldc of a method handle or of a method type"
+    ∷ codes "a native method that is left out: any of a class of the folder, and Object's hashCode and toString"
+    ∷ codes "a class that is neither in the folder nor a core class; or an interface that Java 8 would initialise before a class below it, since it has an initialiser and a method that is neither abstract nor static"
+    ∷ codes "a field that the class doesn't have, nor those above it"
+    ∷ codes "a method that the class doesn't have, nor those above it"
+    ∷ []
+
 -- the sentences of a form, each at the place of its reason; those of numbers that are no reason are empty
 abbrev pub sentences_of : Form → List (List ℕ)
 sentences_of ClassFile = class_file_sentences
 sentences_of Model = model_sentences
 sentences_of Dimacs = dimacs_sentences
 sentences_of Source = source_sentences
+sentences_of Unsupported = unsupported_sentences
 
 -- what fails where an input of a form is refused with a reason
 abbrev pub sentence_of : Form → ℕ → List ℕ

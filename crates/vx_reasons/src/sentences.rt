@@ -3,7 +3,7 @@
 ghost use Rattle.std.specs.Prelude.{◌≡◌, map};
 ghost use Rattle.vx_reasons.specs.Reasons.{sentence_of, sentences_of};
 
-/// A form of input that is refused with a number for its reason.
+/// What has a number for its reason: a form of input that is refused, or an end of a run.
 #[derive(Clone, Copy)]
 pub enum Form {
     /// A class file (JVMS 4).
@@ -14,6 +14,8 @@ pub enum Form {
     Dimacs,
     /// A source of the assembler.
     Source,
+    /// A run that comes to what is left out, by the number of its word.
+    Unsupported,
 }
 
 const CLASS_FILE: [&[u8]; 14] = [
@@ -68,6 +70,18 @@ const SOURCE: [&[u8]; 9] = [
     b"a rule of class files: names, descriptors, flags, repeated members, values, locals, dimensions, keys, catch rows, a jump or a handler behind which no instruction stands, no instructions",
 ];
 
+const UNSUPPORTED: [&[u8]; 9] = [
+    b"",
+    b"an instruction of floats or doubles, a constant or a field of such a type, a new array of them",
+    b"jsr, jsr_w or ret",
+    b"invokedynamic",
+    b"ldc of a method handle or of a method type",
+    b"a native method that is left out: any of a class of the folder, and Object's hashCode and toString",
+    b"a class that is neither in the folder nor a core class; or an interface that Java 8 would initialise before a class below it, since it has an initialiser and a method that is neither abstract nor static",
+    b"a field that the class doesn't have, nor those above it",
+    b"a method that the class doesn't have, nor those above it",
+];
+
 /// The sentences of a form, each at the place of its reason; those of numbers that are no reason are empty.
 fn sentences_of(form: Form) -> &'static [&'static [u8]]
     ensures { map (λ sentence. sentence.now) result.now ≡ sentences_of form }
@@ -77,10 +91,11 @@ fn sentences_of(form: Form) -> &'static [&'static [u8]]
         Form::Model => &MODEL,
         Form::Dimacs => &DIMACS,
         Form::Source => &SOURCE,
+        Form::Unsupported => &UNSUPPORTED,
     }
 }
 
-/// What fails where an input of a form is refused with a reason. It is empty where the form has no such reason.
+/// What fails where an input of a form is refused with a reason, or what a run comes to. It is empty where the form has no such reason.
 pub fn sentence(form: Form, reason: u8) -> &'static [u8]
     ensures { result.now ≡ sentence_of form reason }
 {

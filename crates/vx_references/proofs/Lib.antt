@@ -4,3 +4,5 @@ pub mod FieldLaws
 pub mod CallLaws
 pub mod SignatureLaws
 pub mod Searches
+mod CellCounts
+pub mod ArrayNumbers

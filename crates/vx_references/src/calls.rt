@@ -1,6 +1,6 @@
 //! What an instruction of a call and its program decide alone, the same at each configuration (JVMS 5.4.3.3, 5.4.3.4, 6.5).
 
-ghost use Rattle.std.specs.Prelude.{◌≡◌, ◌||◌, IfOk, option_map};
+ghost use Rattle.std.specs.Prelude.{◌≡◌, IfOk, option_map};
 ghost use Rattle.vx_class.specs.Members.{STATIC};
 ghost use Rattle.vx_java.specs.Calls.{member_text};
 ghost use Rattle.vx_java.specs.Ids.{HasClassNumbers, as_class};
@@ -47,7 +47,7 @@ pub fn is_static(program: &Program, method: MethodId) -> bool
 }
 
 /// Whether a method is private.
-fn is_private(program: &Program, method: MethodId) -> bool
+pub fn is_private(program: &Program, method: MethodId) -> bool
     ensures { result ≡ has PRIVATE (method_at program.now method.0).flags }
 {
     flags_of_method(program, method).contains(AccessFlags::PRIVATE)

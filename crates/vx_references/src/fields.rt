@@ -1,19 +1,23 @@
 //! What an instruction of a field and its program decide alone, the same at each configuration.
 
-ghost use Rattle.std.specs.Prelude.{◌≡◌, ◌<◌, ◌^◌, length, option_map};
-ghost use Rattle.vx_java.specs.Checks.{same_bool, sort_of};
+ghost use Rattle.std.specs.Prelude.{◌≡◌, ◌<◌, ◌^◌, IfOk, length, option_map};
+ghost use Rattle.vx_java.specs.Checks.{same_bool, sort_of, width_of_type};
+ghost use Rattle.vx_java.specs.Fields.{field_text};
+ghost use Rattle.vx_java.specs.FirstObjects.{narrow_of_type};
 ghost use Rattle.vx_java.specs.Ids.{as_class};
+ghost use Rattle.vx_java.specs.Named.{in_bytes};
 ghost use Rattle.vx_link.specs.ClassNames.{class_named};
 ghost use Rattle.vx_link.specs.Names.{member};
 ghost use Rattle.vx_link.specs.Parts.{is_static_field};
 ghost use Rattle.vx_references.specs.Fields.{IsFieldReference};
 
 use bitflags::Flags;
+use std::alloc::{AllocError, Global};
 use vx_desc::{Base, JavaType, field_type};
-use vx_java::{Sort, member, resolve_field};
+use vx_java::{MemberReference, Sort, member, resolve_field};
 use vx_link::{AccessFlags, Program};
 use vx_pool::Pool;
-use vx_value::{ClassId, FieldId};
+use vx_value::{ClassId, FieldId, Name, Narrow};
 
 /// What an instruction of a field and its program decide alone (JVMS 5.4.3.2, 6.5).
 #[derive(Clone, Copy)]
@@ -48,6 +52,33 @@ pub fn sort_of(field_type: JavaType) -> Option<Sort>
         Base::Long => Some(Sort::Long),
         Base::Class => Some(Sort::Reference),
         Base::Bool | Base::Byte | Base::Char | Base::Int | Base::Short => Some(Sort::Int),
+    }
+}
+
+/// How many words a value of a type takes on the operand stack; a float or a double is never one.
+pub fn width_of(field_type: JavaType) -> u64
+    ensures { result ≡ width_of_type field_type }
+{
+    match sort_of(field_type) {
+        Some(Sort::Long) => 2,
+        Some(Sort::Int | Sort::Reference) => 1,
+        None => 0,
+    }
+}
+
+/// What a store to a field of a type narrows an int to (JVMS 6.5 putstatic, putfield).
+pub fn narrow_of(field_type: JavaType) -> Option<Narrow>
+    ensures { result ≡ narrow_of_type field_type }
+{
+    if field_type.dimensions != 0 {
+        return None;
+    }
+    match field_type.base {
+        Base::Byte => Some(Narrow::Byte),
+        Base::Char => Some(Narrow::Char),
+        Base::Short => Some(Narrow::Short),
+        Base::Bool => Some(Narrow::Bool),
+        Base::Double | Base::Float | Base::Long | Base::Class | Base::Int => None,
     }
 }
 
@@ -106,4 +137,16 @@ pub fn field_reference(
         field,
         field_type,
     }
+}
+
+/// The class, the name and the descriptor of a field that an instruction names, as `CLASS.NAME:DESC`.
+pub fn field_text(alloc: Global, named: &MemberReference<'_>) -> Result<Name, AllocError>
+    ensures { IfOk result (λ text. text ≡ field_text (in_bytes named.now)) }
+{
+    let mut text = Vec::from_slice(alloc, named.class)?;
+    text.extend_from_slice(b".")?;
+    text.extend_from_slice(named.name)?;
+    text.extend_from_slice(b":")?;
+    text.extend_from_slice(named.descriptor)?;
+    Ok(Name::from_vec(text))
 }

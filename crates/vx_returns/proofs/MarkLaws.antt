@@ -5,8 +5,7 @@ use Rattle.std.specs.Prelude.{Option, Some, None, if◌then◌else◌, is_some}
 use Rattle.vx_cond.specs.Cond.{Conditional, IsInside}
 use Rattle.vx_families.proofs.AttemptLaws.{AttemptsBy-ended, AttemptsIn-by}
 use Rattle.vx_families.specs.Attempts.{AttemptsIn, IsAttemptIn, IsGiven, row_by}
-use Rattle.vx_families.specs.Sorts.{slot_is_of}
-use Rattle.vx_fields.specs.Statics.{top_of}
+use Rattle.vx_families.specs.Sorts.{slot_is_of, top_of}
 use Rattle.vx_frames.proofs.EnterLaws.{stack_depth}
 use Rattle.vx_frames.proofs.GivingLaws.{Attempts-gives}
 use Rattle.vx_frames.specs.Giving.{GivesIn}

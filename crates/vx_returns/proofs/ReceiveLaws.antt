@@ -8,7 +8,7 @@ use Rattle.vx_cond.proofs.RowSteps.{IsRow-push}
 use Rattle.vx_cond.specs.Cond.{Conditional, IsCond, IsCondLifting, cond_at}
 use Rattle.vx_cond.specs.Row.{Conditionals}
 use Rattle.vx_cond.specs.Slots.{slot_at, slots_at}
-use Rattle.vx_fields.proofs.Tops.{value_inside}
+use Rattle.vx_ready.proofs.Tops.{value_inside}
 use Rattle.vx_frame.proofs.FrameLaws.{IsFrame-stack}
 use Rattle.vx_group.proofs.GroupLaws.{IsGroup-extends, IsGroup-path_known, IsGroup-top}
 use Rattle.vx_group.specs.Group.{GroupView, IsGroup, path_of}

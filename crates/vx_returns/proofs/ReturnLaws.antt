@@ -1,14 +1,13 @@
 -- The return of the machine: the class of an initialisation is marked first, then the frame is left.
 use Rattle.std.proofs.Common.{◌≡◌, ℕ, ◌≤◌, suc, Bool, true, false, List, [], ◌∷◌, ◌&&◌, refl, sym, ◌∙◌, ap, arith, map, length}
-use Rattle.std.proofs.lemmas.Bool.{le-ltb, lt-ltb}
-use Rattle.std.specs.Prelude.{Option, Some, None, Ok, Err, if◌then◌else◌, is_some, nat_lt, not, ok_or}
+use Rattle.std.proofs.lemmas.Bool.{lt-ltb}
+use Rattle.std.specs.Prelude.{Some, None, if◌then◌else◌, is_some, nat_lt, not}
 use Rattle.vx_class.specs.declared.class_file.Code.{Code}
 use Rattle.vx_families.proofs.SlotSorts.{same_sort}
 use Rattle.vx_families.specs.Bounds.{IsBounded, has_short_code}
 use Rattle.vx_frames.specs.Unwinding.{is_call}
-use Rattle.vx_families.specs.Sorts.{slot_is_of}
-use Rattle.vx_fields.proofs.Pools.{below, item_passes}
-use Rattle.vx_fields.specs.Statics.{top_of}
+use Rattle.vx_families.specs.Sorts.{slot_is_of, top_of}
+use Rattle.vx_families.proofs.ShortPools.{below, item_passes}
 use Rattle.vx_frames.specs.Entering.{with_frame}
 use Rattle.vx_frames.specs.Waking.{state_awake}
 use Rattle.vx_group_states.specs.Sites.{here}
@@ -17,15 +16,12 @@ use Rattle.vx_families.specs.Changing.{with_globals}
 use Rattle.vx_heap.specs.Heap.{Globals, HeapView, value_of}
 use Rattle.vx_java.specs.Checks.{is_of}
 use Rattle.vx_java.specs.Machine.{Ended, Frame, Go, Here, State, Value, current_class, illegal, place_at, when}
-use Rattle.vx_java.specs.Returns.{fits_caller, frame_resumed, instruction_size, return_to, return_value, values_returned}
+use Rattle.vx_java.specs.Returns.{fits_caller, frame_resumed, return_to, return_value, values_returned}
 use Rattle.vx_java.specs.declared.operation.Sort.{Sort}
 use Rattle.vx_java.specs.declared.operation.Sort.TheVariants.{Int as IntSort, Long as LongSort, Reference}
 use Rattle.vx_link.specs.Parts.{method_at, no_method}
 use Rattle.vx_link.specs.declared.program.LinkedMethod.{LinkedMethod}
 use Rattle.vx_link.specs.declared.program.Program.{Program}
-use Rattle.vx_opcode.specs.Decode.{instruction_at}
-use Rattle.vx_opcode.specs.declared.instruction.DecodeFault.{DecodeFault}
-use Rattle.vx_opcode.specs.declared.instruction.Instruction.{Instruction}
 use Rattle.vx_ready.proofs.Rows.{globals_of}
 use Rattle.vx_ready.specs.Initialising.{with_done}
 use Rattle.vx_space.specs.Sets.{Sets}
@@ -42,21 +38,6 @@ pub short_code : (p : Program) (n : ℕ) (code : Code) → IsBounded p → Some 
 short_code p n code b e =
     let short = below (length code.bytes) (ap has_short_code e ∙ item_passes (λ (m : LinkedMethod). has_short_code m.code) p.methods n no_method b.codes refl) in
     omega (arith, short)
-
--- ---- the length of an instruction
-
-pub size_found : (o : Option Instruction) (i : Instruction) (fault : DecodeFault) → Ok i ≡ ok_or o fault → i.length ≡ instruction_size o
-size_found None i fault e = cc e
-size_found (Some j) i fault e = let same : i ≡ j = cc e in ap (λ (x : Instruction). x.length) same
-
-pub size_missing : (o : Option Instruction) (found fault : DecodeFault) → Err found ≡ ok_or o fault → 0 ≡ instruction_size o
-size_missing None found fault e = refl
-size_missing (Some j) found fault e = cc e
-
--- in no code none stands
-pub size_of_none : (position : ℕ) → 0 ≡ instruction_size (instruction_at [] position)
-unfolding instruction_at
-size_of_none position = rw (le-ltb position 0 (omega arith)) refl
 
 -- ---- marked, and then left
 

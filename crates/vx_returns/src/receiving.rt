@@ -1,6 +1,6 @@
 //! Callers that get the value of a return, where it fits on their operands.
 
-ghost use Rattle.std.specs.Prelude.{◌≡◌, ◌&&◌, ◌+◌, ◌<◌, ◌≤◌, ◌^◌, IfOk, length, nat_le, option_copied};
+ghost use Rattle.std.specs.Prelude.{◌≡◌, ◌&&◌, ◌+◌, ◌<◌, ◌^◌, IfOk, length, nat_le};
 ghost use Rattle.vx_cond.specs.Cond.{IsCond};
 ghost use Rattle.vx_cond.specs.Slots.{slot_at, slots_at};
 ghost use Rattle.vx_families.specs.Bounds.{IsBounded};
@@ -11,7 +11,7 @@ ghost use Rattle.vx_group_states.specs.Widths.{slots_size};
 ghost use Rattle.vx_heap.specs.Changing.{IsValueHeld};
 ghost use Rattle.vx_heap.specs.Heap.{HeapView, value_of};
 ghost use Rattle.vx_java.specs.Machine.{Go, when};
-ghost use Rattle.vx_java.specs.Returns.{bytes_of, instruction_size, max_stack};
+ghost use Rattle.vx_java.specs.Returns.{bytes_of, instruction_size};
 ghost use Rattle.vx_link.specs.Parts.{method_at};
 ghost use Rattle.vx_opcode.specs.Decode.{instruction_at};
 ghost use Rattle.vx_space.specs.Sets.{Extends, IsKnown, IsSet};
@@ -19,13 +19,12 @@ ghost use Rattle.vx_value.specs.Slot.{slot_cmp};
 ghost use Rattle.vx_returns.specs.Handing.{ended_at, past_call, received, with_pushed};
 
 use std::alloc::{AllocError, Global};
-use vx_class::Code;
 use vx_cond::Cond;
 use vx_group::Group;
 use vx_group_states::stack_size;
-use vx_java::place;
+use vx_java::parts::code_of;
+use vx_java::{place, room_of, size_in};
 use vx_link::Program;
-use vx_opcode::decode;
 use vx_outcome::{Outcome, Outcomes};
 use vx_ready::where_yes;
 use vx_space::{Space, SpaceFault};
@@ -38,28 +37,6 @@ pub struct ReturnSite {
     pub position: u32,
 }
 
-/// The code of a method.
-fn code_of(program: &Program, method: MethodId) -> Option<&Code>
-    ensures { option_copied result ≡ (method_at program.now method.0).code }
-{
-    match program.method(method) {
-        Some(method) => method.code.as_ref(),
-        None => None,
-    }
-}
-
-/// The length of the instruction at a position of a code, which is within the code; where none stands there, none is passed.
-fn size_in(code: &Code, position: u32) -> u32
-    requires { length code.now.bytes ≤ 65535 }
-    ensures size { result ≡ instruction_size (instruction_at code.now.bytes position) }
-    ensures within { position + result < 2 ^ 32 }
-{
-    match decode(code.bytes.as_slice(), position) {
-        Ok(instruction) => instruction.length,
-        Err(_fault) => 0,
-    }
-}
-
 /// The length of the instruction at a place.
 fn size_at(program: &Program, place: ReturnSite) -> u32
     requires { IsBounded program.now }
@@ -68,16 +45,6 @@ fn size_at(program: &Program, place: ReturnSite) -> u32
 {
     match code_of(program, place.method) {
         Some(code) => size_in(code, place.position),
-        None => 0,
-    }
-}
-
-/// How many words the operands of a method may take; those of one without code none.
-fn room_of(program: &Program, method: MethodId) -> u16
-    ensures { result ≡ max_stack (method_at program.now method.0).code }
-{
-    match code_of(program, method) {
-        Some(code) => code.max_stack,
         None => 0,
     }
 }

@@ -4,10 +4,9 @@ ghost use Rattle.std.specs.Prelude.{◌≡◌, ◌&&◌, ◌<◌, None, Some, If
 ghost use Rattle.vx_cond.specs.Cond.{IsInside};
 ghost use Rattle.vx_families.specs.Attempts.{AttemptsIn, IsAttemptIn, IsGiven};
 ghost use Rattle.vx_families.specs.Bounds.{IsBounded};
-ghost use Rattle.vx_families.specs.Sorts.{slot_is_of};
+ghost use Rattle.vx_families.specs.Sorts.{slot_is_of, top_of};
 ghost use Rattle.vx_frames.specs.Giving.{GivesIn};
 ghost use Rattle.vx_group.specs.Group.{IsGroup, IsGroupIn, path_of};
-ghost use Rattle.vx_fields.specs.Statics.{top_of};
 ghost use Rattle.vx_group_states.specs.Answering.{operands_at};
 ghost use Rattle.vx_group_states.specs.Sites.{here};
 ghost use Rattle.vx_group_states.specs.Stands.{StandsIn};
@@ -20,8 +19,7 @@ ghost use Rattle.vx_returns.specs.Handing.{IsReturning, done_by, has_initialised
 use crate::leaving::leave;
 use crate::sorts::agrees;
 use std::alloc::Global;
-use vx_families::slot_is_of;
-use vx_fields::top_operand;
+use vx_families::{slot_is_of, top_operand};
 use vx_group::{Callers, Group};
 use vx_group_states::{Site, illegal};
 use vx_heap::Heap;

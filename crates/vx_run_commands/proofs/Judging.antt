@@ -28,7 +28,7 @@ use Rattle.vx_inputs.specs.ModelFile.{read_any_model}
 use Rattle.vx_plans.specs.declared.status.Status.{Status}
 use Rattle.vx_plans.specs.declared.status.Status.TheVariants.{NoMemory}
 use Rattle.vx_plans.proofs.Plans.{attempt_goes, keeps_then, then_leads, value_stops}
-use Rattle.vx_run_commands.proofs.Ran.{linked_is}
+use Rattle.vx_plans.proofs.Linked.{linked_is}
 use Rattle.vx_io.specs.Held.{FilesState}
 
 same_test : (code : Option Code) → bounds.has_short_code code ≡ has_short_code code

@@ -1,13 +1,11 @@
 -- What a run of a linked program came to, in terms of its class files and its model.
-use Rattle.std.proofs.Common.{◌≡◌, ◌<◌, ◌≤◌, ◌⊎◌, ℕ, Bool, List, MatchResult, Result, Ok, Err, Vec, Global, arith, sym, ap, subst, length, inl}
+use Rattle.std.proofs.Common.{◌≡◌, ◌<◌, ◌≤◌, ◌⊎◌, ℕ, Bool, List, MatchResult, Result, Ok, Err, Vec, Global, arith, sym, subst, length, inl}
 use Rattle.std.specs.Prelude.{All}
 use Rattle.vx_class.specs.File.{Holds}
 use Rattle.vx_class.specs.declared.class_file.ClassFile.{ClassFile}
 use Rattle.vx_lockstep.specs.Findings.{AreAllowed, AreFindings, FindingsView, report_by}
 use Rattle.vx_java.specs.Report.{lock_report}
 use Rattle.vx_java.specs.Step.{Config}
-use Rattle.vx_link.specs.Linked.{linked_program}
-use Rattle.vx_link.specs.declared.fault.LinkFault.{LinkFault}
 use Rattle.vx_link.specs.declared.program.Program.{Program}
 use Rattle.vx_program_bounds.specs.Law.{LinkedAreBounded}
 use Rattle.vx_model.specs.Models.{is_allowed}
@@ -17,17 +15,10 @@ use Rattle.vx_spelled_ends.specs.Law.{LinkedAreSound, ReportsAreSpelled}
 use Rattle.vx_standing.specs.State.{most_attempts}
 use Rattle.vx_starting.specs.Starting.{MayStart}
 use Rattle.vx_space.specs.Sets.{Sets}
-use Rattle.vx_plans.specs.Job.{IsModeled, IsNoProgram, IsReportOf, IsTextOf, Report, names_of, or_bad_link, program_in, slashed}
+use Rattle.vx_plans.specs.Job.{IsModeled, IsNoProgram, IsReportOf, IsTextOf, Report, names_of, program_in, slashed}
+use Rattle.vx_plans.proofs.Linked.{linked_is}
 use Rattle.vx_plans.specs.declared.status.Status.{Status}
 use Rattle.vx_plans.specs.declared.status.Status.TheVariants.{NoMemory}
-
-linked_if : (r : Result Program LinkFault) (p : Program) → or_bad_link r ≡ Ok p → r ≡ Ok p
-linked_if (Ok q) p e = let same : q ≡ p = cc in ap Ok same
-linked_if (Err fault) p e = cc
-
-pub linked_is : (main : List ℕ) (model : Model) (classes : List ClassFile) (p : Program) → program_in main model classes ≡ Ok p → linked_program classes model.options (slashed main) ≡ Ok p
-unfolding program_in
-linked_is main model classes p e = linked_if (linked_program classes model.options (slashed main)) p e
 
 -- its runs may start in the configurations that the model allows
 pub may_start : {I : Type 0} (main : List ℕ) (model : Model) (classes : List ClassFile) (p : Program) {sets : Sets I} (allowed : I) (limit : ℕ) → LinkedAreBounded → length classes ≤ 1024 → All Holds classes → program_in main model classes ≡ Ok p

@@ -29,7 +29,7 @@ use Rattle.vx_plans.specs.declared.status.Status.{Status}
 use Rattle.vx_plans.specs.declared.status.Status.TheVariants.{NoMemory}
 use Rattle.vx_inputs.specs.declared.taken.Traced.{Traced}
 use Rattle.vx_plans.proofs.Plans.{attempt_goes, keeps_then, leads_before, then_leads, value_stops}
-use Rattle.vx_run_commands.proofs.Ran.{linked_is}
+use Rattle.vx_plans.proofs.Linked.{linked_is}
 
 -- ---- the configuration
 

@@ -1,8 +1,10 @@
 //! The words of the commands that run a folder's class files, or a program made for trials.
 
-/// The words of `run`: a folder, a model, a main class, the greatest number of attempts, and the version of the report.
+/// The words of `run` or `watch`: a folder, a model, a main class, the greatest number of attempts, and the version of the report.
 #[derive(Clone, Copy)]
 pub struct RunWords<'a> {
+    /// Whether it is told while it goes on how far the runs have come.
+    pub watched: bool,
     pub folder: &'a str,
     pub model: &'a str,
     pub main: &'a str,

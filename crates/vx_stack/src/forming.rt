@@ -18,7 +18,7 @@ use crate::reordering::with_form;
 use std::alloc::Global;
 use vx_cond::Leaf;
 use vx_group::Group;
-use vx_group_states::{Site, illegal, settle};
+use vx_group_states::{Site, illegal, part_in, settle};
 use vx_heap::Heap;
 use vx_java::Operation;
 use vx_outcome::Outcomes;
@@ -93,9 +93,12 @@ fn cut_parts<S: Space>(
     let mut outcomes = Outcomes::new(alloc);
     let mut rest = group;
     for leaf in cuts {
-        let (part, others) = rest.split(space, leaf.condition)?;
+        let (part, left) = part_in(space, rest, leaf.condition)?;
         let made = cut_part(alloc, site, space, part, order, leaf.value)?;
         outcomes.append(made)?;
+        let Some(others) = left else {
+            return Ok(outcomes);
+        };
         rest = others;
     }
     Ok(outcomes)

@@ -1,12 +1,12 @@
 //! The start of all runs.
 
-ghost use Rattle.std.specs.Prelude.{◌≡◌, ◌<◌, [], IfOk, IfSome, None, Ok, codes, false, length, option_map, true};
+ghost use Rattle.std.specs.Prelude.{◌≡◌, ◌<◌, [], IfOk, IfSome, None, Ok, codes, false, length, true};
 ghost use Rattle.vx_space.specs.Sets.{Extends, IsKnown};
 ghost use Rattle.vx_families.specs.Bounds.{IsBounded};
 ghost use Rattle.vx_frame.specs.Frame.{IsFrameOf, scope_of, shape_of};
 ghost use Rattle.vx_heap.specs.Heap.{IsHeapFor, has_options};
-ghost use Rattle.vx_java.specs.Ids.{HasClassNumbers, as_class};
-ghost use Rattle.vx_java.specs.Initialisation.{chain_blocked, quiet_chain};
+ghost use Rattle.vx_java.specs.Ids.{HasClassNumbers};
+ghost use Rattle.vx_java.specs.Initialisation.{quiet_chain};
 ghost use Rattle.vx_java.specs.Machine.{place_at};
 ghost use Rattle.vx_java.specs.Operation.{class_word};
 ghost use Rattle.vx_java.specs.Step.{first_inits};
@@ -28,7 +28,7 @@ use vx_heap::Heap;
 use vx_init::push_chain;
 use vx_initial_heap::first_inits;
 use vx_java::parts::{class_of_method, name_of_class};
-use vx_java::{blocked, init_chain, place, quiet_chain};
+use vx_java::{chain_blocked, init_chain, place, quiet_chain};
 use vx_link::Program;
 use vx_ready::mark_classes;
 use vx_sched::Waiting;
@@ -36,19 +36,6 @@ use vx_space::{Space, SpaceFault};
 use vx_standing::State;
 use vx_turns::sweep;
 use vx_value::{ClassId, End, InitState, Kind, Name, Slot};
-
-/// The first interface that would be initialised before a class of a chain (JVMS 5.5).
-fn blocked_in(program: &Program, chain: &[ClassId]) -> Option<ClassId>
-    requires { HasClassNumbers program.now }
-    ensures { result ≡ option_map as_class (chain_blocked program.now (numbers_of chain.now)) }
-{
-    for class in chain {
-        if let Some(interface) = blocked(program, *class) {
-            return Some(interface);
-        }
-    }
-    None
-}
 
 /// The end of runs outside the accepted language by an interface, at the start of main.
 fn blocked_end(alloc: Global, program: &Program, interface: ClassId) -> Result<End, AllocError>
@@ -85,7 +72,7 @@ fn first_end(
     ensures live { result ≡ Ok None → GoOn program.now is_quiet }
     ensures few { result ≡ Ok None → is_quiet ≡ false → length chain.now < 1024 }
 {
-    if let Some(interface) = blocked_in(program, chain) {
+    if let Some(interface) = chain_blocked(program, chain) {
         let end = blocked_end(alloc, program, interface)?;
         return Ok(Some(end));
     }

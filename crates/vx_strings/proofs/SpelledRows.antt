@@ -4,7 +4,7 @@ use Rattle.std.proofs.lemmas.List.{append-nil}
 use Rattle.std.specs.Fmt.{signed_decimal}
 use Rattle.std.specs.Int.{w32}
 use Rattle.std.specs.Prelude.{None, Option, Some, option_map}
-use Rattle.vx_fields.specs.Statics.{narrowed_slot}
+use Rattle.vx_families.specs.Sorts.{narrowed_slot}
 use Rattle.vx_heap.specs.Heap.{HeapView, globals_at, is_held, name_at, value_of}
 use Rattle.vx_java.specs.Machine.{Here}
 use Rattle.vx_java.specs.Texts.{bool_text, chars_of, null_text, text_of_object, units_in}

@@ -11,4 +11,4 @@ pub use changes::{changed, initialised};
 pub use makers::{give_short, made};
 pub use printing::printed;
 pub use questions::{asked, give_bool, give_int, refuse};
-pub use spelling::{SpelledText, bool_units, spelled};
+pub use spelling::{SpelledText, spelled};

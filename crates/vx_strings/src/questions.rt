@@ -9,9 +9,9 @@ ghost use Rattle.vx_units.specs.Numbers.{int_in};
 ghost use Rattle.vx_value.specs.Texts.{text_at};
 ghost use Rattle.vx_strings.specs.Questions.{asked, asked_both, asked_int, asked_null, asked_one, char_at, gives_bool, gives_int, is_string, parsed, refused};
 
-use vx_families::core_class;
 use vx_group_states::Answer;
 use vx_heap::Heap;
+use vx_java::core_class;
 use vx_link::Program;
 use vx_natives::{Call, Effect, Exception, TextQuestion, units_in};
 use vx_space::Space;

@@ -1,12 +1,11 @@
 //! Values as they are spelled that are printed, appended or made a text.
 
 ghost use Rattle.std.specs.Prelude.{◌≡◌, IfOk, option_map};
-ghost use Rattle.vx_java.specs.Texts.{bool_text};
 ghost use Rattle.vx_strings.specs.Spelled.{char_units, of_slot, of_units, spelled, spelled_of};
 
 use std::alloc::{AllocError, Global};
 use vx_natives::Spelling;
-use vx_units::{decimal, of_bytes};
+use vx_units::{bool_units, decimal, of_bytes};
 use vx_value::Slot;
 
 /// A text: that of a slot, which is none where the slot is no text, with units behind it.
@@ -31,18 +30,6 @@ fn of_slot(alloc: Global, start: Slot) -> SpelledText
     SpelledText {
         start,
         units: Vec::new(alloc),
-    }
-}
-
-/// `false` for 0, and else `true`.
-#[tactic(auto, using(crate::proofs::Texts::truth))]
-pub fn bool_units(alloc: Global, n: i32) -> Result<Vec<u16>, AllocError>
-    ensures { IfOk result (λ made. made.items ≡ bool_text n) }
-{
-    if n == 0 {
-        of_bytes(alloc, b"false")
-    } else {
-        of_bytes(alloc, b"true")
     }
 }
 

@@ -6,12 +6,11 @@ ghost use Rattle.vx_space.specs.Sets.{Extends};
 ghost use Rattle.vx_throw.specs.Thrown.{thrown};
 
 use std::alloc::Global;
-use vx_families::core_class;
-use vx_fields::top_operand;
+use vx_families::top_operand;
 use vx_group::Group;
 use vx_group_states::{Answer, Site, carry_out, illegal};
 use vx_heap::Heap;
-use vx_java::{Operation, assignable};
+use vx_java::{Operation, assignable, core_class};
 use vx_link::Program;
 use vx_outcome::Outcomes;
 use vx_space::{Space, SpaceFault};

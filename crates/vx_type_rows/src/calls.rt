@@ -1,6 +1,6 @@
 //! Calls (JVMS 6.5 invokevirtual, invokespecial, invokestatic, invokeinterface).
 
-ghost use Rattle.std.specs.Prelude.{◌≡◌, ◌<◌, ◌^◌, ◌&&◌, ◌||◌, [], IfOk, if◌then◌else◌, bytes_eq, length, map, reverse};
+ghost use Rattle.std.specs.Prelude.{◌≡◌, ◌<◌, ◌^◌, ◌||◌, [], IfOk, if◌then◌else◌, length, map, reverse};
 ghost use Rattle.vx_class.specs.Members.{STATIC};
 ghost use Rattle.vx_java.specs.Checks.{same_bool};
 ghost use Rattle.vx_java.specs.Ids.{HasClassNumbers};
@@ -14,14 +14,13 @@ ghost use Rattle.vx_types.specs.Rows.{arguments, call_instance, call_resolved, c
 use crate::fields::holder;
 use crate::pool::{current_class, member_at};
 use crate::wants::{computes_of, wanted_type};
-use bitflags::Flags;
 use std::alloc::{AllocError, Global};
 use vx_desc::{JavaType, is_init};
-use vx_java::parts::{flags_of_method, is_array, is_interface};
+use vx_java::parts::{is_array, is_interface};
 use vx_java::{MemberReference, Mode, class_named, resolve_method};
-use vx_link::{AccessFlags, Program};
+use vx_link::Program;
 use vx_list::Items;
-use vx_references::{is_static, signature};
+use vx_references::{is_private, is_static, signature};
 use vx_types::{Row, Want, class_type, object_type, ref_of, type_of};
 use vx_value::{ClassId, MethodId};
 
@@ -157,12 +156,6 @@ fn call_instance(
     let (mut wants, given) = arguments(alloc, program, member.descriptor)?;
     wants.push(receiver(alloc, program, method, mode, member)?)?;
     with_result(alloc, program, member.descriptor, wants, given)
-}
-
-fn is_private(program: &Program, method: MethodId) -> bool
-    ensures { result ≡ has PRIVATE (method_at program.now method.0).flags }
-{
-    flags_of_method(program, method).contains(AccessFlags::PRIVATE)
 }
 
 /// Whether a method is static or private, so that `invokeinterface` cannot call it.

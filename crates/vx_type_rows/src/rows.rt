@@ -1,9 +1,7 @@
 //! What each operation needs and gives (JVMS 4.10.1.9).
 
-ghost use Rattle.std.specs.Prelude.{◌≡◌, ◌<◌, ◌^◌, ◌||◌, ◌∷◌, [], IfOk, length};
-ghost use Rattle.vx_class.specs.Members.{ABSTRACT};
+ghost use Rattle.std.specs.Prelude.{◌≡◌, ◌<◌, ◌^◌, ◌∷◌, [], IfOk, length};
 ghost use Rattle.vx_java.specs.Ids.{HasClassNumbers};
-ghost use Rattle.vx_link.specs.Parts.{class_at, has, is_interface};
 ghost use Rattle.vx_types.specs.Plain.{computes, plain_row, reference};
 ghost use Rattle.vx_types.specs.Rows.{new_instance, new_of_class, row_of};
 ghost use Rattle.vx_types.specs.Types.{core_type, ref_of};
@@ -17,26 +15,13 @@ use crate::fields::{Access, field_row};
 use crate::pool::class_name_at;
 use crate::returns::return_from;
 use crate::wants::{computes, gives, takes};
-use bitflags::Flags;
 use std::alloc::{AllocError, Global};
+use vx_java::parts::is_without_objects;
 use vx_java::{Operation, Sort, class_named};
-use vx_link::{AccessFlags, Program};
+use vx_link::Program;
 use vx_list::Items;
 use vx_types::{Row, VerType, Want, ref_of};
 use vx_value::{ClassId, MethodId};
-
-/// Whether a class is abstract or an interface, so that it has no objects.
-fn is_without_objects(program: &Program, class: ClassId) -> bool
-    ensures { result ≡ (has ABSTRACT (class_at program.now class.0).flags || is_interface program.now class.0) }
-{
-    match program.class(class) {
-        Some(class) => {
-            class.flags.contains(AccessFlags::ABSTRACT)
-                || class.flags.contains(AccessFlags::INTERFACE)
-        }
-        None => false,
-    }
-}
 
 /// `new` of a class that is there, where it has objects.
 fn new_of_class(

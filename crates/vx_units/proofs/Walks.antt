@@ -5,9 +5,9 @@ use Rattle.std.proofs.lemmas.Int.{ints}
 use Rattle.std.proofs.lemmas.List.{drop-drop, drop_all, reverse-append}
 use Rattle.std.specs.Int.{int_wrapping_add, int_wrapping_mul, w32}
 use Rattle.std.specs.List.{starts_with}
-use Rattle.std.specs.Prelude.{nat_eq, nat_le, neg_ℤ, negsuc, option_and_then, option_map, pos, ℤ, ◌&&◌, ◌-ℤ◌, ◌<ℤ◌, ◌==◌}
+use Rattle.std.specs.Prelude.{codes, nat_eq, nat_le, neg_ℤ, negsuc, option_and_then, option_map, pos, ℤ, ◌&&◌, ◌-ℤ◌, ◌<ℤ◌, ◌==◌}
 use Rattle.vx_java.specs.Library.{digits_value, some_digits}
-use Rattle.vx_java.specs.Texts.{hash_after, place_of, reversed_onto, text_difference, units_of_point}
+use Rattle.vx_java.specs.Texts.{bool_text, hash_after, place_of, reversed_onto, text_difference, units_of_point}
 use Rattle.vx_units.specs.Numbers.{if_int, int_in}
 use Rattle.vx_units.specs.Pairs.{begins_with_pair}
 
@@ -271,3 +271,10 @@ plain (u ∷ units) lt first second =
     let other : (u == 45) ≡ false = ne_eqb u 45 first in
     let another : (u == 43) ≡ false = ne_eqb u 43 second in
     capped_int (some_digits (u ∷ units)) ∙ rw (other, another) refl
+
+-- ---- texts of truths
+
+pub truth : (n : ℤ) → (n ≡ pos 0 → ⊥) → bool_text n ≡ codes "true"
+truth (pos zero) other = absurd (other refl)
+truth (pos (suc n)) other = refl
+truth (negsuc n) other = refl

@@ -8,6 +8,6 @@ mod numbers;
 mod searching;
 
 pub use asking::{difference, hash};
-pub use making::{dotted, joined, of_bytes, of_length, reversed, without_unit};
+pub use making::{bool_units, dotted, joined, of_bytes, of_length, reversed, without_unit};
 pub use numbers::{decimal, int_in};
 pub use searching::{ends_with, place_of, place_of_point};

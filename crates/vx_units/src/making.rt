@@ -2,7 +2,7 @@
 
 ghost use Rattle.std.specs.Prelude.{◌≡◌, ◌<◌, ◌≤◌, ◌++◌, ◌-◌, [], IfOk, drop, length, replicate, reverse, suc, take};
 ghost use Rattle.vx_java.specs.Library.{dotted};
-ghost use Rattle.vx_java.specs.Texts.{reversed_onto};
+ghost use Rattle.vx_java.specs.Texts.{bool_text, reversed_onto};
 ghost use Rattle.vx_units.specs.Pairs.{begins_with_pair};
 
 use std::alloc::{AllocError, Global};
@@ -25,6 +25,18 @@ pub fn of_bytes(alloc: Global, bytes: &[u8]) -> Result<Vec<u16>, AllocError>
         made.push(u16::from(*byte))?;
     }
     Ok(made)
+}
+
+/// `false` for 0, and else `true`.
+#[tactic(auto, using(crate::proofs::Walks::truth))]
+pub fn bool_units(alloc: Global, n: i32) -> Result<Vec<u16>, AllocError>
+    ensures { IfOk result (λ made. made.items ≡ bool_text n) }
+{
+    if n == 0 {
+        of_bytes(alloc, b"false")
+    } else {
+        of_bytes(alloc, b"true")
+    }
 }
 
 /// A text cut to a length, or filled up to it with units 0.

@@ -10,4 +10,4 @@ pub mod store;
 mod type_keys;
 mod verdict;
 
-pub use verdict::{Verdict, code_of, verify};
+pub use verdict::{Verdict, verify};

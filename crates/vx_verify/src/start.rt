@@ -13,16 +13,15 @@ ghost use Rattle.vx_verify.specs.Typing.{caught, caught_name, locals_of, receive
 
 use crate::rows::{Frame, State, with_local};
 use crate::store::{Store, TOP};
-use bitflags::Flags;
 use std::alloc::Global;
 use vx_class::Catch;
 use vx_desc::{Base, JavaType};
 use vx_java::Sort;
-use vx_java::parts::{descriptor_of_method, flags_of_method};
-use vx_link::{AccessFlags, Program};
+use vx_java::parts::descriptor_of_method;
+use vx_link::Program;
 use vx_list::GivenUp;
 use vx_numbered::EMPTY;
-use vx_references::signature_of_method;
+use vx_references::{is_static, signature_of_method};
 use vx_type_rows::{class_name_at, current_class, is_of};
 use vx_types::{VerType, class_type, ref_of, type_of};
 use vx_value::MethodId;
@@ -95,13 +94,6 @@ fn put_argument(
         Some(value) => put_value(alloc, store, value, numbers),
         None => put_unread(numbers, item),
     }
-}
-
-/// Whether a method is static.
-fn is_static(program: &Program, method: MethodId) -> bool
-    ensures { result ≡ has STATIC (method_at program.now method.0).flags }
-{
-    flags_of_method(program, method).contains(AccessFlags::STATIC)
 }
 
 /// The object whose method is called, where there is one.

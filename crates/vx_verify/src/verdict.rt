@@ -2,16 +2,15 @@
 
 ghost use Rattle.std.specs.Bool.{MatchBool};
 ghost use Rattle.std.specs.List.{list_all};
-ghost use Rattle.std.specs.Prelude.{◌≡◌, IfOk, option_copied, true};
+ghost use Rattle.std.specs.Prelude.{◌≡◌, IfOk, true};
 ghost use Rattle.vx_java.specs.Ids.{HasClassNumbers};
-ghost use Rattle.vx_link.specs.Parts.{method_at};
 ghost use Rattle.vx_types.specs.Ranked.{HasRanks};
 ghost use Rattle.vx_verify.specs.Typing.{IsTyped};
 ghost use Rattle.vx_verify.specs.Verdict.{CanBeTyped, IsVerdict, has_short_code};
 
 use crate::inference::is_typed;
 use std::alloc::{AllocError, Global};
-use vx_class::Code;
+use vx_java::parts::code_of;
 use vx_link::Program;
 use vx_numbered::next_number;
 use vx_value::MethodId;
@@ -32,19 +31,6 @@ fn is_method_typed(alloc: Global, program: &Program, method: MethodId) -> Result
     match code_of(program, method) {
         Some(code) => is_typed(alloc, program, method, code),
         None => Ok(true),
-    }
-}
-
-/// The code of a method, if it has one.
-pub fn code_of(program: &Program, method: MethodId) -> Option<&Code>
-    ensures { option_copied result ≡ (method_at program.now method.0).code }
-{
-    match program.method(method) {
-        Some(method) => match &method.code {
-            Some(code) => Some(code),
-            None => None,
-        },
-        None => None,
     }
 }
 

@@ -1,6 +1,6 @@
 //! How much work operations may still be.
 
-ghost use Rattle.std.specs.Prelude.{◌≡◌, ◌≤◌, ◌-◌, max, min};
+ghost use Rattle.std.specs.Prelude.{◌≡◌, ◌≤◌, ◌+◌, ◌-◌, ◌^◌, max, min};
 
 /// How much work operations on sets may still be: so many pairs of sets may be looked at, to which an operation on two sets comes
 /// as it goes down both diagrams.
@@ -48,8 +48,10 @@ impl Work {
         }
     }
 
-    /// Puts back what is left of a part.
-    pub fn put_back(&mut self, part: Work) {
+    /// Puts back what is left of a part, as far as there is room for it.
+    pub fn put_back(&mut self, part: Work)
+        ensures { self.new.left ≡ min (self.old.left + part.left) (2 ^ 64 - 1) }
+    {
         self.left = self.left.saturating_add(part.left);
     }
 }

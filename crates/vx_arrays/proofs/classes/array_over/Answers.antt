@@ -1,5 +1,5 @@
 use Rattle.std.proofs.Common.{sym, ◌∙◌, ◌+◌}
-use Rattle.vx_arrays.proofs.ClassNumbers.{array_over_is}
+use Rattle.vx_references.proofs.ArrayNumbers.{array_over_is}
 use Rattle.vx_arrays.proofs.classes.array_over.Goals as goal
 
 pub returns : goal.returns

@@ -3,7 +3,7 @@ use Rattle.std.proofs.lemmas.Result.{IfOk-weaker}
 use Rattle.vx_group_states.specs.Sites.{here}
 use Rattle.vx_java.specs.Arrays.{lengths_off, new_grid_of}
 use Rattle.vx_java.specs.declared.operation.Operation.TheVariants.{NewGrid}
-use Rattle.vx_fields.proofs.Families.{IsRunning-given}
+use Rattle.vx_ready.proofs.Given.{IsRunning-given}
 use Rattle.vx_arrays.proofs.ClassRows.{found-attempts, missing-attempts}
 use Rattle.vx_arrays.proofs.grids.new_grid.Goals as goal
 

@@ -4,7 +4,7 @@ use Rattle.vx_arrays.proofs.Fewer.{few-attempts}
 use Rattle.vx_families.proofs.Given.{IsGiven-extends, given_ready}
 use Rattle.vx_java.specs.Arrays.{array_length}
 use Rattle.vx_java.specs.declared.operation.Operation.TheVariants.{Length}
-use Rattle.vx_fields.proofs.Families.{IsRunning-given}
+use Rattle.vx_ready.proofs.Given.{IsRunning-given}
 use Rattle.vx_space.proofs.Spaces.{Extends-trans}
 use Rattle.vx_arrays.proofs.Loads.{length-attempts, none_to_measure}
 use Rattle.vx_arrays.proofs.loading.array_length.Goals as goal

@@ -4,7 +4,7 @@ use Rattle.vx_arrays.proofs.Fewer.{few-attempts}
 use Rattle.vx_families.proofs.Given.{IsGiven-extends, IsGiven-texts, given_ready}
 use Rattle.vx_java.specs.Arrays.{load_element}
 use Rattle.vx_java.specs.declared.operation.Operation.TheVariants.{LoadElement}
-use Rattle.vx_fields.proofs.Families.{IsRunning-given}
+use Rattle.vx_ready.proofs.Given.{IsRunning-given}
 use Rattle.vx_space.proofs.Spaces.{Extends-trans}
 use Rattle.vx_arrays.proofs.Loads.{few_to_load, load-attempts}
 use Rattle.vx_arrays.proofs.loading.load_element.Goals as goal

@@ -5,7 +5,7 @@ use Rattle.vx_java.specs.declared.operation.Operation.TheVariants.{NewReferences
 use Rattle.vx_link.specs.ClassNames.{array_over}
 use Rattle.vx_link.specs.Names.{class_name}
 use Rattle.vx_link.specs.Parts.{class_at}
-use Rattle.vx_fields.proofs.Families.{IsRunning-given}
+use Rattle.vx_ready.proofs.Given.{IsRunning-given}
 use Rattle.vx_arrays.proofs.ClassNumbers.{array_over_below, found_below}
 use Rattle.vx_arrays.proofs.ClassRows.{found-attempts, missing-attempts, one_law}
 use Rattle.vx_arrays.proofs.making.new_references.Goals as goal

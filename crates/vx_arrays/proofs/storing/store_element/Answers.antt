@@ -4,7 +4,7 @@ use Rattle.vx_arrays.proofs.Fewer.{few-attempts}
 use Rattle.vx_families.proofs.Given.{IsGiven-extends, given_ready}
 use Rattle.vx_java.specs.Arrays.{store_element}
 use Rattle.vx_java.specs.declared.operation.Operation.TheVariants.{StoreElement}
-use Rattle.vx_fields.proofs.Families.{IsRunning-given}
+use Rattle.vx_ready.proofs.Given.{IsRunning-given}
 use Rattle.vx_space.proofs.Spaces.{Extends-trans}
 use Rattle.vx_arrays.proofs.Stores.{few_to_store, store-attempts}
 use Rattle.vx_arrays.proofs.storing.store_element.Goals as goal

@@ -1,9 +1,9 @@
-use Rattle.std.proofs.Common.{ap, arith, length}
+use Rattle.std.proofs.Common.{ap, arith, length, sym, ◌∙◌}
 use Rattle.std.specs.Vec.Iter.{into_iter_items}
 use Rattle.vx_space.proofs.Spaces.{Extends-trans}
 use Rattle.vx_java.specs.Step.{outcome_carried_out}
 use Rattle.vx_attempt.proofs.Calls.{AreAtCalls-later, AreThere-grown, all_known}
-use Rattle.vx_attempt.proofs.Carrying.{IsCarrying-end, IsCarrying-start, IsCarrying-step, nothing_left}
+use Rattle.vx_attempt.proofs.Carrying.{AreCarriedOut-whole, ArePlain-placed, IsCarrying-end, IsCarrying-start, IsCarrying-step, IsPlain-carried, nothing_left}
 use Rattle.vx_attempt.proofs.natives.carried_out.Goals as goal
 
 pub loop-outcome-init : goal.loop-outcome-init
@@ -52,3 +52,9 @@ returns-clause-carried g c =
     let p = c.args.site.now.program.now in
     let left = into_iter_items c.loop-outcome.outcome-iterator in
     IsCarrying-end p (outcome_carried_out p) c.args.heap.now c.loop-outcome.heap c.args.callers.now c.loop-outcome.callers c.args.outcomes.items.items left c.loop-outcome.made.items.items (nothing_left left _ c.loop-outcome.invariant.0 c.in-None.ensures.steps.0) c.loop-outcome.invariant.1.0
+
+pub returns-then-are_done-clause-carried : goal.returns-then-are_done-clause-carried
+returns-then-are_done-clause-carried g c =
+    let p = c.args.site.now.program.now in
+    let items = c.args.outcomes.items.items in
+    AreCarriedOut-whole p (outcome_carried_out p) (g.S.Space.sets c.args.space.now) c.args.heap.now c.args.callers.now items c.requires.may.is_heap c.requires.may.is_for (ArePlain-placed (outcome_carried_out p) items (IsPlain-carried p) (sym c.are_done.ensures ∙ c.if-are_done.true))

@@ -1,9 +1,9 @@
-use Rattle.std.proofs.Common.{ap, arith, length, refl}
+use Rattle.std.proofs.Common.{ap, arith, length, refl, sym, ◌∙◌}
 use Rattle.std.specs.Vec.Iter.{into_iter_items}
 use Rattle.vx_space.proofs.Spaces.{Extends-trans}
 use Rattle.vx_standing.specs.Attempted.{thrown_out}
 use Rattle.vx_attempt.proofs.Calls.{AreThere-grown, all_known}
-use Rattle.vx_attempt.proofs.Carrying.{IsCarrying-end, IsCarrying-start, IsCarrying-step, SomeUncarried-next, nothing_left}
+use Rattle.vx_attempt.proofs.Carrying.{AreCarriedOut-whole, ArePlain-placed, IsCarrying-end, IsCarrying-start, IsCarrying-step, IsPlain-thrown, SomeUncarried-next, nothing_left}
 use Rattle.vx_attempt.proofs.Raised.{placed_append}
 use Rattle.vx_attempt.proofs.throwing.all_thrown.Goals as goal
 
@@ -58,3 +58,12 @@ returns-clause-carried g c =
 
 pub returns-clause-placed : goal.returns-clause-placed
 returns-clause-placed g c = c.loop-outcome.invariant.1.1.1
+
+pub returns-then-are_done-clause-carried : goal.returns-then-are_done-clause-carried
+returns-then-are_done-clause-carried g c =
+    let p = c.args.program.now in
+    let items = c.args.outcomes.items.items in
+    AreCarriedOut-whole p (thrown_out p) (g.S.Space.sets c.args.space.now) c.args.heap.now c.args.callers.now items c.requires.is_heap c.requires.is_for (ArePlain-placed (thrown_out p) items (IsPlain-thrown p) (sym c.are_done.ensures ∙ c.if-are_done.true))
+
+pub returns-then-are_done-clause-placed : goal.returns-then-are_done-clause-placed
+returns-then-are_done-clause-placed g c = λ none. sym c.are_done.ensures ∙ c.if-are_done.true

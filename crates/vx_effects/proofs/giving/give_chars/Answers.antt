@@ -19,4 +19,4 @@ alloc_cells-requires-clause-enough g c =
     omega (arith, number, slots)
 
 pub returns : goal.returns
-returns g c = λ sets v known held. chars_made-done c.args.program.now sets c.args.heap.now c.alloc_cells.new.self c.args.condition c.args.units.items c.in_ok-elements.elements.items c.in_ok-size.size c.char_array-class.result c.in_ok-reference.reference v (c.in_ok-elements.ensures ∙ ap (map char_slot) c.deref-2.ensures.value) (c.in_ok-size.ensures.count ∙ ap length c.deref.ensures.value) c.char_array-class.ensures known (rw c.deref-3.ensures.value at (c.in_ok-reference.ensures.ok sets))
+returns g c = λ sets v known held. chars_made-done c.args.program.now sets c.args.heap.now c.alloc_cells.new.self c.args.condition c.args.units.items c.in_ok-elements.elements.items c.in_ok-size.size c.array_of_primitives-class.result c.in_ok-reference.reference v (c.in_ok-elements.ensures ∙ ap (map char_slot) c.deref-2.ensures.value) (c.in_ok-size.ensures.count ∙ ap length c.deref.ensures.value) c.array_of_primitives-class.ensures known (rw c.deref-3.ensures.value at (c.in_ok-reference.ensures.ok sets))

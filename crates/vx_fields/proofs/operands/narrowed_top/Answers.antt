@@ -2,7 +2,7 @@ use Rattle.vx_cond.proofs.CondLaws.{IsCond-of}
 use Rattle.vx_java.specs.FirstObjects.{narrow_of_type}
 use Rattle.vx_group_states.proofs.SettleLaws.{lifting_cond}
 use Rattle.vx_value.specs.Slot.{slot_cmp}
-use Rattle.vx_fields.proofs.Tops.{stored_at, stored_scope, top_is_cond}
+use Rattle.vx_ready.proofs.Tops.{stored_at, stored_scope, top_is_cond}
 use Rattle.vx_fields.proofs.operands.narrowed_top.Goals as goal
 
 pub restrict-requires-clause-valid : goal.restrict-requires-clause-valid

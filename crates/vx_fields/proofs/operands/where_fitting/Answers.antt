@@ -1,7 +1,7 @@
 use Rattle.std.specs.Ordering.{bool_cmp}
 use Rattle.vx_java.specs.Checks.{sort_of}
 use Rattle.vx_group_states.proofs.SettleLaws.{lifting_cond}
-use Rattle.vx_fields.proofs.Tops.{IsSet-fitting, top_is_cond}
+use Rattle.vx_ready.proofs.Tops.{IsSet-fitting, top_is_cond}
 use Rattle.vx_fields.proofs.operands.where_fitting.Goals as goal
 
 pub map-requires-clause-valid : goal.map-requires-clause-valid

@@ -5,7 +5,7 @@ use Rattle.vx_frame.proofs.FrameLaws.{IsFrame-stack}
 use Rattle.vx_group.proofs.GroupLaws.{IsGroup-top}
 use Rattle.vx_java.specs.Checks.{width_of_type}
 use Rattle.vx_group_states.proofs.SettleLaws.{lifting_cond}
-use Rattle.vx_fields.proofs.Tops.{IsSet-room}
+use Rattle.vx_ready.proofs.Tops.{IsSet-room}
 use Rattle.vx_fields.proofs.operands.where_room.Goals as goal
 
 pub stack_size-requires-clause-row : goal.stack_size-requires-clause-row

@@ -1,4 +1,4 @@
-use Rattle.std.proofs.Common.{◌∙◌, ap, refl, subst, sym, true}
+use Rattle.std.proofs.Common.{◌∙◌, ap, refl, subst, sym}
 use Rattle.std.specs.Prelude.{option_map}
 use Rattle.vx_desc.specs.Descriptors.{element_at, field_of, type_at}
 use Rattle.vx_java.specs.Ids.{as_class}
@@ -8,7 +8,7 @@ use Rattle.vx_link.specs.Parts.{no_class}
 use Rattle.vx_link.specs.declared.program.LinkedClass.{LinkedClass}
 use Rattle.vx_references.specs.Fields.{IsFieldReference}
 use Rattle.vx_references.specs.declared.fields.FieldReference.TheVariants.{NoType}
-use Rattle.vx_fields.proofs.Pools.{descriptor_of_member}
+use Rattle.vx_families.proofs.ShortPools.{descriptor_of_member}
 use Rattle.vx_references.proofs.FieldLaws.{no_type}
 use Rattle.vx_references.proofs.Tables.{class_missing, class_there}
 use Rattle.vx_fields.proofs.statics.field_named.Goals as goal

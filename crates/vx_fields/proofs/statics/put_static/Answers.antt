@@ -3,7 +3,8 @@ use Rattle.vx_java.specs.Fields.{put_value}
 use Rattle.vx_java.specs.Named.{in_bytes}
 use Rattle.vx_java.specs.declared.operation.Operation.TheVariants.{PutStatic}
 use Rattle.vx_space.proofs.Spaces.{Extends-refl}
-use Rattle.vx_fields.proofs.Families.{IsRunning-given, found_static, missing-by, names_at, not_found, put-by, reference_at}
+use Rattle.vx_fields.proofs.Families.{found_static, missing-by, names_at, not_found, put-by, reference_at}
+use Rattle.vx_ready.proofs.Given.{IsRunning-given}
 use Rattle.vx_fields.proofs.statics.put_static.Goals as goal
 
 pub field_named-requires-clause-bounded : goal.field_named-requires-clause-bounded

@@ -4,7 +4,7 @@ use Rattle.vx_heap.proofs.HeapLaws.{IsHeap-extends}
 use Rattle.vx_java.specs.FirstObjects.{narrow_of_type, narrowed_value}
 use Rattle.vx_space.proofs.Spaces.{Extends-refl}
 use Rattle.vx_group_states.specs.Answering.{operands_at}
-use Rattle.vx_fields.specs.Statics.{top_of}
+use Rattle.vx_families.specs.Sorts.{top_of}
 use Rattle.vx_ready.proofs.Climbing.{runs_inside}
 use Rattle.vx_fields.proofs.Storing.{kept_is_changed, stored_held, written_is_changed}
 use Rattle.vx_fields.proofs.statics.store.Goals as goal

@@ -14,3 +14,7 @@ returns-else-len-gt-MOST_CLASSES-clause-ok g c next =
     let size = ap length c.keep_class_files.ensures in
     rw c.keep_class_files.ensures
     (listed_gives _ c.args.folder.now (map string_bytes c.in-Ok.paths.items) next (omega (arith, size, length-map c.keep_class_files.new.paths.items string_bytes)) c.in-Ok.ensures.listed)
+
+pub returns-else-len-gt-MOST_CLASSES-clause-listed : goal.returns-else-len-gt-MOST_CLASSES-clause-listed
+returns-else-len-gt-MOST_CLASSES-clause-listed g c =
+    record { listing = map string_bytes c.in-Ok.paths.items; told = c.in-Ok.ensures.listed; classes = c.keep_class_files.ensures; few = omega (arith, length-map c.keep_class_files.new.paths.items string_bytes) }

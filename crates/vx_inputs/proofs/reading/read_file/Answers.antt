@@ -14,3 +14,6 @@ pub returns-in_ok-path-in-Err-Failed-clause-err : goal.returns-in_ok-path-in-Err
 returns-in_ok-path-in-Err-Failed-clause-err g c next =
     rw (c.in_ok-path-in-Err-Failed.ensures ∙ c.as_bytes-in-Err-Failed.ensures.value)
     (sized_fails _ _ _ _ _ next (c.in-Err-Failed.ensures.cause.failed (ap Err (search rules))))
+
+pub returns-else-len-room-clause-read : goal.returns-else-len-room-clause-read
+returns-else-len-room-clause-read g c = record { fits = omega arith; are_bytes = rw c.as_slice.ensures.value at c.bytes_fit.ensures; told = c.in-Ok.ensures.bytes }

@@ -1,7 +1,7 @@
 use Rattle.std.proofs.Common.{refl}
 use Rattle.std.specs.Ordering.{bool_cmp}
 use Rattle.vx_cond.specs.Slots.{slot_at}
-use Rattle.vx_fields.specs.Statics.{slot_fits}
+use Rattle.vx_families.specs.Sorts.{slot_fits}
 use Rattle.vx_group_states.proofs.SettleLaws.{lifting_cond}
 use Rattle.vx_heap.proofs.CellWrites.{differs_at_all}
 use Rattle.vx_java.specs.Checks.{sort_of}

@@ -1,5 +1,5 @@
 use Rattle.std.proofs.lemmas.Result.{IfOk-weaker}
-use Rattle.vx_fields.proofs.Families.{IsRunning-given}
+use Rattle.vx_ready.proofs.Given.{IsRunning-given}
 use Rattle.vx_java.specs.Named.{in_bytes}
 use Rattle.vx_invoke.proofs.References.{IsAttemptIn-call, clone-attempts, found-attempts, found_may_call, found_member, is_missing, member_at, missing-attempts, reference_at}
 use Rattle.vx_invoke.proofs.invoking.attempt.Goals as goal

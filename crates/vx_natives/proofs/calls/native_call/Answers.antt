@@ -1,6 +1,6 @@
 use Rattle.std.proofs.Common.{◌≡◌, ◌+◌, ◌<◌, ◌∙◌, ℕ, List, ap, arith, length, sym}
 use Rattle.vx_cond.proofs.CondLaws.{IsCond-of}
-use Rattle.vx_fields.proofs.Pools.{short_descriptor}
+use Rattle.vx_families.proofs.ShortPools.{short_descriptor}
 use Rattle.vx_frame.specs.declared.frame.Frame.{Frame}
 use Rattle.vx_group.proofs.GroupLaws.{IsGroup-path_known}
 use Rattle.vx_group_states.proofs.Operands.{length-operands}

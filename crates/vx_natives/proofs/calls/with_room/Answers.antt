@@ -1,7 +1,7 @@
 use Rattle.std.proofs.Common.{◌∙◌, ap, refl, sym}
 use Rattle.vx_cond.proofs.CondLaws.{IsCond-extends, cond_at-extends}
 use Rattle.vx_families.proofs.Tops.{lifting2_cond, made_of_two, value_there}
-use Rattle.vx_fields.proofs.Sizes.{width_small}
+use Rattle.vx_families.proofs.Sizes.{width_small}
 use Rattle.vx_space.proofs.Spaces.{Extends-trans}
 use Rattle.vx_natives.specs.CallOrder.{call_cmp}
 use Rattle.vx_natives.specs.Calls.{call_at, call_where}

@@ -2,9 +2,9 @@ use Rattle.std.proofs.Common.{◌≡◌, ◌∙◌, ap, drop}
 use Rattle.std.proofs.lemmas.Result.{IfOk-weaker}
 use Rattle.std.specs.Prelude.{Some, None, false}
 use Rattle.vx_families.specs.Attempts.{row_by}
-use Rattle.vx_families.proofs.AttemptLaws.{AttemptsBy-as}
+use Rattle.vx_families.proofs.AttemptLaws.{AttemptsBy-as, AttemptsBy-same}
 use Rattle.vx_families.proofs.Given.{given_past}
-use Rattle.vx_fields.proofs.Families.{AttemptsBy-same, pool_class}
+use Rattle.vx_families.specs.Pools.{pool_class}
 use Rattle.vx_group_states.specs.Answering.{answered}
 use Rattle.vx_group_states.specs.Sites.{here}
 use Rattle.vx_group_states.specs.Stands.{state_at}

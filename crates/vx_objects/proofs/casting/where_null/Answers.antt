@@ -1,6 +1,6 @@
 use Rattle.std.proofs.Common.{◌∙◌, ap, sym, ◌&&◌}
 use Rattle.std.specs.Ordering.{bool_cmp}
-use Rattle.vx_fields.proofs.Tops.{IsSet-where, top_is, top_is_cond}
+use Rattle.vx_ready.proofs.Tops.{IsSet-where, top_is, top_is_cond}
 use Rattle.vx_group.specs.Group.{path_of}
 use Rattle.vx_group_states.proofs.SettleLaws.{lifting_cond}
 use Rattle.vx_objects.specs.Answers.{is_null}

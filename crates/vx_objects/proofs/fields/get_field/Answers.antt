@@ -3,7 +3,8 @@ use Rattle.vx_java.specs.Fields.{get_from}
 use Rattle.vx_java.specs.Named.{in_bytes}
 use Rattle.vx_java.specs.declared.operation.Operation.TheVariants.{GetField}
 use Rattle.vx_space.proofs.Spaces.{Extends-refl}
-use Rattle.vx_fields.proofs.Families.{IsRunning-given, found-by, missing-by, names_at, not_found, reference_at}
+use Rattle.vx_fields.proofs.Families.{found-by, missing-by, names_at, not_found, reference_at}
+use Rattle.vx_ready.proofs.Given.{IsRunning-given}
 use Rattle.vx_objects.proofs.fields.get_field.Goals as goal
 
 pub field_named-requires-clause-bounded : goal.field_named-requires-clause-bounded

@@ -10,7 +10,7 @@ use Rattle.vx_java.specs.Checks.{width_of_type}
 use Rattle.vx_link.specs.Parts.{field_at}
 use Rattle.vx_space.proofs.Spaces.{Extends-trans}
 use Rattle.vx_objects.specs.Answers.{field_place}
-use Rattle.vx_fields.proofs.Sizes.{width_small}
+use Rattle.vx_families.proofs.Sizes.{width_small}
 use Rattle.vx_objects.proofs.FieldPlaces.{read_at, read_held}
 use Rattle.vx_families.proofs.Operands.{one_made, operand_cond, operand_scope}
 use Rattle.vx_objects.proofs.fields.places_read.Goals as goal

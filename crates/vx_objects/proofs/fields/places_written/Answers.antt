@@ -2,7 +2,7 @@ use Rattle.std.proofs.Common.{◌-◌, ◌≤◌, ◌∙◌, ap, arith, length, 
 use Rattle.vx_cells.specs.Places.{place_cmp}
 use Rattle.vx_cells.specs.declared.place.Place.TheVariants.{Illegal}
 use Rattle.vx_families.proofs.Tops.{lifting2_cond}
-use Rattle.vx_fields.specs.Statics.{slot_fits}
+use Rattle.vx_families.specs.Sorts.{slot_fits}
 use Rattle.vx_group_states.specs.Answering.{operands_at}
 use Rattle.vx_java.specs.Checks.{sort_of}
 use Rattle.vx_link.specs.Parts.{field_at}

@@ -1,7 +1,7 @@
 use Rattle.std.proofs.Common.{◌∙◌, arith, sym}
 use Rattle.vx_cells.specs.Places.{place_cmp}
 use Rattle.vx_cond.proofs.CondLaws.{IsCond-extends}
-use Rattle.vx_fields.proofs.Families.{IsRunning-given}
+use Rattle.vx_ready.proofs.Given.{IsRunning-given}
 use Rattle.vx_group.proofs.GroupLaws.{IsGroup-extends}
 use Rattle.vx_heap.proofs.HeapLaws.{IsHeap-extends}
 use Rattle.vx_java.specs.FirstObjects.{narrow_of_type}

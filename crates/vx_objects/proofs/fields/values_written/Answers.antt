@@ -1,6 +1,6 @@
 use Rattle.std.proofs.Common.{◌-◌, ◌∙◌, arith, length}
 use Rattle.std.proofs.lemmas.Result.{IfOk-weaker}
-use Rattle.vx_fields.specs.Statics.{narrowed_slot}
+use Rattle.vx_families.specs.Sorts.{narrowed_slot}
 use Rattle.vx_group_states.proofs.SettleLaws.{lifting_cond}
 use Rattle.vx_java.specs.FirstObjects.{narrow_of_type}
 use Rattle.vx_value.specs.Slot.{slot_cmp}

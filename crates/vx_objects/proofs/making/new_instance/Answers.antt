@@ -1,5 +1,5 @@
 use Rattle.std.proofs.lemmas.Result.{IfOk-weaker}
-use Rattle.vx_fields.proofs.Families.{IsRunning-given}
+use Rattle.vx_ready.proofs.Given.{IsRunning-given}
 use Rattle.vx_java.specs.declared.operation.Operation.TheVariants.{New}
 use Rattle.vx_objects.proofs.MakingRows.{made-by, missing-class}
 use Rattle.vx_objects.proofs.making.new_instance.Goals as goal

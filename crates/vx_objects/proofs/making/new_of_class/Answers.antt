@@ -6,18 +6,18 @@ use Rattle.vx_objects.proofs.making.new_of_class.Goals as goal
 pub raise-requires : goal.raise-requires
 raise-requires g c = c.requires.classes
 
-pub returns-then-has_no_objects-clause-ok : goal.returns-then-has_no_objects-clause-ok
-returns-then-has_no_objects-clause-ok g c = refused-attempts c.args.site.now c.args.heap.now c.args.group c.args.class _ c.requires (sym c.has_no_objects.ensures ∙ c.if-has_no_objects.true) (c.in_ok-raised.ensures _)
+pub returns-then-is_without_objects-clause-ok : goal.returns-then-is_without_objects-clause-ok
+returns-then-is_without_objects-clause-ok g c = refused-attempts c.args.site.now c.args.heap.now c.args.group c.args.class _ c.requires (sym c.is_without_objects.ensures ∙ c.if-is_without_objects.true) (c.in_ok-raised.ensures _)
 
 pub returns-then-len-from-clause-ok : goal.returns-then-len-from-clause-ok
 returns-then-len-from-clause-ok g c =
     IfOk-weaker c.illegal.result _ _ (λ r' h'.
     let full : c.args.site.now.code.now.max_stack ≤ length c.args.group.top.stack.conds = rw (← c.from.ensures, ← c.top_frame.ensures, ← c.len.ensures) (omega (arith, c.if-len-from.true)) in
-    full-attempts c.args.site.now c.args.heap.now c.args.group c.args.class _ c.requires (sym c.has_no_objects.ensures ∙ c.if-has_no_objects.false) full (h' _))
+    full-attempts c.args.site.now c.args.heap.now c.args.group c.args.class _ c.requires (sym c.is_without_objects.ensures ∙ c.if-is_without_objects.false) full (h' _))
     c.illegal.ensures
 
 pub new_fitting-requires-clause-few : goal.new_fitting-requires-clause-few
 new_fitting-requires-clause-few g c = rw (← c.from.ensures, ← c.top_frame.ensures, ← c.len.ensures) (omega (arith, c.if-len-from.false))
 
 pub new_fitting-requires-clause-objects : goal.new_fitting-requires-clause-objects
-new_fitting-requires-clause-objects g c = sym c.has_no_objects.ensures ∙ c.if-has_no_objects.false
+new_fitting-requires-clause-objects g c = sym c.is_without_objects.ensures ∙ c.if-is_without_objects.false

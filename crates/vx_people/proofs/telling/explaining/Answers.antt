@@ -15,4 +15,4 @@ pub explanation_text-requires : goal.explanation_text-requires
 explanation_text-requires c = few_options c.args.report.now c.requires
 
 pub returns : goal.returns
-returns c = record { explained = c.in_ok-explained.explained.items; are = c.in_ok-explained.ensures.explained; spelled = rw c.as_slice.ensures.value at c.in_ok-explanation_text.ensures }
+returns c = record { explanation = c.in_ok-explanation.explanation; are = c.in_ok-explanation.ensures.explained; spelled = c.in_ok-explanation_text.ensures }

@@ -1,7 +1,7 @@
 use Rattle.std.proofs.Common.{subst, sym, ◌+◌, ◌≡◌, ◌∙◌}
 use Rattle.std.specs.Prelude.{IfSome}
 use Rattle.vx_plain.proofs.Found.{held_is}
-use Rattle.vx_plain_arrays.proofs.Laws.{array_over_is}
+use Rattle.vx_references.proofs.ArrayNumbers.{array_over_is}
 use Rattle.vx_value.specs.declared.ids.ClassId.{ClassId}
 use Rattle.vx_plain_arrays.proofs.classes.array_over.Goals as goal
 

@@ -13,4 +13,4 @@ add_grid-requires c = subst (λ ns. grid_cells ns ≤ length_bound) (sym (c.dere
 pub returns : goal.returns
 returns c =
     let h = here_in c.args.here.now (state_of c.args.state.now) in
-    grid_pushed c.go_with.result h c.args.class.0 c.next_object-place.result c.args.taken (map natural c.args.lengths.now) (state_of c.add_grid.new.state) (state_of c.go_with.new.state) c.next_object-place.ensures.value (c.in_ok-add_grid.ensures ∙ ap (λ ns. with_objects h.state (grid h.program c.args.class.0 ns (next_object h.state))) (c.deref.ensures.value ∙ c.in_ok-numbers.ensures)) c.go_with.ensures
+    grid_pushed c.go_with.result h c.args.class.0 c.next_object-place.result c.args.taken (map natural c.args.lengths.now) (state_of c.add_grid.new.state) (state_of c.go_with.new.state) c.next_object-place.ensures.place (c.in_ok-add_grid.ensures ∙ ap (λ ns. with_objects h.state (grid h.program c.args.class.0 ns (next_object h.state))) (c.deref.ensures.value ∙ c.in_ok-numbers.ensures)) c.go_with.ensures

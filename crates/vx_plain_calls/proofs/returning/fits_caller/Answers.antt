@@ -8,5 +8,5 @@ use Rattle.vx_plain_calls.proofs.returning.fits_caller.Goals as goal
 pub returns-in-Some : goal.returns-in-Some
 returns-in-Some c =
     c.words_fit.ensures
-    ∙ (λ i. nat_le (c.width.ensures i + c.words_under.ensures i) (c.max_stack.ensures i))
+    ∙ (λ i. nat_le (c.width.ensures i + c.words_under.ensures i) (c.room_of.ensures i))
     ∙ ap (λ v. fits_caller c.args.program.now (frame_of c.args.frame.now) (as_list (option_map value_of v))) (sym c.in-Some.is)

@@ -15,5 +15,5 @@ returns c =
     let h = here_in call.here.now s in
     let made = c.in_ok-cells.ensures ∙ ap (map char_value) c.text.ensures in
     comes_as c.answer_new.result _ _ _ _
-    (ap (λ o. push_new h o (drop call.taken s.top.operands)) (c.array-array.ensures ∙ chars_made h _ _ (text_of_object h c.args.object) c.char_array.ensures made))
+    (ap (λ o. push_new h o (drop call.taken s.top.operands)) (c.array-array.ensures ∙ chars_made h _ _ (text_of_object h c.args.object) c.array_of_primitives.ensures made))
     c.answer_new.ensures

@@ -1,7 +1,8 @@
 use Rattle.std.proofs.Common.{◌∙◌, ap}
 use Rattle.vx_java.specs.Returns.{bytes_of, instruction_size}
 use Rattle.vx_opcode.specs.Decode.{instruction_at}
-use Rattle.vx_returns.proofs.ReturnLaws.{short_code, size_of_none}
+use Rattle.vx_java.proofs.InstructionSizes.{size_of_none}
+use Rattle.vx_returns.proofs.ReturnLaws.{short_code}
 use Rattle.vx_returns.proofs.receiving.size_at.Goals as goal
 
 pub size_in-requires : goal.size_in-requires

@@ -1,7 +1,7 @@
 use Rattle.std.proofs.Common.{◌∙◌, ap, sym}
 use Rattle.std.proofs.lemmas.Result.{IfOk-weaker}
 use Rattle.std.specs.Prelude.{Some, None}
-use Rattle.vx_fields.proofs.Pools.{short_descriptor}
+use Rattle.vx_families.proofs.ShortPools.{short_descriptor}
 use Rattle.vx_java.specs.Returns.{agrees}
 use Rattle.vx_returns.proofs.MarkLaws.{agreed-attempts, disagreed-attempts}
 use Rattle.vx_returns.proofs.returning.attempt.Goals as goal

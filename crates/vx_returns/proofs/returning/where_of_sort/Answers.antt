@@ -2,7 +2,7 @@ use Rattle.std.proofs.Common.{◌∙◌, ap, sym}
 use Rattle.std.specs.Ordering.{bool_cmp}
 use Rattle.std.specs.Prelude.{◌&&◌}
 use Rattle.vx_families.specs.Sorts.{slot_is_of}
-use Rattle.vx_fields.proofs.Tops.{IsSet-where, top_is, top_is_cond}
+use Rattle.vx_ready.proofs.Tops.{IsSet-where, top_is, top_is_cond}
 use Rattle.vx_group.specs.Group.{path_of}
 use Rattle.vx_group_states.proofs.SettleLaws.{lifting_cond}
 use Rattle.vx_returns.proofs.returning.where_of_sort.Goals as goal

@@ -6,14 +6,14 @@ use Rattle.vx_run_commands.proofs.run.report_of_program.Goals as goal
 use Rattle.vx_lockstep.proofs.Known.{found_known}
 
 pub report_findings-requires-clause-options : goal.report_findings-requires-clause-options
-report_findings-requires-clause-options c = ap length c.in_ok-names.ensures ∙ length-map c.args.model.now.options _ ∙ sym c.requires.modeled.options ∙ sym c.in_ok-findings.ensures.options
+report_findings-requires-clause-options g c = ap length c.in_ok-names.ensures ∙ length-map c.args.model.now.options _ ∙ sym c.requires.modeled.options ∙ sym c.in_ok-findings.ensures.options
 
 pub report_findings-requires-clause-known : goal.report_findings-requires-clause-known
-report_findings-requires-clause-known c = found_known _ _ _ _ _ c.in_ok-findings.ensures.findings
+report_findings-requires-clause-known g c = found_known _ _ _ _ _ c.in_ok-findings.ensures.findings
 
-pub returns : goal.returns
-returns c =
+pub returns-clause-text : goal.returns-clause-text
+returns-clause-text g c =
     reported_run c.args.words.limit c.args.words.version c.args.model.now c.args.program.now c.in_ok-names.names _ _ _ _ _ c.in_ok-names.ensures
-    c.requires.modeled.is_set.test c.in_ok-findings.ensures.options c.in_ok-findings.ensures.findings (c.in_ok-findings.ensures.lockstep (λ keys place h. h))
+    c.requires.modeled.is_set.test c.in_ok-findings.ensures.options c.in_ok-findings.ensures.findings c.in_ok-findings.ensures.lockstep
     c.requires.reportable
     (c.in_ok-report_findings.ensures.reported c.args.program.now (is_allowed c.args.model.now))

@@ -25,10 +25,10 @@ pub returns-clause-ok : goal.returns-clause-ok
 returns-clause-ok g c =
     let w = c.args.words in
     run_ok (g.F.Files.seen c.args.files.now) (g.F.Files.seen c.read_model_file.new.files) (g.F.Files.seen c.read_folder.new.files) w.folder.now w.model.now w.main.now w.limit w.version c.in_ok-modeled.modeled.model c.in_ok-classes.classes.items
-    c.report_of.result c.in_ok-modeled.ensures.keeps c.in_ok-modeled.ensures.ok c.in_ok-classes.ensures.ok c.report_of.ensures
+    c.report_of.result c.in_ok-modeled.ensures.keeps c.in_ok-modeled.ensures.ok c.in_ok-classes.ensures.ok c.report_of.ensures.text
 
 pub returns-clause-err : goal.returns-clause-err
 returns-clause-err g c =
     let w = c.args.words in
     run_err (g.F.Files.seen c.args.files.now) (g.F.Files.seen c.read_model_file.new.files) (g.F.Files.seen c.read_folder.new.files) w.folder.now w.model.now w.main.now w.limit w.version c.in_ok-modeled.modeled.model c.in_ok-classes.classes.items
-    c.report_of.result c.in_ok-modeled.ensures.keeps c.in_ok-classes.ensures.keeps c.in_ok-modeled.ensures.ok c.in_ok-classes.ensures.ok c.report_of.ensures
+    c.report_of.result c.in_ok-modeled.ensures.keeps c.in_ok-classes.ensures.keeps c.in_ok-modeled.ensures.ok c.in_ok-classes.ensures.ok c.report_of.ensures.text

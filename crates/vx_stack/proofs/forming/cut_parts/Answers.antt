@@ -4,7 +4,7 @@ use Rattle.vx_space.proofs.Spaces.{Extends-trans}
 use Rattle.vx_cond.proofs.LeafLoops.{next_known}
 use Rattle.vx_java.specs.Machine.{State}
 use Rattle.vx_group_states.proofs.EndingLaws.{HasPast-part}
-use Rattle.vx_group_states.proofs.Gathering.{IsGathering-end, IsGathering-past, IsGathering-rest, IsGathering-start, IsGathering-step, IsPartOf-group, leaf_value}
+use Rattle.vx_group_states.proofs.Gathering.{IsGathering-end, IsGathering-last, IsGathering-past, IsGathering-rest, IsGathering-start, IsGathering-step, IsPartOf-group, leaf_value, left_none, left_some}
 use Rattle.vx_stack.specs.Cuts.{counts_of}
 use Rattle.vx_stack.specs.Exact.{cut_cmp}
 use Rattle.vx_stack.specs.Forms.{formed_as}
@@ -15,11 +15,11 @@ use Rattle.vx_stack.proofs.forming.cut_parts.Goals as goal
 pub loop-leaf-init : goal.loop-leaf-init
 loop-leaf-init g c = rw c.new-outcomes.ensures (IsGathering-start c.args.site.now.program.now _ c.args.group _ _ c.args.cuts.now c.requires.group)
 
-pub split-requires-clause-group : goal.split-requires-clause-group
-split-requires-clause-group g c = IsGathering-rest _ _ _ c.args.group _ _ c.args.cuts.now _ _ _ c.loop-leaf.invariant
+pub part_in-requires-clause-group : goal.part_in-requires-clause-group
+part_in-requires-clause-group g c = IsGathering-rest _ _ _ c.args.group _ _ c.args.cuts.now _ _ _ c.loop-leaf.invariant
 
-pub split-requires-clause-known : goal.split-requires-clause-known
-split-requires-clause-known g c = next_known cut_cmp c.args.cuts.now _ c.leaf-item.result c.requires.cuts c.loop-leaf-test.true c.leaf-item.is c.loop-leaf.invariant.extends
+pub part_in-requires-clause-known : goal.part_in-requires-clause-known
+part_in-requires-clause-known g c = next_known cut_cmp c.args.cuts.now _ c.leaf-item.result c.requires.cuts c.loop-leaf-test.true c.leaf-item.is c.loop-leaf.invariant.extends
 
 pub cut_part-requires-clause-group : goal.cut_part-requires-clause-group
 cut_part-requires-clause-group g c = IsPartOf-group _ _ _ c.loop-leaf.rest _ c.in_ok-part.ensures.inside
@@ -31,7 +31,7 @@ pub cut_part-requires-clause-enough : goal.cut_part-requires-clause-enough
 cut_part-requires-clause-enough g c = part_possible _ _ (g.met.S.Space.lawful c.args.space.now) _ _ c.args.group c.loop-leaf.rest _ c.args.cuts.now _ c.leaf-item.result c.requires.cuts c.loop-leaf-test.true c.leaf-item.is c.requires.possible c.loop-leaf.invariant.rest_is c.in_ok-part.ensures.inside
 
 pub returns-in_err-part-clause-extends : goal.returns-in_err-part-clause-extends
-returns-in_err-part-clause-extends g c = Extends-trans c.loop-leaf.invariant.extends c.split.ensures.extends
+returns-in_err-part-clause-extends g c = Extends-trans c.loop-leaf.invariant.extends c.part_in.ensures.extends
 
 pub returns-in_err-made-clause-extends : goal.returns-in_err-made-clause-extends
 returns-in_err-made-clause-extends g c = Extends-trans (Extends-trans c.loop-leaf.invariant.extends c.in_ok-part.ensures.extends) c.cut_part.ensures.extends
@@ -46,10 +46,22 @@ loop-leaf-preserved g c =
     let x = c.leaf-item.result in
     let start = g.S.Space.sets c.args.space.now in
     let law = λ (d : List Bool) (t : start.test x.condition d ≡ true) (s : State). ap (λ o. formed_as site c.args.order (counts_of (unwrap_or o Divided)) s) (sym (leaf_value cut_cmp start cuts c.loop-leaf.leaf-index x d c.requires.cuts c.loop-leaf-test.true c.leaf-item.is t)) in
-    rw c.in_ok-append.ensures.ok (IsGathering-step cut_cmp site.program.now c.args.group _ _ (λ _ _. formed_as site c.args.order (counts_of x.value)) cuts c.loop-leaf.leaf-index x c.loop-leaf.rest _ _ _ _ c.requires.cuts c.requires.cover c.loop-leaf-test.true c.leaf-item.is (λ heap h. law) c.loop-leaf.invariant c.in_ok-part.ensures.extends c.in_ok-part.ensures.inside c.in_ok-part.ensures.outside c.in_ok-made.ensures.extends (λ heap tree q h later s. c.in_ok-made.ensures.gives heap tree later s))
+    rw c.in_ok-append.ensures.ok (IsGathering-step cut_cmp site.program.now c.args.group _ _ (λ _ _. formed_as site c.args.order (counts_of x.value)) cuts c.loop-leaf.leaf-index x c.loop-leaf.rest _ _ _ _ c.requires.cuts c.requires.cover c.loop-leaf-test.true c.leaf-item.is (λ heap h. law) c.loop-leaf.invariant c.in_ok-part.ensures.extends c.in_ok-part.ensures.inside (left_some _ _ c.loop-leaf.rest _ _ _ c.in-Some.is c.in_ok-part.ensures.left) c.in_ok-made.ensures.extends (λ heap tree q h later s. c.in_ok-made.ensures.gives heap tree later s))
 
 pub returns-clause-extends : goal.returns-clause-extends
 returns-clause-extends g c = c.loop-leaf.invariant.extends
 
 pub returns-clause-gives : goal.returns-clause-gives
 returns-clause-gives g c = λ heap tree h s. IsGathering-end c.args.site.now.program.now c.args.group _ _ c.args.cuts.now _ c.loop-leaf.rest _ c.requires.cover c.loop-leaf.invariant c.loop-leaf-test.false heap tt tree h s
+
+pub returns-in_default-clause-extends : goal.returns-in_default-clause-extends
+returns-in_default-clause-extends g c = Extends-trans (Extends-trans c.loop-leaf.invariant.extends c.in_ok-part.ensures.extends) c.in_ok-made.ensures.extends
+
+pub returns-in_default-clause-gives : goal.returns-in_default-clause-gives
+returns-in_default-clause-gives g c = λ heap tree h s.
+    let site = c.args.site.now in
+    let cuts = c.args.cuts.now in
+    let x = c.leaf-item.result in
+    let start = g.S.Space.sets c.args.space.now in
+    let law = λ (d : List Bool) (t : start.test x.condition d ≡ true) (s : State). ap (λ o. formed_as site c.args.order (counts_of (unwrap_or o Divided)) s) (sym (leaf_value cut_cmp start cuts c.loop-leaf.leaf-index x d c.requires.cuts c.loop-leaf-test.true c.leaf-item.is t)) in
+    rw c.in_ok-append.ensures.ok (IsGathering-last cut_cmp site.program.now c.args.group _ _ (λ _ _. formed_as site c.args.order (counts_of x.value)) cuts c.loop-leaf.leaf-index x c.loop-leaf.rest _ _ _ c.requires.cuts c.requires.cover c.loop-leaf-test.true c.leaf-item.is (λ heap h. law) c.loop-leaf.invariant (left_none _ _ c.loop-leaf.rest _ _ c.in_default.is c.in_ok-part.ensures.left) c.in_ok-part.ensures.extends c.in_ok-part.ensures.inside c.in_ok-made.ensures.extends (λ heap tree q h later s. c.in_ok-made.ensures.gives heap tree later s) heap tt tree h s)

@@ -1,6 +1,0 @@
-use Rattle.std.proofs.Common.{◌≡◌, ◌++◌, take}
-use Rattle.vx_explain.specs.Text.{more_terms}
-use Rattle.vx_explain.proofs.text.put_rule.Given as goal
-
-abbrev pub invariant-loop-term : goal.invariant-loop-term
-invariant-loop-term l = l.out.items ≡ l.initial.out.items ++ more_terms l.names (take l.term-index l.rest)

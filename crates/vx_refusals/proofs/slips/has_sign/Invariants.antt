@@ -1,0 +1,9 @@
+use Rattle.std.proofs.Common.{length, ◌≡◌}
+use Rattle.vx_refusals.specs.Slips.{has_sign}
+use Rattle.vx_refusals.proofs.slips.has_sign.Given as goal
+
+abbrev pub invariant-loop-rest : goal.invariant-loop-rest
+invariant-loop-rest l = has_sign l.sign l.line ≡ has_sign l.sign l.rest
+
+abbrev pub decreases-loop-rest : goal.decreases-loop-rest
+decreases-loop-rest l = length l.rest

@@ -1,0 +1,12 @@
+pub mod NodeLaws
+pub mod SetLaws
+pub mod PartLaws
+pub mod CountedLaws
+pub mod MadeLaws
+pub mod MemoLaws
+pub mod ChosenLaws
+pub mod MostLaws
+pub mod ReachedLaws
+pub mod TallyLaws
+pub mod ListedLaws
+pub mod CanonicalLaws
