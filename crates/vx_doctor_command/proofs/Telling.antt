@@ -18,20 +18,23 @@ use Rattle.vx_inputs.specs.Files.{WasRead}
 use Rattle.vx_inputs.specs.Folder.{WasListed, list_classes, most_classes, or_bad_class, class_paths, place_of}
 use Rattle.vx_inputs.specs.Traced.{traced_of}
 use Rattle.vx_inputs.specs.declared.taken.Traced.{Traced}
+use Rattle.vx_model.specs.Answers.{Fails}
+use Rattle.vx_model.specs.declared.fault.ModelFault.{ModelFault}
+use Rattle.vx_model.specs.declared.fault.ModelFault.TheVariants as fault
 use Rattle.vx_model.specs.declared.model.Model.{Model}
 use Rattle.vx_overview.specs.Overview.{overview_text}
 use Rattle.vx_plans.proofs.Plans.{fits, from_before, then_leads}
 use Rattle.vx_plans.proofs.Told.{large_cases}
 use Rattle.vx_plans.specs.Health.{classes_part, first_line, last_line, main_text, model_part, remarks_if}
-use Rattle.vx_plans.specs.Job.{Exactly, is_dimacs_path, program_in, slashed}
+use Rattle.vx_plans.specs.Job.{Exactly, is_dimacs_path, model_of, or_bad_model, program_in, slashed, spelled_model}
 use Rattle.vx_plans.specs.KeepsFiles.{KeepsFiles}
 use Rattle.vx_plans.specs.Plan.{AllowsNone, AllowsSome, By_allowed, IsGiven, Leads, MayGive, MayStop, Outcome, Plan, Refuse, Said, Say, unless}
 use Rattle.vx_plans.specs.Sized.{most_bytes, read_sized, too_large}
 use Rattle.vx_plans.specs.declared.status.Status.{Status}
-use Rattle.vx_plans.specs.declared.status.Status.TheVariants.{BadClass, Done, NoMemory, ReadFault, TooLarge}
+use Rattle.vx_plans.specs.declared.status.Status.TheVariants.{BadClass, BadModel, Done, NoMemory, ReadFault, TooLarge}
 use Rattle.vx_link.specs.declared.program.Program.{Program}
-use Rattle.vx_doctor_command.specs.Doctor.{classes_of, doctor_classes, list_told, read_class_told, read_classes_told, read_told}
-use Rattle.vx_doctor_command.specs.Saying.{bytes, class_files, say, say_class, say_link, say_unread, value_or_say}
+use Rattle.vx_doctor_command.specs.Doctor.{classes_of, doctor_classes, doctor_model, doctor_text, list_told, read_class_told, read_classes_told, read_told}
+use Rattle.vx_doctor_command.specs.Saying.{bytes, class_files, say, say_class, say_fault, say_link, say_model, say_unread, value_or_say}
 use Rattle.vx_doctor_command.specs.Stops.{EndsAs, IsHealthy, IsSaid, IsTaken, stop_plan}
 use Rattle.vx_doctor_command.specs.declared.reading.Stop.{Stop}
 use Rattle.vx_doctor_command.specs.declared.reading.Stop.TheVariants.{NoClass, Unread}
@@ -243,6 +246,14 @@ link_said path text main model paths traced front refusal outcome (inl n) is sai
 link_said path text main model paths traced front refusal outcome (inr e) is said = rw e (rw is at said)
 
 -- ---- the model
+
+-- what is said where the bytes of a file spell no model
+pub fault_said : (seen : FilesState) (folder path main text : List ℕ) (why : ModelFault) (outcome : Outcome) → Fails why (spelled_model path text) → IsSaid (say_fault path text why) outcome
+    → IsGiven seen seen (doctor_text folder path main text) outcome
+fault_said seen folder path main text fault.NoMemory outcome spelled said = elim (refused_so NoMemory outcome said) [ inl e ↦ inl e | inr e ↦ inl e ]
+fault_said seen folder path main text (fault.Line line reason) outcome spelled said =
+    said_behind seen seen (doctor_text folder path main text) (say_model path text (BadModel line reason)) outcome
+    (refusal_leads seen.held (model_of path text) (say_model path text) (doctor_model folder path text main) (BadModel line reason) (ap or_bad_model spelled)) said
 
 pub allowed_given : (old new : FilesState) (model : Model) (none some : Plan) (outcome : Outcome) → AllowsSome model → IsGiven old new some outcome → IsGiven old new (By_allowed model none some) outcome
 allowed_given old new model none some outcome allows (inl e) = inl e

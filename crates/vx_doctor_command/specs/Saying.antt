@@ -3,6 +3,8 @@ use Rattle.std.specs.Prelude.{Err, List, None, Ok, Option, Some, codes, decimal,
 use Rattle.std.specs.declared.result.Result.{Result}
 use Rattle.vx_class.specs.declared.class_file.ClassFile.{ClassFile}
 use Rattle.vx_link.specs.CoreFiles.{core_files}
+use Rattle.vx_model.specs.declared.fault.ModelFault.{ModelFault}
+use Rattle.vx_model.specs.declared.fault.ModelFault.TheVariants as fault
 use Rattle.vx_model.specs.declared.model.Model.{Model}
 use Rattle.vx_outlines.specs.Outlines.{outline_of}
 use Rattle.vx_outlines.specs.Refusals.{refusal_text}
@@ -11,7 +13,7 @@ use Rattle.vx_plans.specs.Health.{first_line, last_line, model_part}
 use Rattle.vx_plans.specs.Job.{Exactly, is_dimacs_path, slashed}
 use Rattle.vx_plans.specs.Plan.{Plan, Refuse, Say}
 use Rattle.vx_plans.specs.declared.status.Status.{Status}
-use Rattle.vx_plans.specs.declared.status.Status.TheVariants.{BadClass, BadLink, BadModel, NoConfiguration, TooLarge}
+use Rattle.vx_plans.specs.declared.status.Status.TheVariants.{BadClass, BadLink, BadModel, NoConfiguration, NoMemory, TooLarge}
 use Rattle.vx_reasons.specs.declared.sentences.Form.{Form}
 use Rattle.vx_reasons.specs.declared.sentences.Form.TheVariants.{Dimacs, Model as model}
 use Rattle.vx_refusals.specs.Refusals.{class_text, model_text}
@@ -56,6 +58,11 @@ form_of path = if is_dimacs_path path then Dimacs else model
 abbrev pub say_model : (path text : List ℕ) → Status → Plan
 say_model path text (BadModel line reason) = say (first_line ++ model_text (form_of path) text line reason) (BadModel line reason)
 say_model path text status = Refuse status
+
+-- what is said where bytes spell no model
+abbrev pub say_fault : (path text : List ℕ) → ModelFault → Plan
+say_fault path text fault.NoMemory = Refuse NoMemory
+say_fault path text (fault.Line line reason) = say_model path text (BadModel line reason)
 
 abbrev pub none_line : List ℕ
 none_line = codes "no configuration meets all rules\n"

@@ -19,7 +19,7 @@ ghost use Rattle.vx_verify.specs.Verdict.{has_short_code};
 
 use crate::reading::read_class_files;
 use crate::saying::{
-    bad_model, first_line, put_main, put_remarks_if, stopped, told, unlinked, unread,
+    first_line, put_main, put_remarks_if, stopped, told, unlinked, unread, unspelled,
 };
 use crate::words::DoctorWords;
 use std::alloc::{AllocError, Global};
@@ -31,7 +31,7 @@ use vx_io::Files;
 use vx_lines::LineTable;
 use vx_link::Program;
 use vx_may_end::spots;
-use vx_model::{Model, ModelFault};
+use vx_model::Model;
 use vx_outlines::outlines;
 use vx_overview::put_overview;
 use vx_plans::{Answer, Status};
@@ -232,10 +232,7 @@ fn of_text<F: Files>(
     let front = first_line(alloc)?;
     match spelled_model(alloc, words.model, text) {
         Ok(model) => of_model(alloc, files, words, front, text, model),
-        Err(ModelFault::NoMemory) => Err(Status::NoMemory),
-        Err(ModelFault::Line { line, reason }) => {
-            bad_model(front, words.model, text, line, reason)
-        }
+        Err(fault) => unspelled(front, words.model, text, fault),
     }
 }
 

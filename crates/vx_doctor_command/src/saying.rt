@@ -2,7 +2,7 @@
 
 ghost use Rattle.std.specs.Prelude.{◌≡◌, ◌++◌, IfOk, List, OnOk, map, string_bytes};
 ghost use Rattle.vx_class.specs.declared.class_file.ClassFile as class;
-ghost use Rattle.vx_doctor_command.specs.Saying.{core_outlines, form_of, large_text, say_class, say_link, say_model, say_unread};
+ghost use Rattle.vx_doctor_command.specs.Saying.{core_outlines, form_of, large_text, say_class, say_fault, say_link, say_model, say_unread};
 ghost use Rattle.vx_doctor_command.specs.Stops.{IsSaid, stop_plan};
 ghost use Rattle.vx_outlines.specs.Outlines.{outline_of};
 ghost use Rattle.vx_outlines.specs.Refusals.{refusal_text};
@@ -15,7 +15,7 @@ use std::alloc::{AllocError, Global};
 use vx_core::core;
 use vx_inputs::is_dimacs;
 use vx_link::LinkFault;
-use vx_model::{Model, slashed};
+use vx_model::{Model, ModelFault, slashed};
 use vx_outlines::{Outline, Sought, outlines, put_link_refusal};
 use vx_overview::put_remarks;
 use vx_plans::{Answer, Status};
@@ -89,7 +89,7 @@ fn form_of(path: &str) -> Form
 }
 
 /// What is said of a model that is refused.
-pub(crate) fn bad_model(
+fn bad_model(
     front: Vec<u8>,
     path: &str,
     text: &[u8],
@@ -102,6 +102,22 @@ pub(crate) fn bad_model(
     let mut out = front;
     put_model_refusal(&mut out, form_of(path), text, line, reason)?;
     Ok(told(out, Status::BadModel { line, reason })?)
+}
+
+/// What is said where the bytes of a file spell no model.
+pub(crate) fn unspelled(
+    front: Vec<u8>,
+    path: &str,
+    text: &[u8],
+    fault: ModelFault,
+) -> Result<Answer, Status>
+    requires { front.items ≡ first_line }
+    ensures { IsSaid (say_fault path.now text.now fault) (outcome_of result) }
+{
+    match fault {
+        ModelFault::NoMemory => Err(Status::NoMemory),
+        ModelFault::Line { line, reason } => bad_model(front, path, text, line, reason),
+    }
 }
 
 /// What is said of a class file that is refused.
