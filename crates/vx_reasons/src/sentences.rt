@@ -1,7 +1,7 @@
 //! A sentence for each reason of each form of input.
 
 ghost use Rattle.std.specs.Prelude.{◌≡◌, map};
-ghost use Rattle.vx_reasons.specs.Reasons.{sentence_of, sentences_of};
+ghost use Rattle.vx_reasons.specs.Reasons.{sentence_of, sentences_of, unsupported_sentences};
 
 /// What has a number for its reason: a form of input that is refused, or an end of a run.
 #[derive(Clone, Copy)]
@@ -82,6 +82,13 @@ const UNSUPPORTED: [&[u8]; 9] = [
     b"a method that the class doesn't have, nor those above it",
 ];
 
+/// What a run comes to that is left out, by the number of its word.
+fn unsupported() -> &'static [&'static [u8]]
+    ensures { map (λ sentence. sentence.now) result.now ≡ unsupported_sentences }
+{
+    &UNSUPPORTED
+}
+
 /// The sentences of a form, each at the place of its reason; those of numbers that are no reason are empty.
 fn sentences_of(form: Form) -> &'static [&'static [u8]]
     ensures { map (λ sentence. sentence.now) result.now ≡ sentences_of form }
@@ -91,7 +98,7 @@ fn sentences_of(form: Form) -> &'static [&'static [u8]]
         Form::Model => &MODEL,
         Form::Dimacs => &DIMACS,
         Form::Source => &SOURCE,
-        Form::Unsupported => &UNSUPPORTED,
+        Form::Unsupported => unsupported(),
     }
 }
 
