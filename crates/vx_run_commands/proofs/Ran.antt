@@ -1,6 +1,6 @@
 -- What a run of a linked program came to, in terms of its class files and its model.
-use Rattle.std.proofs.Common.{◌≡◌, ◌<◌, ◌≤◌, ◌⊎◌, ℕ, Bool, List, MatchResult, Result, Ok, Err, Vec, Global, arith, sym, subst, length, inl}
-use Rattle.std.specs.Prelude.{All}
+use Rattle.std.proofs.Common.{◌≡◌, ◌<◌, ◌≤◌, ◌⊎◌, ℕ, Bool, true, List, [], MatchResult, Result, Ok, Err, Vec, Global, arith, refl, sym, subst, length, inl}
+use Rattle.std.specs.Prelude.{All, false}
 use Rattle.vx_class.specs.File.{Holds}
 use Rattle.vx_class.specs.declared.class_file.ClassFile.{ClassFile}
 use Rattle.vx_lockstep.specs.Findings.{AreAllowed, AreFindings, FindingsView, report_by}
@@ -19,6 +19,9 @@ use Rattle.vx_plans.specs.Job.{IsModeled, IsNoProgram, IsReportOf, IsTextOf, Rep
 use Rattle.vx_plans.proofs.Linked.{linked_is}
 use Rattle.vx_plans.specs.declared.status.Status.{Status}
 use Rattle.vx_plans.specs.declared.status.Status.TheVariants.{NoMemory}
+use Rattle.vx_io.specs.Sink.{SinkState}
+use Rattle.vx_watch.proofs.Heard.{heard_none}
+use Rattle.vx_run_commands.specs.Run.{HasTold}
 
 -- its runs may start in the configurations that the model allows
 pub may_start : {I : Type 0} (main : List ℕ) (model : Model) (classes : List ClassFile) (p : Program) {sets : Sets I} (allowed : I) (limit : ℕ) → LinkedAreBounded → length classes ≤ 1024 → All Holds classes → program_in main model classes ≡ Ok p
@@ -74,3 +77,8 @@ reported_run limit version model p names text sets options allowed f are_names s
 
     reported : IsReported version names limit (is_allowed model) p text
     reported = written of_names (subst (λ g. AreFindings p sets g limit f) (allowed_is model allowed same) found) (lockstep_there limit model p sets options allowed f same kept lockstep)
+
+-- where nothing was written, what is told of runs is told, whether they are watched or not
+pub untold : (watched : Bool) (s : SinkState) → HasTold watched s s
+untold true s = record { list = []; after = tt; lines = heard_none s }
+untold false s = refl

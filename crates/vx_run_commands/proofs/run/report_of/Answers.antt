@@ -1,4 +1,4 @@
-use Rattle.vx_run_commands.proofs.Ran.{may_start, of_linked, reportable_run}
+use Rattle.vx_run_commands.proofs.Ran.{may_start, of_linked, reportable_run, untold}
 use Rattle.vx_run_commands.proofs.run.report_of.Goals as goal
 
 pub report_of_program-requires-clause-start : goal.report_of_program-requires-clause-start
@@ -10,3 +10,6 @@ report_of_program-requires-clause-reportable g c = reportable_run c.args.words.m
 pub returns-clause-text : goal.returns-clause-text
 returns-clause-text g c =
     of_linked c.args.words.main.now c.args.words.limit c.args.words.version c.args.modeled.model c.args.classes.items c.in_ok-program.program c.report_of_program.result c.in_ok-program.ensures c.report_of_program.ensures.text
+
+pub returns-in_err-program-clause-told : goal.returns-in_err-program-clause-told
+returns-in_err-program-clause-told g c = untold c.args.words.watched (g.E.Sink.seen c.args.err.now)

@@ -1,7 +1,7 @@
 use Rattle.std.proofs.Common.{sym, ap, ◌∙◌, length}
 use Rattle.std.proofs.lemmas.List.{length-map}
 use Rattle.vx_model.specs.Models.{is_allowed}
-use Rattle.vx_run_commands.proofs.Ran.{reported_run}
+use Rattle.vx_run_commands.proofs.Ran.{reported_run, untold}
 use Rattle.vx_run_commands.proofs.run.report_of_program.Goals as goal
 use Rattle.vx_lockstep.proofs.Known.{found_known}
 
@@ -17,3 +17,6 @@ returns-clause-text g c =
     c.requires.modeled.is_set.test c.in_ok-findings.ensures.options c.in_ok-findings.ensures.findings c.in_ok-findings.ensures.lockstep
     c.requires.reportable
     (c.in_ok-report_findings.ensures.reported c.args.program.now (is_allowed c.args.model.now))
+
+pub returns-in_err-names-clause-told : goal.returns-in_err-names-clause-told
+returns-in_err-names-clause-told g c = untold c.args.words.watched (g.E.Sink.seen c.args.err.now)

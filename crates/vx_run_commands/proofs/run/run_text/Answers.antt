@@ -3,6 +3,7 @@ use Rattle.vx_class.specs.Class.{class_of}
 use Rattle.vx_inputs.specs.Folder.{read_folder}
 use Rattle.vx_run_commands.specs.Run.{run_classes, run_plan}
 use Rattle.vx_plans.proofs.Plans.{stops_behind}
+use Rattle.vx_run_commands.proofs.Ran.{untold}
 use Rattle.vx_run_commands.proofs.Running.{run_ok, run_err}
 use Rattle.vx_run_commands.proofs.run.run_text.Goals as goal
 
@@ -32,3 +33,9 @@ returns-clause-err g c =
     let w = c.args.words in
     run_err (g.F.Files.seen c.args.files.now) (g.F.Files.seen c.read_model_file.new.files) (g.F.Files.seen c.read_folder.new.files) w.folder.now w.model.now w.main.now w.limit w.version c.in_ok-modeled.modeled.model c.in_ok-classes.classes.items
     c.report_of.result c.in_ok-modeled.ensures.keeps c.in_ok-classes.ensures.keeps c.in_ok-modeled.ensures.ok c.in_ok-classes.ensures.ok c.report_of.ensures.text
+
+pub returns-in_err-modeled-clause-told : goal.returns-in_err-modeled-clause-told
+returns-in_err-modeled-clause-told g c = untold c.args.words.watched (g.E.Sink.seen c.args.err.now)
+
+pub returns-in_err-classes-clause-told : goal.returns-in_err-classes-clause-told
+returns-in_err-classes-clause-told g c = untold c.args.words.watched (g.E.Sink.seen c.args.err.now)
