@@ -8,3 +8,4 @@ pub mod Printed
 pub mod Sums
 mod TermSets
 pub mod Truths
+pub mod Titles

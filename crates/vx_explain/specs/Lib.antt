@@ -6,3 +6,4 @@ pub mod Read
 pub mod Rules
 pub mod Scopes
 pub mod Text
+pub mod Topics

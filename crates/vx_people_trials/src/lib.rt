@@ -12,4 +12,6 @@ mod explain;
 #[cfg(test)]
 mod picture;
 #[cfg(test)]
+mod prints;
+#[cfg(test)]
 mod reports;

@@ -1,4 +1,5 @@
 pub mod Agreements
 pub mod Alike
 pub mod Joins
+pub mod Printings
 pub mod Tellings

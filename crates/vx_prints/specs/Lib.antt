@@ -1,0 +1,5 @@
+pub mod Matched
+pub mod Printing
+pub mod Prints
+pub mod Text
+pub mod Word
