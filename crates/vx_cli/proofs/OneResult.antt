@@ -16,7 +16,7 @@ use Rattle.vx_reporting.proofs.OneText.{one_text}
 use Rattle.vx_reporting.specs.Reported.{IsReported}
 use Rattle.vx_summary.specs.Summary.{summary_text}
 use Rattle.vx_cli.specs.Causes.{AreClasses, AreGiven, HasOneResult, IsAgreeing, IsJoining, IsReport, IsResult, IsRetelling, IsSaidOf, IsShown, IsTold, IsVerification}
-use Rattle.vx_cli.specs.Command.{Agree, Asm, Check, Command, Compare, Cut, Doctor, Join, Load, Output, Prints, Project, Retell, Run, Show, Tell, Verify}
+use Rattle.vx_cli.specs.Command.{Agree, Asm, Check, Command, Compare, Cut, Doctor, Join, Load, Output, Project, Retell, Run, Show, Tell, Verify}
 use Rattle.vx_cli.specs.Ends.{Ends}
 use Rattle.vx_plans.specs.Job.{names_of, program_in}
 use Rattle.vx_plans.specs.Load.{IsSummary, load_limit, load_model, load_program}
@@ -112,7 +112,6 @@ one_result held (Run watched folder path main limit version) one other p h k = o
 one_result held (Project path word) one other p h k = one_said (λ r. projected r word) held path one other h k
 one_result held (Output path word stream) one other p h k = one_said (λ r. printed r stream word) held path one other h k
 one_result held (Tell telling path) one other p h k = one_telling held telling path one other p h k
-one_result held (Prints path word) one other p h k = absurd p
 one_result held (Agree path against) one other p h k = one_agreeing held path against one other h k
 one_result held (Join paths) one other p h k = one_joining held paths one other h k
 one_result held (Asm path) one other p h k = same_value one other _ h.is_text k.is_text

@@ -1,5 +1,5 @@
 -- What is asked of a report, by its name and the words behind the report; and numbers from 1 on.
-use Rattle.std.specs.Prelude.{◌≤◌, ℕ, Bool, true, false, List, [], codes}
+use Rattle.std.specs.Prelude.{◌≤◌, ℕ, List, [], codes}
 use Rattle.vx_people.specs.Words.{drawn_words, explained_words, length_words}
 use Rattle.vx_people.specs.declared.telling.Telling.{Telling}
 use Rattle.vx_people.specs.declared.telling.Telling.TheVariants.{Interactions, Picture, Cover, Explanations, Counts, Listed, Page}
@@ -20,11 +20,6 @@ asked_words (Picture drawn) = drawn_words drawn
 asked_words (Explanations asked) = explained_words asked
 asked_words (Listed n) = length_words n
 asked_words telling = []
-
--- explanations are asked for
-abbrev pub explains : Telling → Bool
-explains (Explanations asked) = true
-explains telling = false
 
 -- a number from 1 up to a greatest one
 abbrev pub IsFromOne : ℕ → ℕ → Type 0

@@ -1,5 +1,5 @@
 -- The plan of each command.
-use Rattle.vx_cli.specs.Command.{Command, Run, Project, Output, Tell, Prints, Agree, Join, Asm, Load, Verify, Retell, Cut, Check, Compare, Doctor, Show}
+use Rattle.vx_cli.specs.Command.{Command, Run, Project, Output, Tell, Agree, Join, Asm, Load, Verify, Retell, Cut, Check, Compare, Doctor, Show}
 use Rattle.vx_check_commands.specs.Check.{check_plan}
 use Rattle.vx_check_commands.specs.Compare.{compare_plan}
 use Rattle.vx_cut_command.specs.Cut.{cut_plan}
@@ -11,7 +11,6 @@ use Rattle.vx_plans.specs.Job.{Exactly, Summary}
 use Rattle.vx_cli.specs.Pages.{page_text}
 use Rattle.vx_plans.specs.Plan.{Plan, Write}
 use Rattle.vx_report_commands.specs.Output.{output_plan}
-use Rattle.vx_report_commands.specs.Prints.{prints_plan}
 use Rattle.vx_report_commands.specs.Project.{project_plan}
 use Rattle.vx_run_commands.specs.Retell.{retell_plan}
 use Rattle.vx_run_commands.specs.Run.{run_plan}
@@ -23,7 +22,6 @@ plan_of (Run watched folder model main limit version) = run_plan folder model ma
 plan_of (Project report configuration) = project_plan report configuration
 plan_of (Output report configuration stream) = output_plan report configuration stream
 plan_of (Tell telling report) = tell_plan telling report
-plan_of (Prints report text) = prints_plan report text
 plan_of (Agree report other) = agree_plan report other
 plan_of (Join reports) = join_plan reports
 plan_of (Asm source) = asm_plan source

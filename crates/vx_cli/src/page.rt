@@ -24,8 +24,7 @@ const HELP: &[u8] =
 \x20                                             it has come, each 100,000 rounds\n\
 \x20 varexj project REPORT CONFIG     what a report says of one configuration\n\
 \x20 varexj output REPORT CONFIG [out|err]  the bytes that one configuration prints\n\
-\x20 varexj explain REPORT [ends|TEXT]  its ends and pieces, or ends, or where it prints\n\
-\x20                                    TEXT, with rules and examples\n\
+\x20 varexj explain REPORT [ends]     its ends and pieces, or ends, with rules and examples\n\
 \x20 varexj check REPORT [EXPECTED]   which configurations end otherwise than they should\n\
 \x20 varexj count REPORT              how many configurations have each end and piece\n\
 \x20 varexj list REPORT [N]           its first N configurations, or 1000, with their ends\n\
@@ -51,7 +50,6 @@ MODEL   the options and their rules, as text, or as DIMACS in a .cnf or .dimacs 
 MAIN    the class whose main runs\n\
 LIMIT   the greatest number of instructions tried in one configuration\n\
 CONFIG  the names of the options that are on, joined by commas, or - for none\n\
-TEXT    what is printed, as a report writes it\n\
 EXPECTED  lines END when RULE, where configurations end otherwise than by return or exit 0\n\
 SEED    a number below 2^64, by which the program made for trials differs\n\
 OPTIONS how many options that program has, from 1 to 64\n\

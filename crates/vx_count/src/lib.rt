@@ -14,5 +14,5 @@ pub use counts::{Counted, Counts, count_report};
 pub use first::firsts;
 pub use law::counts_add_up;
 pub use listed::{Listed, list_report};
-pub use output::{output_text, same_stream};
+pub use output::output_text;
 pub use text::{counts_text, listed_text};

@@ -9,8 +9,7 @@ use vx_report::{Piece, Report};
 use vx_space::Config;
 use vx_value::Stream;
 
-/// Whether two streams are one.
-pub fn same_stream(one: Stream, other: Stream) -> bool
+fn same_stream(one: Stream, other: Stream) -> bool
     ensures { result ≡ same_stream one other }
 {
     match (one, other) {

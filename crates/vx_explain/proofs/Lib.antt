@@ -8,4 +8,3 @@ pub mod Printed
 pub mod Sums
 mod TermSets
 pub mod Truths
-pub mod Titles

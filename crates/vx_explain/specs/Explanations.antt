@@ -1,79 +1,69 @@
--- What is said of the ends of a report and of the lines that it prints: under which rule there is one, and a configuration that has it.
-use Rattle.std.specs.Prelude.{◌≡◌, ℕ, Bool, true, false, List, ◌++◌, length, Option, Some, IfSome, MatchOption, slice_get}
-use Rattle.std.specs.List.{AllZip}
-use Rattle.vx_space.specs.Sets.{Sets}
+-- What is said of the pieces and ends of a report: under which rule there is one, and a configuration that has it.
+use Rattle.std.specs.Prelude.{◌≡◌, ℕ, Bool, true, false, List, ◌++◌, map, length, Option, Some, IfSome, MatchOption, slice_get}
+use Rattle.std.specs.List.{AllByRecursion}
 use Rattle.vx_bdd_tools.specs.Nodes.{holds}
 use Rattle.vx_report.specs.declared.report.Report.{Report}
+use Rattle.vx_picture.specs.declared.subject.Subject.{Subject}
+use Rattle.vx_picture.specs.Subjects.{end_subjects, subjects}
 use Rattle.vx_cover.specs.Covers.{IsRun, has_end}
 use Rattle.vx_explain.specs.declared.explained.Asked.{Asked}
+use Rattle.vx_explain.specs.declared.explained.Asked.TheVariants.{Ends, Everything}
 use Rattle.vx_explain.specs.declared.explained.Explained.{Explained}
 use Rattle.vx_explain.specs.declared.explained.Explanation.{Explanation}
 use Rattle.vx_explain.specs.declared.explained.Told.{Told}
 use Rattle.vx_explain.specs.declared.rule.Rule.{Rule}
 use Rattle.vx_explain.specs.Scopes.{IsRuleWithin, rule_within}
-use Rattle.vx_explain.specs.Topics.{AreTopics, Titled}
 
--- at most 32 terms, whose rule is true just where the set holds, among the configurations that have an end
-abbrev pub IsRule : Report → (List Bool → Bool) → Rule → Type 0
-IsRule r set rule = IsRuleWithin (length r.options) set (has_end r) rule
+-- at most 32 terms, whose rule is true just where the node holds, among the configurations that have an end
+abbrev pub IsRule : Report → ℕ → Rule → Type 0
+IsRule r node rule = IsRuleWithin (length r.options) (holds r.nodes node) (has_end r) rule
 
--- a configuration that has an end, and is in the set
-pub record IsExample (r : Report) (set : List Bool → Bool) (c : List Bool) : Type 0 where
+-- a configuration that has an end, at which the node holds
+pub record IsExample (r : Report) (node : ℕ) (c : List Bool) : Type 0 where
   pub run : IsRun r c
-  pub holds_here : set c ≡ true
+  pub holds_here : holds r.nodes node c ≡ true
 
--- the set has no configuration that has an end
-abbrev pub HasNone : Report → (List Bool → Bool) → Type 0
-HasNone r set = (c : List Bool) → has_end r c ≡ true → set c ≡ false
+-- the node holds no configuration that has an end
+abbrev pub HasNone : Report → ℕ → Type 0
+HasNone r node = (c : List Bool) → has_end r c ≡ true → holds r.nodes node c ≡ false
 
--- the least rule of a set among the configurations that have an end, if one has at most 32 terms
-abbrev pub rule_for : Report → (List Bool → Bool) → Option Rule
-rule_for r set = rule_within (length r.options) set (has_end r)
+-- the least rule of a node among the configurations that have an end, if one has at most 32 terms
+abbrev pub rule_for : Report → ℕ → Option Rule
+rule_for r node = rule_within (length r.options) (holds r.nodes node) (has_end r)
 
--- the number holds just the set
-abbrev pub IsItsNode : Report → (List Bool → Bool) → ℕ → Type 0
-IsItsNode r set node = (c : List Bool) → holds r.nodes node c ≡ set c
+-- the rule and an example of a node
+pub record IsTold (r : Report) (node : ℕ) (t : Told) : Type 0 where
+  pub rule : t.rule ≡ rule_for r node
+  pub is_rule : IfSome t.rule (IsRule r node)
+  pub example : MatchOption t.example (HasNone r node) (IsExample r node)
 
--- the set stands at a place among ids
-abbrev pub IsPlaceOf : {I : Type 0} → List I → I → ℕ → Type 0
-IsPlaceOf sets set place = slice_get sets place ≡ Some set
-
--- the rule and an example of a set, and a node that holds it
-pub record IsTold (r : Report) (set : List Bool → Bool) (t : Told) : Type 0 where
-  pub rule : t.rule ≡ rule_for r set
-  pub is_rule : IfSome t.rule (IsRule r set)
-  pub example : MatchOption t.example (HasNone r set) (IsExample r set)
-  pub node : IfSome t.node (IsItsNode r set)
-
--- what stands at a place is told of the set
-pub record IsToldAt (r : Report) (all : List Told) (set : List Bool → Bool) (place : ℕ) : Type 0 where
+-- what stands at a place is told of the node
+pub record IsToldAt (r : Report) (all : List Told) (node place : ℕ) : Type 0 where
   pub told : Told
   pub there : slice_get all place ≡ Some told
-  pub is : IsTold r set told
+  pub is : IsTold r node told
 
--- a topic is explained
-pub record IsExplained (r : Report) (all : List Told) (t : Titled) (x : Explained) : Type 0 where
-  pub title : x.title ≡ t.title
-  pub line : x.line ≡ t.line
-  pub told : IsToldAt r all t.set x.place
+-- each of some pieces and ends is explained
+pub record AreExplainedOf (r : Report) (subjects : List Subject) (e : Explanation) : Type 0 where
+  pub all : map (λ (x : Explained). x.subject) e.explained.items ≡ subjects
+  pub each : AllByRecursion (λ (x : Explained). IsToldAt r e.told.items x.subject.node x.place) e.explained.items
 
--- each of some topics is explained
-abbrev pub AreExplainedOf : Report → List Titled → Explanation → Type 0
-AreExplainedOf r ts e = AllZip (IsExplained r e.told.items) ts e.explained.items
+-- all pieces and ends, or the ends alone
+abbrev pub subjects_asked : Asked → Report → List Subject
+subjects_asked Everything r = subjects r
+subjects_asked Ends r = end_subjects r
 
 -- each that is asked for is explained
-pub record AreExplained (asked : Asked) (r : Report) (e : Explanation) : Type 0 where
-  pub topics : List Titled
-  pub are : AreTopics asked r topics
-  pub each : AreExplainedOf r topics e
+abbrev pub AreExplained : Asked → Report → Explanation → Type 0
+AreExplained asked r e = AreExplainedOf r (subjects_asked asked r) e
 
--- the places at which sets are told
-pub record KeepsTold {I : Type 0} (sets : Sets I) (r : Report) (all : List Told) (place_of : I → Option ℕ) : Type 0 where
-  pub each : (id : I) (place : ℕ) → place_of id ≡ Some place → (sets.is_known id ≡ true) × IsToldAt r all (sets.test id) place
+-- the places at which nodes are told
+pub record KeepsTold (r : Report) (all : List Told) (place_of : ℕ → Option ℕ) : Type 0 where
+  pub each : (node place : ℕ) → place_of node ≡ Some place → IsToldAt r all node place
 
--- a set is told at a place, and what was told before stays
-pub record IsFound {I : Type 0} (sets : Sets I) (r : Report) (before after : List Told) (place_of : I → Option ℕ) (set : List Bool → Bool) (place : ℕ) : Type 0 where
+-- a node is told at a place, and what was told before stays
+pub record IsFound (r : Report) (before after : List Told) (place_of : ℕ → Option ℕ) (node place : ℕ) : Type 0 where
   pub more : List Told
   pub grows : after ≡ before ++ more
-  pub keeps : KeepsTold sets r after place_of
-  pub there : IsToldAt r after set place
+  pub keeps : KeepsTold r after place_of
+  pub there : IsToldAt r after node place

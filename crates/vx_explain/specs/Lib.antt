@@ -6,4 +6,3 @@ pub mod Read
 pub mod Rules
 pub mod Scopes
 pub mod Text
-pub mod Topics

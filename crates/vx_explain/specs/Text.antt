@@ -1,4 +1,4 @@
--- The text of explanations: a head, for each end and each line that is printed its title, and behind lines that follow one another under one set their rule and an example, and a last line.
+-- The text of explanations: a head, for each piece and each end a line with its title, and behind those that follow one another under one node its rule and its example, and a last line.
 use Rattle.std.specs.Prelude.{ℕ, Bool, true, false, ◌&&◌, List, [], ◌∷◌, ◌++◌, Option, Some, None, codes, decimal, nat_eq, slice_get, if◌then◌else◌}
 use Rattle.std.specs.List.{flat_map}
 use Rattle.vx_list.specs.Places.{item_or}
@@ -53,36 +53,32 @@ abbrev pub spelled_rule : List (List ℕ) → Rule → List ℕ
 spelled_rule names (AnyOf terms) = rule_text names terms
 spelled_rule names (NoneOf terms) = denials_text names terms
 
--- the rule, or the node where there is no short one, or a dash where no node holds the set either
-abbrev pub node_text : Option ℕ → List ℕ
-node_text None = codes "-"
-node_text (Some node) = codes "node " ++ decimal node
-
-abbrev pub when_text : List (List ℕ) → Option ℕ → Option Rule → List ℕ
-when_text names node None = node_text node
+-- the rule, or the node where there is no short one
+abbrev pub when_text : List (List ℕ) → ℕ → Option Rule → List ℕ
+when_text names node None = codes "node " ++ decimal node
 when_text names node (Some rule) = spelled_rule names rule
 
 abbrev pub example_text : List (List ℕ) → Option (List Bool) → List ℕ
 example_text names None = []
 example_text names (Some c) = codes "example " ++ configuration_text names c ++ codes "\n"
 
--- what is told of a set
-unfoldable pub told_text : List (List ℕ) → Option Told → List ℕ
-told_text names None = []
-told_text names (Some t) = codes "when " ++ when_text names t.node t.rule ++ codes "\n" ++ example_text names t.example
+-- what is told of a node
+unfoldable pub told_text : List (List ℕ) → ℕ → Option Told → List ℕ
+told_text names node None = []
+told_text names node (Some t) = codes "when " ++ when_text names node t.rule ++ codes "\n" ++ example_text names t.example
 
--- a line is followed by one of which the same is told
+-- a piece is followed by one under the same node
 unfoldable pub goes_on : Explained → List Explained → Bool
 goes_on e [] = false
-goes_on e (next ∷ later) = (e.line && next.line) && nat_eq e.place next.place
+goes_on e (next ∷ later) = (e.subject.piece && next.subject.piece) && nat_eq e.subject.node next.subject.node
 
--- what is told behind a title: nothing where another one with the same follows
+-- what is told behind a title: nothing where another one under the same node follows
 unfoldable pub told_behind : List Told → Bool → ℕ → Option Told
 told_behind told follows place = if follows then None else slice_get told place
 
--- a title, and behind the last title of lines that follow one another under one set what is told of them
+-- a title, and behind the last title of pieces that follow one another under one node what is told of it
 abbrev pub explained_text : List (List ℕ) → List Told → Explained → List Explained → List ℕ
-explained_text names told e later = e.title ++ codes "\n" ++ told_text names (told_behind told (goes_on e later) e.place)
+explained_text names told e later = e.subject.title ++ codes "\n" ++ told_text names e.subject.node (told_behind told (goes_on e later) e.place)
 
 abbrev pub all_text : List (List ℕ) → List Told → List Explained → List ℕ
 all_text names told [] = []

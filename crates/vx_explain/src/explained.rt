@@ -1,26 +1,26 @@
-//! Each end of a report and each line that it prints, with its rule and an example.
+//! Each piece and each end of a report with its rule and an example.
 
-ghost use Rattle.std.specs.Prelude.{◌≡◌, IfOk, IfSome, length};
+ghost use Rattle.std.specs.Prelude.{◌≡◌, IfOk, length};
 ghost use Rattle.std.specs.BTreeMap.{IsEmpty, get};
-ghost use Rattle.vx_space.specs.Sets.{Extends, IsKnown, IsSet};
+ghost use Rattle.std.specs.Ordering.{nat_cmp};
+ghost use Rattle.vx_space.specs.Sets.{Extends, IsSet};
 ghost use Rattle.vx_bdd_tools.specs.Listing.{AreSetsOf};
 ghost use Rattle.vx_report_reader.specs.Lawful.{IsLawful};
 ghost use Rattle.vx_cover.specs.Covers.{has_end};
-ghost use Rattle.vx_explain.specs.Explanations.{AreExplained, AreExplainedOf, IsFound, IsPlaceOf, IsTold, KeepsTold};
-ghost use Rattle.vx_explain.specs.Topics.{AreKnownTopics, topics_in};
+ghost use Rattle.vx_explain.specs.Explanations.{AreExplained, AreExplainedOf, IsFound, IsTold, KeepsTold, subjects_asked};
 
 use crate::candidates::rule_within;
 use crate::rule::Rule;
-use crate::topic::{Topic, topics_asked};
 use std::alloc::{AllocError, Global};
 use std::collections::BTreeMap;
-use vx_bdd_tools::{one_of, sets_of};
+use vx_bdd_tools::{one_of, set_of, sets_of};
 use vx_cover::ended;
+use vx_picture::subject::end_subjects;
+use vx_picture::{Subject, subjects};
 use vx_report::Report;
 use vx_space::{Config, Space, SpaceFault};
-use vx_value::Name;
 
-/// What is asked for: ends and lines, or ends alone.
+/// Which pieces and ends are asked for.
 #[derive(Clone, Copy)]
 pub enum Asked {
     Everything,
@@ -34,160 +34,136 @@ pub struct Told {
     pub rule: Option<Rule>,
     /// A configuration that has it and an end, with a value for each option; none where there is none.
     pub example: Option<Config>,
-    /// Where there is no rule, the number of a node that holds just the configurations that have it, if there is one.
-    pub node: Option<u64>,
 }
 
-/// The title of an end or of a line, and the place of what is told of it.
+/// A piece or an end of a report, and the place of what is told of it.
 #[derive(Drop)]
 pub struct Explained {
-    pub title: Name,
-    pub line: bool,
+    pub subject: Subject,
     pub place: usize,
 }
 
-/// What is told of ends and lines, once for each set.
+/// What is told of pieces and ends, once for each node.
 #[derive(Drop)]
 pub struct Explanation {
     pub told: Vec<Told>,
     pub explained: Vec<Explained>,
 }
 
-/// The number of a node whose set is this one.
-fn number_of<S: Space>(sets: &[S::Id], set: S::Id) -> Option<u64>
-    ensures { IfSome result (IsPlaceOf sets.now set) }
-{
-    for place in 0..sets.len() {
-        if sets[place] == set {
-            return Some(place as u64);
-        }
-    }
-    None
+/// What was told so far, and at which place of each node.
+#[derive(Drop)]
+struct Known {
+    pub told: Vec<Told>,
+    pub places: BTreeMap<u64, usize>,
 }
 
-/// The number of a node that holds just a set, where there is no rule.
-fn node_of<S: Space>(sets: &[S::Id], rule: &Option<Rule>, set: S::Id) -> Option<u64>
-    ensures { IfSome result (IsPlaceOf sets.now set) }
+/// Nothing is told yet.
+fn nothing_known(alloc: Global) -> Known
+    ensures { IsEmpty result.places }
 {
-    if rule.is_some() {
-        return None;
+    Known {
+        told: Vec::new(alloc),
+        places: BTreeMap::new(alloc),
     }
-    number_of::<S>(sets, set)
 }
 
-/// What is told of a set, among the configurations of a scope: those that have an end.
-fn tell_set<S: Space>(
+/// What is told of a node of a report, among the configurations of a scope: those that have an end.
+fn tell_node<S: Space>(
     alloc: Global,
     space: &mut S,
     report: &Report,
     sets: &[S::Id],
     scope: S::Id,
-    set: S::Id,
+    node: u64,
 ) -> Result<Told, SpaceFault>
     requires sets { AreSetsOf (S.sets space.old) report.now.nodes sets.now }
     requires options { length report.now.options ≡ (S.sets space.old).options }
     requires scope { IsSet (S.sets space.old) scope (has_end report.now) }
-    requires set { IsKnown (S.sets space.old) set }
     ensures extends { Extends (S.sets space.old) (S.sets space.new) }
-    ensures told { IfOk result (IsTold report.now ((S.sets space.old).test set)) }
+    ensures told { IfOk result (IsTold report.now node) }
 {
+    let set = set_of(space, sets, node);
     let both = space.and(set, scope)?;
     let example = one_of(alloc, space, both)?;
     let rule = rule_within(alloc, space, set, scope)?;
-    let node = node_of::<S>(sets, &rule, set);
-    Ok(Told {
-        rule,
-        example,
-        node,
-    })
+    Ok(Told { rule, example })
 }
 
-/// The place of what is told of a set, which is told where it isn't yet.
+/// The place of what is told of a node, which is told where it isn't yet.
 fn place_of<S: Space>(
     alloc: Global,
     space: &mut S,
-    told: &mut Vec<Told>,
-    places: &mut BTreeMap<S::Id, usize>,
+    known: &mut Known,
     report: &Report,
     sets: &[S::Id],
     scope: S::Id,
-    set: S::Id,
+    node: u64,
 ) -> Result<usize, SpaceFault>
     requires sets { AreSetsOf (S.sets space.old) report.now.nodes sets.now }
     requires options { length report.now.options ≡ (S.sets space.old).options }
     requires scope { IsSet (S.sets space.old) scope (has_end report.now) }
-    requires set { IsKnown (S.sets space.old) set }
-    requires known { KeepsTold (S.sets space.old) report.now told.old.items (get S.Id.cmp places.old) }
+    requires known { KeepsTold report.now known.old.told.items (get nat_cmp known.old.places) }
     ensures extends { Extends (S.sets space.old) (S.sets space.new) }
-    ensures place { IfOk result (IsFound (S.sets space.new) report.now told.old.items told.new.items (get S.Id.cmp places.new) ((S.sets space.old).test set)) }
+    ensures place { IfOk result (IsFound report.now known.old.told.items known.new.told.items (get nat_cmp known.new.places) node) }
 {
-    if let Some(place) = places.get(&set) {
+    if let Some(place) = known.places.get(&node) {
         return Ok(*place);
     }
-    let new = tell_set(alloc, space, report, sets, scope, set)?;
-    let place = told.len();
-    told.push(new)?;
-    places.insert(set, place)?;
+    let told = tell_node(alloc, space, report, sets, scope, node)?;
+    let place = known.told.len();
+    known.told.push(told)?;
+    known.places.insert(node, place)?;
     Ok(place)
 }
 
-/// A topic with the place of what is told of it.
-fn explained_at<I: Copy>(
-    alloc: Global,
-    topic: &Topic<I>,
-    place: usize,
-) -> Result<Explained, AllocError>
-    ensures title { IfOk result (λ e. e.title ≡ topic.now.title) }
-    ensures line { IfOk result (λ e. e.line ≡ topic.now.line) }
-    ensures place { IfOk result (λ e. e.place ≡ place) }
-{
-    let title = Name::of(alloc, topic.title.bytes())?;
-    Ok(Explained {
-        title,
-        line: topic.line,
-        place,
-    })
-}
-
-/// What is told of topics among the configurations of a scope.
+/// What is told of pieces and ends among the configurations of a scope.
 fn all_explained<S: Space>(
     alloc: Global,
     space: &mut S,
     report: &Report,
     sets: &[S::Id],
     scope: S::Id,
-    topics: &[Topic<S::Id>],
+    subjects: &[Subject],
 ) -> Result<Explanation, SpaceFault>
     requires sets { AreSetsOf (S.sets space.old) report.now.nodes sets.now }
     requires options { length report.now.options ≡ (S.sets space.old).options }
     requires scope { IsSet (S.sets space.old) scope (has_end report.now) }
-    requires topics { AreKnownTopics (S.sets space.old) topics.now }
     ensures extends { Extends (S.sets space.old) (S.sets space.new) }
-    ensures explained { IfOk result (AreExplainedOf report.now (topics_in (S.sets space.old) topics.now)) }
+    ensures explained { IfOk result (AreExplainedOf report.now subjects.now) }
 {
-    let mut told = Vec::new(alloc);
-    let mut places = BTreeMap::new(alloc);
+    let mut known = nothing_known(alloc);
     let mut explained = Vec::new(alloc);
-    for topic in topics {
-        let place = place_of(
-            alloc,
-            space,
-            &mut told,
-            &mut places,
-            report,
-            sets,
-            scope,
-            topic.set,
-        )?;
-        explained.push(explained_at(alloc, topic, place)?)?;
+    for subject in subjects {
+        let place = place_of(alloc, space, &mut known, report, sets, scope, subject.node)?;
+        explained.push(explained_at(alloc, subject, place)?)?;
     }
+    let Known { told, places: _ } = known;
     Ok(Explanation { told, explained })
 }
 
-/// The ends of a report that are not `return`, then `return`, then the lines that configurations print on `out` and on `err`, where they are
-/// asked for, each with a rule that is true just where the configuration has it, among those that have an end, and with one configuration
-/// that has it and an end, where there is one. The rule is that of `rule_within` among these configurations, so it speaks as little as this
-/// allows of what the model forbids; it is made once for each set.
+/// A piece or an end with the place of what is told of it.
+fn explained_at(alloc: Global, subject: &Subject, place: usize) -> Result<Explained, AllocError>
+    ensures subject { IfOk result (λ e. e.subject ≡ subject.now) }
+    ensures place { IfOk result (λ e. e.place ≡ place) }
+{
+    let subject = subject.copied(alloc)?;
+    Ok(Explained { subject, place })
+}
+
+/// The pieces and ends that are asked for.
+fn subjects_asked(alloc: Global, report: &Report, asked: Asked) -> Result<Vec<Subject>, AllocError>
+    ensures { IfOk result (λ found. found.items ≡ subjects_asked asked report.now) }
+{
+    match asked {
+        Asked::Everything => subjects(alloc, report),
+        Asked::Ends => end_subjects(alloc, report),
+    }
+}
+
+/// The ends of a report that are not `return`, then `return`, then the pieces where they are asked for, each with a rule that is true
+/// just where the configuration has it, among those that have an end, and with one configuration that has it and an end, where there is
+/// one. The rule is that of `rule_within` among these configurations, so it speaks as little as this allows of what the model forbids; it is
+/// made once for each node.
 pub fn explain<S: Space>(
     alloc: Global,
     space: &mut S,
@@ -200,14 +176,14 @@ pub fn explain<S: Space>(
     ensures explained { IfOk result (AreExplained asked report.now) }
 {
     let sets = sets_of(alloc, space, report.nodes.as_slice())?;
+    let subjects = subjects_asked(alloc, report, asked)?;
     let scope = ended(space, report, sets.as_slice())?;
-    let topics = topics_asked(alloc, space, report, sets.as_slice(), scope, asked)?;
     all_explained(
         alloc,
         space,
         report,
         sets.as_slice(),
         scope,
-        topics.as_slice(),
+        subjects.as_slice(),
     )
 }

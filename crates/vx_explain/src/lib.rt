@@ -1,4 +1,4 @@
-//! Explanations: for each end of a report and each line that it prints the rule under which a configuration has it, and one that does.
+//! Explanations: for each piece and each end of a report the rule under which a configuration has it, and one that does.
 #![tactic(auto)]
 
 pub mod candidates;
@@ -11,7 +11,6 @@ pub mod parts;
 pub mod rule;
 pub mod terms;
 pub mod text;
-pub mod topic;
 
 pub use candidates::rule_within;
 pub use explained::{Asked, Explained, Explanation, Told, explain};

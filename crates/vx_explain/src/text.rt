@@ -1,7 +1,7 @@
 //! The text of explanations.
 
 ghost use Rattle.std.specs.Prelude.{◌≡◌, ◌++◌, ◌≤◌, ◌<◌, ◌^◌, IfOk, OnErr, OnOk, length, option_copied};
-ghost use Rattle.vx_explain.specs.Text.{all_text, denial_text, denials_text, example_text, explained_text, explanation_text, goes_on, literal_text, mark, node_text, rule_text, spelled_rule, term_text, told_behind, told_text, when_text};
+ghost use Rattle.vx_explain.specs.Text.{all_text, denial_text, denials_text, example_text, explained_text, explanation_text, goes_on, literal_text, mark, rule_text, spelled_rule, term_text, told_behind, told_text, when_text};
 
 use crate::explained::{Explained, Explanation, Told};
 use crate::literal::{Literal, Term};
@@ -113,31 +113,21 @@ pub fn put_rule(out: &mut Vec<u8>, names: &[Name], rule: &Rule) -> Result<(), Al
     }
 }
 
-/// Puts the number of a node, or a dash.
-fn put_node(out: &mut Vec<u8>, node: Option<u64>) -> Result<(), AllocError>
-    ensures { OnOk result (out.new.items ≡ out.old.items ++ node_text node) }
-{
-    match node {
-        None => out.extend_from_slice(b"-"),
-        Some(node) => {
-            out.extend_from_slice(b"node ")?;
-            put_number(out, node)
-        }
-    }
-}
-
 /// Puts the rule, or the node where there is no short one.
 fn put_when(
     out: &mut Vec<u8>,
     names: &[Name],
-    node: Option<u64>,
+    node: u64,
     rule: &Option<Rule>,
 ) -> Result<(), AllocError>
     ensures { OnOk result (out.new.items ≡ out.old.items ++ when_text names.now node rule.now) }
 {
     match rule {
         Some(rule) => put_rule(out, names, rule),
-        None => put_node(out, node),
+        None => {
+            out.extend_from_slice(b"node ")?;
+            put_number(out, node)
+        }
     }
 }
 
@@ -159,27 +149,28 @@ fn put_example(
     out.extend_from_slice(b"\n")
 }
 
-/// Puts what is told of a set.
+/// Puts what is told of a node.
 #[tactic(auto, unfolding(crate::specs::Text::told_text))]
 fn put_told(
     alloc: Global,
     out: &mut Vec<u8>,
     names: &[Name],
+    node: u64,
     told: Option<&Told>,
 ) -> Result<(), AllocError>
     requires { length names.now < 2 ^ 32 }
-    ensures { OnOk result (out.new.items ≡ out.old.items ++ told_text names.now (option_copied told.entry)) }
+    ensures { OnOk result (out.new.items ≡ out.old.items ++ told_text names.now node (option_copied told.entry)) }
 {
     let Some(told) = told else {
         return Ok(());
     };
     out.extend_from_slice(b"when ")?;
-    put_when(out, names, told.node, &told.rule)?;
+    put_when(out, names, node, &told.rule)?;
     out.extend_from_slice(b"\n")?;
     put_example(alloc, out, names, &told.example)
 }
 
-/// Whether a line is followed by one of which the same is told.
+/// Whether a piece is followed by one under the same node.
 #[tactic(auto, unfolding(crate::specs::Text::goes_on))]
 fn goes_on(explained: &Explained, later: &[Explained]) -> bool
     ensures { result ≡ goes_on explained.now later.now }
@@ -187,7 +178,7 @@ fn goes_on(explained: &Explained, later: &[Explained]) -> bool
     let Some((next, _)) = later.split_first() else {
         return false;
     };
-    explained.line && next.line && explained.place == next.place
+    explained.subject.piece && next.subject.piece && explained.subject.node == next.subject.node
 }
 
 /// What is told behind the title of a piece or an end: nothing where another one under the same node follows.
@@ -213,12 +204,13 @@ fn put_explained(
     requires { length names.now < 2 ^ 32 }
     ensures { OnOk result (out.new.items ≡ out.old.items ++ explained_text names.now told.now explained.now later.now) }
 {
-    out.extend_from_slice(explained.title.bytes())?;
+    out.extend_from_slice(explained.subject.title.bytes())?;
     out.extend_from_slice(b"\n")?;
     put_told(
         alloc,
         out,
         names,
+        explained.subject.node,
         told_behind(told, goes_on(explained, later), explained.place),
     )
 }

@@ -1,4 +1,8 @@
 mod Quiet
+mod QuietTexts
+mod QuietLibrary
+mod QuietNatives
+mod QuietRows
 mod Receivers
 mod Rows
 mod Runs

@@ -1,3 +1,5 @@
+pub mod Forms
+pub mod Rules
 pub mod Pools
 pub mod Operations
 pub mod NamedFiles

@@ -22,7 +22,7 @@ const CASES: [(&str, &str); 6] = [
     ),
     (
         ODD,
-        "varexj explain 2\nend exit 3\nwhen B\nexample A,B\nend return\nwhen true\nexample A\nerr 2 61 012345678901234567890123456789012345678901234567890123456789\nwhen B\nexample A,B\ndone\n",
+        "varexj explain 2\nend exit 3\nwhen B\nexample A,B\nend return\nwhen true\nexample A\nout 1 4 a\\0a\nwhen false\nerr 2 61 012345678901234567890123456789012345678901234567890123456789\nwhen B\nexample A,B\ndone\n",
     ),
     (
         PARITY,
@@ -34,7 +34,7 @@ const CASES: [(&str, &str); 6] = [
     ),
     (
         TICKET,
-        "varexj explain 2\nend exit 3\nwhen S & G & C\nexample S,G,C,R\nend return\nwhen !S | !G | !C\nexample -\nout 1..3 8 thankend\nwhen R & !(S & G & C)\nexample R\nout 3 3 end\nwhen S & G & C\nexample S,G,C,R\nerr 2 3 you\nwhen R & !(S & G & C)\nexample R\ndone\n",
+        "varexj explain 2\nend exit 3\nwhen S & G & C\nexample S,G,C,R\nend return\nwhen !S | !G | !C\nexample -\nout 1 5 thank\nerr 2 3 you\nwhen R & !(S & G & C)\nexample R\nout 3 3 end\nwhen R\nexample R\ndone\n",
     ),
 ];
 

@@ -12,6 +12,4 @@ mod explain;
 #[cfg(test)]
 mod picture;
 #[cfg(test)]
-mod prints;
-#[cfg(test)]
 mod reports;

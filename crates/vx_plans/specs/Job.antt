@@ -19,7 +19,6 @@ use Rattle.vx_model.specs.Text.{BadLine, slash}
 use Rattle.vx_model.specs.Text as text
 use Rattle.vx_people.specs.Tellings.{IsToldText}
 use Rattle.vx_people.specs.declared.telling.Telling.{Telling}
-use Rattle.vx_prints.specs.Text.{IsPrintsText}
 use Rattle.vx_report.specs.declared.report.Report as read
 use Rattle.vx_reporting.specs.Reported.{IsReported}
 use Rattle.vx_lines.specs.declared.table.LineTable.{LineTable}
@@ -80,11 +79,10 @@ program_in main model classes = or_bad_link (linked_program classes model.option
 abbrev pub IsNoProgram : (main : List ℕ) → Model → List ClassFile → Status → Type 0
 IsNoProgram main model classes status = (status ≡ NoMemory) ⊎ (program_in main model classes ≡ Err status)
 
--- what a command makes: the report of a program's runs, of a version, with a model's options and the limit on attempts; what is told of a report; where a report prints a text; where two reports agree; the join of several reports; the summary of the workload of a seed and a number of options; the verdict over a program; the parts of a model's text by chosen options; whether the configurations of a report end as is expected; where two reports differ; what is told of a model and of class files that link under it to a program; or these bytes
+-- what a command makes: the report of a program's runs, of a version, with a model's options and the limit on attempts; what is told of a report; where two reports agree; the join of several reports; the summary of the workload of a seed and a number of options; the verdict over a program; the parts of a model's text by chosen options; whether the configurations of a report end as is expected; where two reports differ; what is told of a model and of class files that link under it to a program; or these bytes
 pub data Product : Type 0 where
   Report : (version : ℕ) (model : Model) (limit : ℕ) (program : Program) → Product
   Told : (telling : Telling) (report : read.Report) → Product
-  Prints : (text : List ℕ) (report : read.Report) → Product
   Agreement : (one other : read.Report) → Product
   Join : (reports : List read.Report) → Product
   Summary : (seed options : ℕ) → Product
@@ -99,7 +97,6 @@ pub data Product : Type 0 where
 abbrev pub IsTextOf : Product → List ℕ → Type 0
 IsTextOf (Report version model limit program) bytes = IsReported version (names_of model) limit (is_allowed model) program bytes
 IsTextOf (Told telling report) bytes = IsToldText telling report bytes
-IsTextOf (Prints text report) bytes = IsPrintsText text report bytes
 IsTextOf (Agreement one other) bytes = IsAgreementText one other bytes
 IsTextOf (Join reports) bytes = IsJoinedText reports bytes
 IsTextOf (Summary seed options) bytes = IsSummary seed options bytes

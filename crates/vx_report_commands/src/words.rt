@@ -25,13 +25,6 @@ pub struct TellWords<'a> {
     pub report: &'a str,
 }
 
-/// The words of `explain` with a text: a report, and the word that asks for the text.
-#[derive(Clone, Copy)]
-pub struct PrintsWords<'a> {
-    pub report: &'a str,
-    pub text: &'a str,
-}
-
 /// The words of `agree`: a report, and another one.
 #[derive(Clone, Copy)]
 pub struct AgreeWords<'a> {

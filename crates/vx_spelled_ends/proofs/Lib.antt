@@ -1,7 +1,9 @@
 pub mod Tests
 pub mod Positions
-pub mod Sites
-pub mod Names
+pub mod Leads
+pub mod Outcomes
+pub mod Rows
+pub mod Natives
 pub mod Throws
 pub mod Runs
 pub mod Reports

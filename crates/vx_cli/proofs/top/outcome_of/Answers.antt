@@ -52,9 +52,6 @@ returns-in-Retell-clause-given g c = rw (c.said-in-Retell.ensures, c.in-Retell.i
 pub returns-in-Cut-clause-given : goal.returns-in-Cut-clause-given
 returns-in-Cut-clause-given g c = rw (c.said-in-Cut.ensures, c.in-Cut.is) (given_of _ _ _ _ c.cutting.ensures.ok c.cutting.ensures.err)
 
-pub returns-in-Prints-clause-given : goal.returns-in-Prints-clause-given
-returns-in-Prints-clause-given g c = rw (c.said-in-Prints.ensures, c.in-Prints.is) (given_of _ _ _ _ c.prints_of.ensures.ok c.prints_of.ensures.err)
-
 pub returns-in-Doctor-clause-given : goal.returns-in-Doctor-clause-given
 returns-in-Doctor-clause-given g c = rw c.in-Doctor.is c.doctor_of.ensures.given
 

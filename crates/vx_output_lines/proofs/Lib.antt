@@ -1,5 +1,0 @@
-pub mod Putting
-pub mod Stepping
-pub mod Taken
-pub mod Telling
-pub mod Texts

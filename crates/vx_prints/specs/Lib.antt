@@ -1,5 +1,0 @@
-pub mod Matched
-pub mod Printing
-pub mod Prints
-pub mod Text
-pub mod Word
