@@ -4,10 +4,9 @@ use Rattle.vx_java.specs.Machine.{Frame, Here, Native, Outcome, State, Value}
 use Rattle.vx_java.specs.Returns.{fits_caller, return_to}
 use Rattle.vx_java.specs.Row.{row_of}
 use Rattle.vx_java.specs.declared.operation.Operation.{Operation}
-use Rattle.vx_java.specs.declared.operation.Operation.TheVariants.{SwitchLookup, SwitchTable}
 use Rattle.vx_kept_facts.proofs.Claims.{Claim, chosen}
 use Rattle.vx_kept_facts.proofs.Operations.{operation_comes}
-use Rattle.vx_kept_facts.proofs.RowClaims.{JumpsLead, RowClaim}
+use Rattle.vx_kept_facts.proofs.RowClaims.{RowClaim, anything, anywhere}
 use Rattle.vx_value.specs.declared.key.Kind.{Kind}
 use Rattle.vx_value.specs.declared.key.Kind.TheVariants.{Call}
 
@@ -24,7 +23,8 @@ module _ (s : State) where
     passes = λ h at. tt;
     writes = λ h at. tt;
     raises = λ h at name among. tt;
-    ends = λ h. tt;
+    breaks = λ h. tt;
+    exits = λ h code. tt;
   }
 
   return_stays : (h : Here) (kind : Kind) (value : List Value) (callers : List Frame) → StaysIn s (return_to h kind value callers)
@@ -36,20 +36,17 @@ module _ (s : State) where
   rows_stay = record {
     claim = stays;
     Lands = λ h offset. Unit {0};
+    Begins = λ c. Unit {0};
+    Lacks = λ word what. Unit {0};
     jumps = λ h at offset operands lands. tt;
     throws = λ h at r is. tt;
-    begins = λ h at c. tt;
+    begins = λ h at c may. tt;
+    lacks = λ h at word what may. tt;
     natives = λ h at m. at;
     enters = λ h at m code is values rest. tt;
     returns = λ h at kind value. return_stays h kind value h.state.callers;
     ready = λ h at chain. at;
   }
 
--- a jump may lead anywhere
-anywhere : (h : Here) (o : Operation) → JumpsLead (λ h offset. Unit {0}) h o
-anywhere h (SwitchTable fallback low high first) = (tt, λ k less. tt)
-anywhere h (SwitchLookup fallback pairs first) = (tt, λ k less. tt)
-anywhere h _ = tt
-
 pub row_stays : (h : Here) (o : Operation) → StaysIn h.state (row_of h o h.state.top.operands)
-row_stays h o = operation_comes (rows_stay h.state) h refl o (anywhere h o) h.state.top.operands
+row_stays h o = operation_comes (rows_stay h.state) h refl o (anywhere h o) (anything (rows_stay h.state) (λ word what. tt) (λ c. tt) h.pool o) h.state.top.operands

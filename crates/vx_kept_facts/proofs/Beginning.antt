@@ -2,18 +2,18 @@
 use Rattle.vx_link.specs.ClassNames.{core_class}
 use Prim.Native.String.{String}
 use Rattle.std.proofs.lemmas.List.Sums.{take_while-cons}
-use Rattle.std.proofs.Common.{Bool, List, None, Option, Some, [], ap, arith, cond, false, is_some, length, map, refl, reverse, suc, true, zero, ℕ, ◌<◌, ◌∙◌, ◌∷◌, ◌≡◌}
+use Rattle.std.proofs.Common.{Bool, List, None, [], ap, arith, cond, false, is_some, length, map, refl, reverse, suc, true, zero, ℕ, ◌<◌, ◌∙◌, ◌∷◌, ◌≡◌}
 use Rattle.std.proofs.lemmas.Bool.{or_left}
 use Rattle.std.proofs.lemmas.List.{reverse-append}
 use Rattle.std.proofs.lemmas.List.Folds.{list_all-append, list_all-map}
 use Rattle.std.specs.Cmp.Derive.{both_true}
 use Rattle.std.specs.List.{list_all, take_while}
 use Rattle.vx_pool.specs.Holding.{and_true}
-use Rattle.vx_java.specs.Initialisation.{begin, begin_chain, begin_free, chain_blocked, init_chain, init_frame, is_not, pushed_chain, with_frames}
-use Rattle.vx_java.specs.Machine.{Go, Raise, State, init_at, with_inits}
+use Rattle.vx_java.specs.Initialisation.{begin, init_chain, init_frame, is_not, pushed_chain, with_frames}
+use Rattle.vx_java.specs.Machine.{Raise, State, init_at, with_inits}
 use Rattle.vx_kept_facts.proofs.KeptRows.{begins}
-use Rattle.vx_kept_facts.proofs.Claims.{chosen, is_raised}
-use Rattle.vx_kept_facts.proofs.Sites.{MayCome, StandsAtInstruction, StandsAtPlace, kept, length_inits, throwable}
+use Rattle.vx_kept_facts.proofs.Claims.{begin_comes, is_raised}
+use Rattle.vx_kept_facts.proofs.Sites.{MayCome, StandsAtInstruction, StandsAtPlace, length_inits, throwable}
 use Rattle.vx_kept_facts.specs.Kept.{is_at_instruction, is_code_end, is_instruction}
 use Rattle.vx_kept_facts.specs.Law.{IsRunnable}
 use Rattle.vx_link.specs.Hierarchy.{superclasses}
@@ -28,7 +28,7 @@ use Rattle.vx_value.specs.declared.slot.InitState.TheVariants.{Failed, Running}
 -- ---- lists
 
 -- what holds of all that pass holds of those that are taken
-taken_pass : {A : Type 0} (given test : A → Bool) → ((x : A) → given x ≡ true → test x ≡ true) → (xs : List A) → list_all test (take_while given xs) ≡ true
+pub taken_pass : {A : Type 0} (given test : A → Bool) → ((x : A) → given x ≡ true → test x ≡ true) → (xs : List A) → list_all test (take_while given xs) ≡ true
 taken_pass given test law [] = refl
 taken_pass given test law (x ∷ xs) = ap (list_all test) (take_while-cons given x xs) ∙ by (given x) refl (taken_pass given test law xs)
   where
@@ -43,7 +43,7 @@ abbrev is_beginning : Program → ℕ → Bool
 is_beginning p c = is_instruction (method_at p (class_at p c).initialiser.0).code 0
 
 -- a class whose state is Not is there
-is_there : (inits : List InitState) (classes : List LinkedClass) (c : ℕ) → length inits ≡ length classes → is_not (init_at inits c) ≡ true → c < length classes
+pub is_there : (inits : List InitState) (classes : List LinkedClass) (c : ℕ) → length inits ≡ length classes → is_not (init_at inits c) ≡ true → c < length classes
 is_there [] classes c same is = cc
 is_there (i ∷ inits) [] c same is = absurd (omega (arith, same))
 is_there (i ∷ inits) (class ∷ classes) zero same is = omega arith
@@ -51,7 +51,7 @@ is_there (i ∷ inits) (class ∷ classes) (suc c) same is =
     let less = is_there inits classes c (omega (arith, same)) is in
     omega (arith, less)
 
-has_initialiser : (p : Program) (classes : List LinkedClass) (c : ℕ) → list_all (λ c. is_some (method_at p c.initialiser.0).code) classes ≡ true → c < length classes
+pub has_initialiser : (p : Program) (classes : List LinkedClass) (c : ℕ) → list_all (λ c. is_some (method_at p c.initialiser.0).code) classes ≡ true → c < length classes
     → is_some (method_at p (item_or classes c no_class).initialiser.0).code ≡ true
 has_initialiser p [] c all less = absurd (omega (arith, less))
 has_initialiser p (class ∷ classes) zero all less = (and_true _ _ all).0
@@ -65,7 +65,7 @@ chain_begins : (p : Program) → IsRunnable p → (inits : List InitState) → l
 chain_begins p whole inits same c =
     taken_pass (λ d. is_not (init_at inits d)) (is_beginning p) (class_begins p whole inits same) (superclasses p c)
 
-reversed_pass : {A : Type 0} (test : A → Bool) (xs : List A) → list_all test xs ≡ true → list_all test (reverse xs) ≡ true
+pub reversed_pass : {A : Type 0} (test : A → Bool) (xs : List A) → list_all test xs ≡ true → list_all test (reverse xs) ≡ true
 reversed_pass test [] all = refl
 reversed_pass test (x ∷ xs) all =
     ap (list_all test) (reverse-append (x ∷ []) xs) ∙ list_all-append test (reverse xs) (x ∷ [])
@@ -105,17 +105,9 @@ pushed_stands p whole s stands c =
 raises_in : (p : Program) → IsRunnable p → (s : State) → StandsAtInstruction p s → (name : String) → is_raised name ≡ true → MayCome p (Raise (core_class p name) None s)
 raises_in p whole s stands name among = record { leaves = (throwable p whole name among, stands) }
 
-pushes : (p : Program) → IsRunnable p → (s : State) → StandsAtInstruction p s → (c : ℕ) → MayCome p (Go (pushed_chain p s (init_chain p s.inits c)))
-pushes p whole s stands c = record { leaves = pushed_stands p whole s stands c }
-
-free_comes : (p : Program) → IsRunnable p → (s : State) → StandsAtInstruction p s → (c : ℕ) → MayCome p (begin_free p s c (init_chain p s.inits c))
-free_comes p whole s stands c =
-    chosen kept p _ _ _ (raises_in p whole (with_inits s Failed (init_chain p s.inits c)) (marked p s stands Failed (init_chain p s.inits c)) "java/lang/NoClassDefFoundError" refl)
-    (chosen kept p _ _ _ (raises_in p whole s stands "java/lang/StackOverflowError" refl) (pushes p whole s stands c))
-
-pub begin_comes : (p : Program) → IsRunnable p → (s : State) → StandsAtInstruction p s → (c : ℕ) → MayCome p (begin p s c)
-begin_comes p whole s stands c = by (chain_blocked p (init_chain p s.inits c))
-  where
-    by : (blocking : Option ℕ) → MayCome p (begin_chain p s c (init_chain p s.inits c) blocking)
-    by None = free_comes p whole s stands c
-    by (Some i) = record { leaves = tt }
+pub begin_stands : (p : Program) → IsRunnable p → (s : State) → StandsAtInstruction p s → (c : ℕ) → MayCome p (begin p s c)
+begin_stands p whole s stands c =
+    begin_comes (MayCome p) p s c (λ i is. record { leaves = tt })
+    (raises_in p whole (with_inits s Failed (init_chain p s.inits c)) (marked p s stands Failed (init_chain p s.inits c)) "java/lang/NoClassDefFoundError" refl)
+    (raises_in p whole s stands "java/lang/StackOverflowError" refl)
+    (record { leaves = pushed_stands p whole s stands c })

@@ -14,7 +14,7 @@ use Rattle.vx_list.specs.Places.{item_or}
 use Rattle.vx_opcode.specs.Decode.{instruction_at}
 use Rattle.vx_opcode.specs.declared.instruction.Instruction.{Instruction}
 use Rattle.vx_value.specs.declared.key.Kind.{Kind}
-use Rattle.vx_value.specs.declared.key.Kind.TheVariants.{Call, Init, Wait}
+use Rattle.vx_value.specs.declared.key.Kind.TheVariants.{Call}
 use Rattle.vx_value.specs.declared.slot.InitState.TheVariants.{Done}
 use Rattle.vx_kept_facts.proofs.Claims.{chosen}
 use Rattle.vx_kept_facts.proofs.Places.{first_start, place_behind}
@@ -89,8 +89,7 @@ pub return_to_comes : (h : Here) → AtSite h → (kind : Kind) (value : List Va
     → MayCome h.program (return_to h kind value callers)
 return_to_comes h at kind value [] below = ends h
 return_to_comes h at Call value (f ∷ rest) below = chosen kept h.program _ _ _ (resumed h at f rest value below) (ends h)
-return_to_comes h at Wait value (f ∷ rest) below = record { leaves = again h at f rest below }
-return_to_comes h at Init value (f ∷ rest) below = record { leaves = again h at f rest below }
+return_to_comes h at _ value (f ∷ rest) below = record { leaves = again h at f rest below }
 
 -- ---- rows
 
@@ -98,9 +97,12 @@ abbrev pub kept_rows : RowClaim
 kept_rows = record {
   claim = kept;
   Lands = Lands;
+  Begins = λ c. Unit {0};
+  Lacks = λ word what. Unit {0};
   jumps = λ h at offset operands lands. reaches h at (target h offset) lands;
   throws = λ h at r is. record { leaves = (is, stays h at) };
-  begins = λ h at c. record { leaves = stays h at };
+  begins = λ h at c may. record { leaves = stays h at };
+  lacks = λ h at word what may. ends h;
   natives = λ h at m. record { leaves = stays h at };
   enters = pushes;
   returns = λ h at kind value. return_to_comes h at kind value h.state.callers at.below;

@@ -1,4 +1,6 @@
 pub mod Places
+pub mod Forms
+pub mod Rules
 pub mod Claims
 pub mod RowClaims
 pub mod Sites

@@ -22,11 +22,11 @@ module _ (claim : Claim) where
   array_copy_comes h at (Ref from ∷ Int i ∷ Ref to ∷ Int j ∷ Int count ∷ []) rest =
       chosen claim h.program _ _ _ (no_store h at) (chosen claim h.program _ _ _ (copy_comes h at rest from i to j count) (out_of_bounds h at))
   array_copy_comes h at (a ∷ Int i ∷ b ∷ Int j ∷ Int count ∷ []) rest = null_pointer claim h at
-  array_copy_comes h at _ rest = claim.ends h
+  array_copy_comes h at _ rest = claim.breaks h
 
   pub exit_comes : Comes claim exit
-  exit_comes h at (Int k ∷ []) rest = claim.ends h
-  exit_comes h at _ rest = claim.ends h
+  exit_comes h at (Int k ∷ []) rest = claim.exits h k
+  exit_comes h at _ rest = claim.breaks h
 
   pub line_separator_comes : Comes claim line_separator
   line_separator_comes h at values rest = text_comes claim h at rest (10 ∷ [])
@@ -35,7 +35,7 @@ module _ (claim : Claim) where
 
   pub integer_value_of_comes : Comes claim integer_value_of
   integer_value_of_comes h at (Int n ∷ []) rest = chosen claim h.program _ _ _ (claim.passes h at) (claim.passes h at)
-  integer_value_of_comes h at _ rest = claim.ends h
+  integer_value_of_comes h at _ rest = claim.breaks h
 
   no_number : (h : Here) → claim.At h → claim.May h.program (not_a_number h)
   no_number h at = claim.raises h at "java/lang/NumberFormatException" refl
@@ -50,81 +50,81 @@ module _ (claim : Claim) where
 
   pub integer_to_string_of_comes : Comes claim integer_to_string_of
   integer_to_string_of_comes h at (Int n ∷ []) rest = text_comes claim h at rest _
-  integer_to_string_of_comes h at _ rest = claim.ends h
+  integer_to_string_of_comes h at _ rest = claim.breaks h
 
   pub integer_compare_comes : Comes claim integer_compare
   integer_compare_comes h at (Int a ∷ Int b ∷ []) rest = claim.passes h at
-  integer_compare_comes h at _ rest = claim.ends h
+  integer_compare_comes h at _ rest = claim.breaks h
 
   pub integer_int_value_comes : Comes claim integer_int_value
   integer_int_value_comes h at (Ref r ∷ []) rest = claim.passes h at
-  integer_int_value_comes h at _ rest = claim.ends h
+  integer_int_value_comes h at _ rest = claim.breaks h
 
   pub integer_long_value_comes : Comes claim integer_long_value
   integer_long_value_comes h at (Ref r ∷ []) rest = claim.passes h at
-  integer_long_value_comes h at _ rest = claim.ends h
+  integer_long_value_comes h at _ rest = claim.breaks h
 
   pub integer_to_string_comes : Comes claim integer_to_string
   integer_to_string_comes h at (Ref r ∷ []) rest = text_comes claim h at rest _
-  integer_to_string_comes h at _ rest = claim.ends h
+  integer_to_string_comes h at _ rest = claim.breaks h
 
   pub same_number_comes : Comes claim same_number
   same_number_comes h at (Ref r ∷ Ref s ∷ []) rest = claim.passes h at
   same_number_comes h at (Ref r ∷ Null ∷ []) rest = claim.passes h at
-  same_number_comes h at _ rest = claim.ends h
+  same_number_comes h at _ rest = claim.breaks h
 
   pub compare_numbers_comes : Comes claim compare_numbers
   compare_numbers_comes h at (Ref r ∷ Ref s ∷ []) rest = claim.passes h at
   compare_numbers_comes h at (Ref r ∷ Null ∷ []) rest = null_pointer claim h at
-  compare_numbers_comes h at _ rest = claim.ends h
+  compare_numbers_comes h at _ rest = claim.breaks h
 
   -- ---- Boolean
 
   pub boolean_value_of_comes : Comes claim boolean_value_of
   boolean_value_of_comes h at (Int n ∷ []) rest = claim.passes h at
-  boolean_value_of_comes h at _ rest = claim.ends h
+  boolean_value_of_comes h at _ rest = claim.breaks h
 
   pub boolean_to_string_comes : Comes claim boolean_to_string
   boolean_to_string_comes h at (Ref r ∷ []) rest = text_comes claim h at rest _
-  boolean_to_string_comes h at _ rest = claim.ends h
+  boolean_to_string_comes h at _ rest = claim.breaks h
 
   -- ---- Math
 
   pub absolute_int_comes : Comes claim absolute_int
   absolute_int_comes h at (Int a ∷ []) rest = claim.passes h at
-  absolute_int_comes h at _ rest = claim.ends h
+  absolute_int_comes h at _ rest = claim.breaks h
 
   pub absolute_long_comes : Comes claim absolute_long
   absolute_long_comes h at (Long a ∷ []) rest = claim.passes h at
-  absolute_long_comes h at _ rest = claim.ends h
+  absolute_long_comes h at _ rest = claim.breaks h
 
   pub of_ints_comes : (f : ℤ → ℤ → ℤ) → Comes claim (of_ints f)
   of_ints_comes f h at (Int a ∷ Int b ∷ []) rest = claim.passes h at
-  of_ints_comes f h at _ rest = claim.ends h
+  of_ints_comes f h at _ rest = claim.breaks h
 
   pub of_longs_comes : (f : ℤ → ℤ → ℤ) → Comes claim (of_longs f)
   of_longs_comes f h at (Long a ∷ Long b ∷ []) rest = claim.passes h at
-  of_longs_comes f h at _ rest = claim.ends h
+  of_longs_comes f h at _ rest = claim.breaks h
 
   -- ---- Enum
 
   pub enum_init_comes : Comes claim enum_init
   enum_init_comes h at (Ref r ∷ Ref name ∷ Int ordinal ∷ []) rest = claim.passes h at
   enum_init_comes h at (Ref r ∷ Null ∷ Int ordinal ∷ []) rest = null_pointer claim h at
-  enum_init_comes h at _ rest = claim.ends h
+  enum_init_comes h at _ rest = claim.breaks h
 
   pub first_cell_comes : Comes claim first_cell
   first_cell_comes h at (Ref r ∷ []) rest = claim.passes h at
-  first_cell_comes h at _ rest = claim.ends h
+  first_cell_comes h at _ rest = claim.breaks h
 
   pub second_cell_comes : Comes claim second_cell
   second_cell_comes h at (Ref r ∷ []) rest = claim.passes h at
-  second_cell_comes h at _ rest = claim.ends h
+  second_cell_comes h at _ rest = claim.breaks h
 
   pub enum_compare_comes : Comes claim enum_compare
   enum_compare_comes h at (Ref r ∷ Ref s ∷ []) rest = claim.passes h at
   enum_compare_comes h at (Ref r ∷ Null ∷ []) rest = null_pointer claim h at
-  enum_compare_comes h at _ rest = claim.ends h
+  enum_compare_comes h at _ rest = claim.breaks h
 
   -- ---- Throwable
 
@@ -132,13 +132,13 @@ module _ (claim : Claim) where
   throwable_init_comes h at (Ref r ∷ []) rest = claim.passes h at
   throwable_init_comes h at (Ref r ∷ message ∷ []) rest = claim.passes h at
   throwable_init_comes h at (Ref r ∷ message ∷ cause ∷ []) rest = claim.passes h at
-  throwable_init_comes h at _ rest = claim.ends h
+  throwable_init_comes h at _ rest = claim.breaks h
 
   pub throwable_class_name_comes : Comes claim throwable_class_name
   throwable_class_name_comes h at (Ref r ∷ []) rest = text_comes claim h at rest _
-  throwable_class_name_comes h at _ rest = claim.ends h
+  throwable_class_name_comes h at _ rest = claim.breaks h
 
   pub add_suppressed_comes : Comes claim add_suppressed
   add_suppressed_comes h at (Ref r ∷ Ref s ∷ []) rest = claim.passes h at
   add_suppressed_comes h at (Ref r ∷ Null ∷ []) rest = null_pointer claim h at
-  add_suppressed_comes h at _ rest = claim.ends h
+  add_suppressed_comes h at _ rest = claim.breaks h

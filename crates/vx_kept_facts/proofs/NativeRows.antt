@@ -60,12 +60,12 @@ module _ (claim : Claim) where
   all_known = refl
 
   known_at : (known : List (Known claim)) (n : ℕ) → Comes claim (unwrap_or (slice_get (map (λ k. k.method) known) n) no_native)
-  known_at [] n = λ h at values rest. (claim.ends h)
+  known_at [] n = λ h at values rest. (claim.breaks h)
   known_at (k ∷ known) zero = k.comes
   known_at (k ∷ known) (suc n) = known_at known n
 
   native_of_comes : (n : ℕ) → Comes claim (native_of n)
-  native_of_comes zero = λ h at values rest. (claim.ends h)
+  native_of_comes zero = λ h at values rest. (claim.breaks h)
   native_of_comes (suc n) =
       let P : List NativeMethod → Type 0 = λ methods. Comes claim (unwrap_or (slice_get methods n) no_native) in
       subst P all_known (known_at natives n)
@@ -73,11 +73,11 @@ module _ (claim : Claim) where
   -- ---- carrying out
 
   apply_comes : (h : Here) → claim.At h → (m : LinkedMethod) (receiver arguments rest : List Value) → claim.May h.program (apply h m receiver arguments rest)
-  apply_comes h at m receiver arguments rest = chosen claim h.program _ _ _ (native_of_comes m.native h at _ rest) (claim.ends h)
+  apply_comes h at m receiver arguments rest = chosen claim h.program _ _ _ (native_of_comes m.native h at _ rest) (claim.breaks h)
 
   apply_to_comes : (h : Here) → claim.At h → (m : LinkedMethod) (arguments below : List Value) → claim.May h.program (apply_to h m arguments below)
-  apply_to_comes h at m arguments [] = claim.ends h
-  apply_to_comes h at m arguments (o ∷ rest) = chosen claim h.program _ _ _ (apply_comes h at m (o ∷ []) arguments rest) (claim.ends h)
+  apply_to_comes h at m arguments [] = claim.breaks h
+  apply_to_comes h at m arguments (o ∷ rest) = chosen claim h.program _ _ _ (apply_comes h at m (o ∷ []) arguments rest) (claim.breaks h)
 
   pub carried_out_comes : (h : Here) → claim.At h → (m : LinkedMethod) → claim.May h.program (carried_out h m)
   carried_out_comes h at m =

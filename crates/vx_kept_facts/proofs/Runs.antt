@@ -1,16 +1,16 @@
 -- The facts that runs keep.
-use Rattle.std.proofs.Common.{Bool, List, None, Option, Some, [], arith, false, is_some, length, length-append, refl, replicate, subst, suc, true, zero, ℕ, ◌+◌, ◌-◌, ◌≤◌, ◌∙◌, ◌∷◌, ◌≡◌}
+use Rattle.std.proofs.Common.{List, None, Option, Some, [], arith, is_some, length, length-append, refl, replicate, subst, suc, true, zero, ℕ, ◌+◌, ◌-◌, ◌≤◌, ◌∙◌, ◌∷◌, ◌≡◌}
 use Rattle.std.proofs.lemmas.Bool.{or_left}
 use Rattle.std.proofs.lemmas.List.{length-replicate}
 use Rattle.std.specs.Cmp.Derive.{both_true}
 use Rattle.std.specs.List.{list_all}
 use Rattle.vx_class.specs.declared.class_file.Code.{Code}
 use Rattle.vx_pool.specs.Holding.{and_true}
-use Rattle.vx_java.specs.Initialisation.{chain_blocked, init_chain, quiet_chain}
 use Rattle.vx_java.specs.Machine.{Begin, Ended, Ends, Frame, Go, Goes, Native, Next, Outcome, Raise, State, Throw, Write, current_class, with_inits}
 use Rattle.vx_java.specs.Row.{row}
-use Rattle.vx_java.specs.Step.{Config, Live, Over, Progress, Run, before_main, begun, first_inits, if_quiet, next, outcome_carried_out, run_after, start, step, steps, text_of, with_room}
-use Rattle.vx_kept_facts.proofs.Beginning.{begin_comes, pushed_stands}
+use Rattle.vx_java.specs.Step.{Config, Live, Over, Progress, Run, before_main, first_inits, next, outcome_carried_out, run_after, start, step, steps, text_of}
+use Rattle.vx_kept_facts.proofs.Beginning.{begin_stands, pushed_stands}
+use Rattle.vx_kept_facts.proofs.Claims.{main_chain, start_comes}
 use Rattle.vx_kept_facts.proofs.KeptRows.{begins}
 use Rattle.vx_kept_facts.proofs.NativeSites.{native_comes}
 use Rattle.vx_kept_facts.proofs.Rows.{row_comes}
@@ -27,13 +27,9 @@ use Rattle.vx_value.specs.declared.slot.InitState.TheVariants.{Done, Not}
 
 -- a beginning and a native method are carried out
 pub carried_out_comes : (p : Program) → IsRunnable p → (o : Outcome) → MayCome p o → MayCome p (outcome_carried_out p o)
-carried_out_comes p whole (Begin class s) comes = begin_comes p whole s comes.leaves class
+carried_out_comes p whole (Begin class s) comes = begin_stands p whole s comes.leaves class
 carried_out_comes p whole (Native m s) comes = native_comes p whole s comes.leaves m
-carried_out_comes p whole (Go s) comes = comes
-carried_out_comes p whole (Raise class message s) comes = comes
-carried_out_comes p whole (Throw r s) comes = comes
-carried_out_comes p whole (Write stream units s) comes = comes
-carried_out_comes p whole (Ended end) comes = comes
+carried_out_comes p whole _ comes = comes
 
 -- where an instruction begins is a place
 stands_there : (p : Program) (s : State) → StandsAtInstruction p s → StandsAtPlace p s
@@ -85,31 +81,15 @@ main_stands : (p : Program) → IsRunnable p → (c : Config) → StandsAtInstru
 main_stands p whole c = record { top = begins p whole p.main.0 whole.main; below = refl; classes = first_count p whole.core }
 
 pub start_stands : (p : Program) → IsRunnable p → (c : Config) → RunStands p (start p c)
-start_stands p whole c = by (chain_blocked p chain)
+start_stands p whole c =
+    start_comes (RunStands p) p c (λ i is. stands_there p s stands) (stands_there p s stands) (pushed_stands p whole s stands (current_class p s))
+    (stands_there p (with_inits s Done (main_chain p c)) (record { top = stands.top; below = stands.below; classes = length_inits s.inits Done (main_chain p c) ∙ stands.classes }))
   where
     s : State
     s = before_main p c
 
-    main : ℕ
-    main = current_class p s
-
-    chain : List ℕ
-    chain = init_chain p s.inits main
-
     stands : StandsAtInstruction p s
     stands = main_stands p whole c
-
-    with_frames : (b : Bool) → RunStands p (with_room p s chain b)
-    with_frames true = stands_there p s stands
-    with_frames false = pushed_stands p whole s stands main
-
-    quiet : (b : Bool) → RunStands p (if_quiet p s chain b)
-    quiet true = stands_there p (with_inits s Done chain) (record { top = stands.top; below = stands.below; classes = length_inits s.inits Done chain ∙ stands.classes })
-    quiet false = with_frames _
-
-    by : (blocking : Option ℕ) → RunStands p (begun p s main chain blocking)
-    by (Some i) = stands_there p s stands
-    by None = quiet (quiet_chain p s.inits main)
 
 -- ---- the facts
 

@@ -143,7 +143,8 @@ kept = record {
   passes = λ h {heap = heap} {statics = statics} {locals = locals} {operands = operands} at. passes h {heap = heap} {statics = statics} {locals = locals} {operands = operands} at;
   writes = λ h {heap = heap} {statics = statics} {locals = locals} {operands = operands} {stream = stream} {units = units} at. writes h {heap = heap} {statics = statics} {locals = locals} {operands = operands} {stream = stream} {units = units} at;
   raises = λ h {message = message} {heap = heap} at name among. raises h {message = message} {heap = heap} at name among;
-  ends = λ h {end = end}. ends h {end = end};
+  breaks = λ h. ends h;
+  exits = λ h code. ends h;
 }
 
 -- ---- initialisation

@@ -17,7 +17,7 @@ use Rattle.vx_link.specs.Parts.{class_count, method_at}
 use Rattle.vx_link.specs.declared.program.Program.{Program}
 use Rattle.vx_pool.specs.declared.pool.Pool.{Pool}
 use Rattle.vx_value.specs.declared.key.Kind.{Kind}
-use Rattle.vx_value.specs.declared.key.Kind.TheVariants.{Call, Init, Wait}
+use Rattle.vx_value.specs.declared.key.Kind.TheVariants.{Call, Wait}
 use Rattle.vx_value.specs.declared.slot.InitState.TheVariants.{Failed}
 
 -- a state that follows stands
@@ -35,10 +35,8 @@ handler_begins p pool (Some code) position thrown handler placed found = handler
 -- the handler of a frame is an instruction of its method
 handled : (p : Program) → IsRunnable p → (s : State) (kind : Kind) (r handler : ℕ) → handler_of p s kind r ≡ Some handler → is_instruction (method_at p s.top.method).code handler ≡ true
 handled p whole s Wait r handler found = cc
-handled p whole s Call r handler found =
-    handler_begins p _ (method_at p s.top.method).code s.top.position (object_at s r).class handler (placed p whole s.top.method) found
-handled p whole s Init r handler found =
-    handler_begins p _ (method_at p s.top.method).code s.top.position (object_at s r).class handler (placed p whole s.top.method) found
+handled p whole s _ r handler found =
+    handler_begins p _ (method_at p s.top.method).code s.top.position (object_at s r).class handler (placed p whole.placed s.top.method) found
 
 -- ---- frames that are passed
 
@@ -49,8 +47,7 @@ failed_count p s r false = length_inits s.inits Failed (current_class p s ∷ []
 
 same_count : (p : Program) (s : State) (kind : Kind) (r : ℕ) → length (passed_state p s kind r).inits ≡ length s.inits
 same_count p s Call r = refl
-same_count p s Wait r = failed_count p s r (is_error p s r)
-same_count p s Init r = failed_count p s r (is_error p s r)
+same_count p s _ r = failed_count p s r (is_error p s r)
 
 in_handler : (p : Program) → IsRunnable p → (s : State) (r handler : ℕ) → handler_of p s s.top.kind r ≡ Some handler
     → list_all (is_at_instruction p) s.callers ≡ true → length s.inits ≡ class_count p → NextStands p (next_in_handler s r handler)

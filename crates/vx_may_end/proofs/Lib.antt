@@ -1,8 +1,4 @@
 mod Quiet
-mod QuietTexts
-mod QuietLibrary
-mod QuietNatives
-mod QuietRows
 mod Receivers
 mod Rows
 mod Runs

@@ -1,23 +1,22 @@
 -- Steps of the loops that put lacks and spots one behind the other.
 use Rattle.std.proofs.Common.{Bool, List, None, Option, Some, [], ap, append_assoc, arith, cond, filter, flat_map, if◌then◌else◌, length, map, refl, subst, suc, sym, true, zero, ℕ, ◌++◌, ◌+◌, ◌-◌, ◌<◌, ◌≤◌, ◌∙◌, ◌∷◌, ◌≡◌}
-use Rattle.std.proofs.lemmas.Bool.{lt-ltb, ltb-true}
-use Rattle.std.proofs.lemmas.Bool.Decides.{nat_tests}
+use Rattle.std.proofs.lemmas.Bool.{lt-ltb}
 use Rattle.std.proofs.lemmas.Grind.{flat_map-append}
 use Rattle.std.proofs.lemmas.List.{append-nil}
 use Rattle.std.proofs.lemmas.List.Elements.{filter-append}
 use Rattle.std.proofs.lemmas.Option.{same_Some}
 use Rattle.std.specs.List.{cons_option, filter_map, list_all, range_with_len}
-use Rattle.std.specs.Prelude.{nat_lt, option_map}
+use Rattle.std.specs.Prelude.{option_map}
 use Rattle.vx_class.specs.declared.class_file.Code.{Code}
 use Rattle.vx_java.specs.Initialisation.{blocked}
 use Rattle.vx_jump_targets.specs.Placed.{behind, starts_from}
 use Rattle.vx_link.specs.Assignability.{assignable}
 use Rattle.vx_link.specs.ClassNames.{object_class}
-use Rattle.vx_link.specs.Parts.{class_count, method_at, no_method}
+use Rattle.vx_link.specs.Parts.{class_count, method_at}
 use Rattle.vx_link.specs.declared.program.Program.{Program}
 use Rattle.vx_opcode.specs.Decode.{instruction_at}
 use Rattle.vx_opcode.specs.declared.instruction.Instruction.{Instruction}
-use Rattle.vx_spelled_ends.proofs.Tests.{item_passes}
+use Rattle.vx_verify.proofs.ShortCodes.{is_short}
 use Rattle.vx_verify.specs.Verdict.{has_short_code}
 use Rattle.vx_may_end.specs.Lacks.{of_blocking, of_receiver, of_receivers, takes_arrays}
 use Rattle.vx_may_end.specs.declared.lack.Lack.{Lack}
@@ -121,11 +120,7 @@ module _ {A : Type 0} (f : ℕ → List A) (code : List ℕ) (out total : List A
 
 -- ---- codes
 
-short_bytes : (o : Option Code) (code : Code) → has_short_code o ≡ true → o ≡ Some code → length code.bytes < 65536
-short_bytes None code e is = absurd cc
-short_bytes (Some other) code e is = subst (λ (k : Code). length k.bytes < 65536) (same_Some other code is) (ltb-true (length other.bytes) 65536 e)
-
 pub short_code : (p : Program) (m : ℕ) (code : Code) → list_all (λ k. has_short_code k.code) p.methods ≡ true → (method_at p m).code ≡ Some code → length code.bytes ≤ 65535
 short_code p m code all is =
-    let less = short_bytes (method_at p m).code code (item_passes (λ k. has_short_code k.code) p.methods m no_method all refl) is in
+    let less = is_short p m code all is in
     omega (arith, less)

@@ -1,38 +1,37 @@
 -- What a receiver selects is what one of the receivers of the named class selects.
-use Rattle.std.proofs.Common.{Bool, List, [], arith, false, filter, flat_map, if◌then◌else◌, length, refl, subst, suc, sym, true, zero, ℕ, ◌&&◌, ◌++◌, ◌+◌, ◌-◌, ◌<◌, ◌≤◌, ◌∙◌, ◌∷◌, ◌≡◌}
+use Rattle.std.proofs.Common.{Bool, List, [], arith, false, filter, flat_map, if◌then◌else◌, refl, subst, suc, sym, true, zero, ℕ, ◌&&◌, ◌++◌, ◌+◌, ◌-◌, ◌<◌, ◌≤◌, ◌∙◌, ◌∷◌, ◌≡◌}
+use Rattle.std.proofs.lemmas.Bool.{or_left}
 use Rattle.std.proofs.lemmas.Bool.{ltb-true}
 use Rattle.std.proofs.lemmas.Bool.Decides.{nat_tests}
 use Rattle.std.proofs.lemmas.List.Folds.{list_any-append}
-use Rattle.std.specs.List.{list_any, range_with_len}
-use Rattle.std.specs.Prelude.{None, Option, Some, nat_eq, nat_lt, not, ◌==◌, ◌||◌}
-use Rattle.vx_class.specs.declared.class_file.Code.{Code}
+use Rattle.std.specs.List.{range_with_len}
+use Rattle.std.specs.Prelude.{nat_eq, nat_lt, not, ◌==◌, ◌||◌}
 use Rattle.vx_pool.specs.Holding.{and_true}
 use Rattle.vx_java.specs.Calls.{is_receiver}
 use Rattle.vx_java.specs.Machine.{Here, Ref, object_at}
 use Rattle.vx_java.specs.Selection.{class_of_receiver, select, select_from, selected_if_concrete}
 use Rattle.vx_java.specs.declared.selected.Selected.{Selected}
-use Rattle.vx_java.specs.declared.selected.Selected.TheVariants.{Abstract, Conflict, Method}
+use Rattle.vx_kept_facts.proofs.Places.{or_right}
 use Rattle.vx_link.specs.Assignability.{above_arrays, assignable, assignable_within, class_assignable}
-use Rattle.vx_link.specs.ClassNames.{component_of, dimensions_of, element_of, has_reference_components, is_array, object_class}
+use Rattle.vx_link.specs.ClassNames.{component_of, has_reference_components, is_array, object_class}
 use Rattle.vx_link.specs.Hierarchy.{is_among}
 use Rattle.vx_link.specs.Names.{Member}
 use Rattle.vx_link.specs.Parts.{PRIVATE, class_count, has, method_at}
 use Rattle.vx_link.specs.declared.program.Program.{Program}
-use Rattle.vx_spelled_ends.proofs.Tests.{or_first, or_second, same_test, tests_same}
-use Rattle.vx_may_end.specs.Lacks.{of_code, of_receiver, of_receivers, of_selected, receivers, takes_arrays}
-use Rattle.vx_may_end.specs.Listed.{is_lack, is_one}
+use Rattle.vx_spelled_ends.proofs.Tests.{same_test, tests_same}
+use Rattle.vx_may_end.specs.Lacks.{of_receiver, of_receivers, of_selected, receivers, takes_arrays}
+use Rattle.vx_may_end.specs.Listed.{is_lack}
 use Rattle.vx_may_end.specs.declared.lack.Lack.{Lack}
-use Rattle.vx_may_end.specs.declared.lack.When.{When}
 use Rattle.vx_may_end.specs.declared.lack.When.TheVariants.{On}
 use Rattle.vx_may_end.proofs.Told.{Within, behind, front}
 
 -- ---- numbers of classes
 
 in_front : (n : ℕ) (xs ys : List ℕ) → is_among n xs ≡ true → is_among n (xs ++ ys) ≡ true
-in_front n xs ys e = list_any-append (nat_eq n) xs ys ∙ or_first _ _ e
+in_front n xs ys e = list_any-append (nat_eq n) xs ys ∙ or_left _ _ e
 
 pub in_back : (n : ℕ) (xs ys : List ℕ) → is_among n ys ≡ true → is_among n (xs ++ ys) ≡ true
-in_back n xs ys e = list_any-append (nat_eq n) xs ys ∙ or_second (is_among n xs) _ e
+in_back n xs ys e = list_any-append (nat_eq n) xs ys ∙ or_right (is_among n xs) _ e
 
 above : (n from : ℕ) → from ≤ n → (n == from) ≡ false → from + 1 ≤ n
 above n from least other = grind (arith, nat_tests)
@@ -44,9 +43,9 @@ in_range test n from (suc many) least less passes = by_first (n == from) refl (t
   where
     by_first : (b : Bool) → (n == from) ≡ b → (t : Bool) → test from ≡ t → ((n == from) ≡ false → is_among n (filter test (range_with_len (from + 1) many)) ≡ true)
         → is_among n (if t then from ∷ filter test (range_with_len (from + 1) many) else filter test (range_with_len (from + 1) many)) ≡ true
-    by_first true is true passed later = or_first _ _ is
+    by_first true is true passed later = or_left _ _ is
     by_first true is false passed later = let same = tests_same n from is in absurd (cc (same, passes, passed))
-    by_first false is true passed later = or_second (nat_eq n from) _ (later is)
+    by_first false is true passed later = or_right (nat_eq n from) _ (later is)
     by_first false is false passed later = later is
 
 -- what one of some classes lacks
@@ -66,17 +65,17 @@ array_fits p d from to array fits = by_array (is_array p from) array fits
   where
     by_parts : (b c : Bool) → has_reference_components p from ≡ b → has_reference_components p to ≡ c
         → (elim (b && c) [ true ↦ assignable_within p d (component_of p from) (component_of p to) | false ↦ (from == to) || is_among to (above_arrays p) ]) ≡ true → takes_arrays p to ≡ true
-    by_parts true true of_from of_to e = or_first _ _ (and_true (is_array p to) _ of_to).0
+    by_parts true true of_from of_to e = or_left _ _ (and_true (is_array p to) _ of_to).0
     by_parts true false of_from of_to e = same_or (from == to) refl e
       where
         same_or : (b : Bool) → (from == to) ≡ b → (b || is_among to (above_arrays p)) ≡ true → takes_arrays p to ≡ true
-        same_or true is e = or_first _ _ (subst (λ (k : ℕ). is_array p k ≡ true) (tests_same from to is) array)
-        same_or false is e = or_second (is_array p to) _ e
+        same_or true is e = or_left _ _ (subst (λ (k : ℕ). is_array p k ≡ true) (tests_same from to is) array)
+        same_or false is e = or_right (is_array p to) _ e
     by_parts false c of_from of_to e = same_or (from == to) refl e
       where
         same_or : (b : Bool) → (from == to) ≡ b → (b || is_among to (above_arrays p)) ≡ true → takes_arrays p to ≡ true
-        same_or true is e = or_first _ _ (subst (λ (k : ℕ). is_array p k ≡ true) (tests_same from to is) array)
-        same_or false is e = or_second (is_array p to) _ e
+        same_or true is e = or_left _ _ (subst (λ (k : ℕ). is_array p k ≡ true) (tests_same from to is) array)
+        same_or false is e = or_right (is_array p to) _ e
 
     by_array : (a : Bool) → a ≡ true
         → (elim a [
@@ -106,7 +105,7 @@ fits_where_array : (p : Program) (named c : ℕ) → is_array p named ≡ true �
 fits_where_array p named c array is = by (is_array p c) is
   where
     by : (a : Bool) → a ≡ true → (elim a [ true ↦ takes_arrays p named | false ↦ assignable p c named ]) ≡ true
-    by true e = or_first _ _ array
+    by true e = or_left _ _ array
     by false e = absurd cc
 
 -- a receiver that the row has let through
@@ -164,7 +163,7 @@ listed_is_receiver : (p : Program) (named c : ℕ) → fits p named c ≡ true �
 listed_is_receiver p named c fit = by (is_array p c) refl fit
   where
     first : (t : Bool) → t ≡ true → is_among (object_class p) ((if t then object_class p ∷ [] else []) ++ filter (λ c. assignable p c named) (range_with_len 0 (class_count p))) ≡ true
-    first true e = or_first _ _ (same_test (object_class p) (object_class p) refl)
+    first true e = or_left _ _ (same_test (object_class p) (object_class p) refl)
     first false e = absurd cc
 
     by : (a : Bool) → is_array p c ≡ a → (elim a [ true ↦ takes_arrays p named | false ↦ assignable p c named ]) ≡ true

@@ -1,20 +1,19 @@
 -- The row of each operation comes to what the operation lacks, and to no other end as unsupported.
 use Rattle.std.proofs.Common.{Bool, List, None, Option, Some, [], codes, false, if◌then◌else◌, refl, true, ℕ, ◌&&◌, ◌++◌, ◌-◌, ◌∷◌, ◌≡◌}
-use Rattle.std.specs.Int.{w32, w64}
-use Rattle.std.specs.Prelude.{is_some, nat_lt, not, ◌==◌, ◌||◌}
+use Rattle.std.specs.Prelude.{nat_lt, not, ◌==◌, ◌||◌}
 use Rattle.vx_class.specs.Members.{ABSTRACT, STATIC}
 use Rattle.vx_class.specs.declared.class_file.Code.{Code}
 use Rattle.vx_pool.specs.Lookups.{entry_of}
 use Rattle.vx_desc.specs.Descriptors.{field_type}
 use Rattle.vx_desc.specs.declared.java_type.JavaType.{JavaType}
 use Rattle.vx_java.specs.Arrays.{elements_of_numbers, lengths_off, new_array, new_grid_of, new_primitives}
-use Rattle.vx_java.specs.Calls.{arguments_off, call_instance, call_resolved, call_static, carry_out, clone_array, dispatch, enter, if_method, invoke, is_receiver, member_text, on_class, on_receiver, selection, state_in_callee, wrong_kind}
-use Rattle.vx_java.specs.Checks.{fits_type, is_instance_of, non_null, same_bool, sort_of, width_of_type, with_class}
+use Rattle.vx_java.specs.Calls.{arguments_off, call_instance, call_resolved, call_static, carry_out, clone_array, dispatch, enter, if_method, invoke, is_receiver, member_text, on_class, on_receiver, state_in_callee, wrong_kind}
+use Rattle.vx_java.specs.Checks.{fits_type, non_null, same_bool, sort_of, width_of_type, with_class}
 use Rattle.vx_java.specs.Constants.{push_entry}
-use Rattle.vx_java.specs.Fields.{Found, declaring, field_text, get_from, get_static, if_agreeing, if_field, if_sort, if_type, in_own_initialiser, put_into, put_value, static_value, with_field, with_written}
-use Rattle.vx_java.specs.FirstObjects.{literal_object, narrowed_value, new_object}
+use Rattle.vx_java.specs.Fields.{Found, declaring, field_text, get_from, if_agreeing, if_field, if_sort, if_type, put_into, put_value, static_value, with_written}
+use Rattle.vx_java.specs.FirstObjects.{literal_object, new_object}
 use Rattle.vx_java.specs.Initialisation.{when_initialised}
-use Rattle.vx_java.specs.Machine.{Go, Here, Int, Long, Native, Null, Outcome, Ref, Text, Throw, Top, Value, current_class, depth, frame_bound, go, has_room, illegal, method_text, object_at, past, push, push_new, raise, unsupported, when, with_static}
+use Rattle.vx_java.specs.Machine.{Go, Here, Int, Long, Native, Null, Outcome, Ref, Text, Value, current_class, depth, frame_bound, go, has_room, illegal, method_text, object_at, past, push, push_new, raise, unsupported, when}
 use Rattle.vx_java.specs.Objects.{against, check_cast, instance_of, int_of_bool, new_of_class}
 use Rattle.vx_java.specs.Operation.{constant_word, field_word, float_word, method_word, native_word}
 use Rattle.vx_java.specs.Row.{row_of}
@@ -26,26 +25,26 @@ use Rattle.vx_java.specs.declared.operation.Operation.TheVariants as operation
 use Rattle.vx_java.specs.declared.operation.Sort.{Sort}
 use Rattle.vx_java.specs.declared.selected.Selected.{Selected}
 use Rattle.vx_java.specs.declared.selected.Selected.TheVariants.{Abstract, Conflict, Method}
+use Rattle.vx_kept_facts.proofs.Claims.{chosen}
+use Rattle.vx_kept_facts.proofs.ObjectRows.{against_comes, cast_comes, get_from_comes, new_array_comes, new_grid_of_comes, put_into_comes}
+use Rattle.vx_kept_facts.proofs.RowClaims.{settles}
 use Rattle.vx_link.specs.Assignability.{assignable}
 use Rattle.vx_link.specs.ClassNames.{array_class, array_over, double_element, float_element, int_element}
 use Rattle.vx_link.specs.Names.{Member, class_name, member, utf8}
-use Rattle.vx_link.specs.Parts.{PRIVATE, class_at, field_at, has, is_interface, is_static_field, method_at}
+use Rattle.vx_link.specs.Parts.{PRIVATE, class_at, has, is_interface, is_static_field, method_at}
 use Rattle.vx_link.specs.Resolution.{is_array_clone, resolve_field, resolve_method}
 use Rattle.vx_link.specs.Signature.{signature}
 use Rattle.vx_list.specs.Places.{item_or}
 use Rattle.vx_pool.specs.declared.pool.Entry.{Entry}
 use Rattle.vx_pool.specs.declared.pool.Entry.TheVariants as entry
-use Rattle.vx_value.specs.Arithmetic.{long_to_int, narrow_of, negation}
-use Rattle.vx_value.specs.declared.slot.InitState.{InitState}
-use Rattle.vx_may_end.specs.Lacks.{lack, lacks_of, of_call, of_class, of_class_there, of_code, of_entry, of_field_there, of_found, of_initialisation, of_method_there, of_named, of_new, of_primitives, of_receivers, of_resolved, of_selected, of_sort, of_type, special_selection}
+use Rattle.vx_may_end.specs.Lacks.{lack, lacks_of, of_call, of_class, of_class_there, of_code, of_entry, of_field_there, of_initialisation, of_method_there, of_named, of_new, of_primitives, of_receivers, of_resolved, of_selected, of_sort, of_type, special_selection}
 use Rattle.vx_may_end.specs.Listed.{is_lack, is_one}
 use Rattle.vx_may_end.specs.declared.lack.Lack.{Lack}
 use Rattle.vx_may_end.specs.declared.lack.When.{When}
 use Rattle.vx_may_end.specs.declared.lack.When.TheVariants.{Always, On, Perhaps}
-use Rattle.vx_may_end.proofs.Quiet.{IsQuiet, chosen, goes, illegal_ends, native_comes, raises, settles}
-use Rattle.vx_may_end.proofs.QuietRows.{against_quiet, array_length_quiet, cast_quiet, get_from_quiet, if_int_quiet, if_ints_quiet, if_null_quiet, if_same_quiet, increase_quiet, int_arithmetic_quiet, int_shift_quiet, load_element_quiet, load_quiet, long_arithmetic_quiet, long_compare_quiet, long_shift_quiet, monitor_quiet, new_array_quiet, new_grid_of_quiet, on_int_quiet, on_long_quiet, put_into_quiet, return_from_quiet, stack_quiet, store_element_quiet, store_quiet, switch_lookup_quiet, switch_table_quiet, throw_top_quiet}
+use Rattle.vx_may_end.proofs.Quiet.{IsQuiet, goes, illegal_ends, native_comes, quiet, quiet_rows, raises, row_quiet}
 use Rattle.vx_may_end.proofs.Receivers.{listed_class, of_receiver_listed, receiver_fits}
-use Rattle.vx_may_end.proofs.Told.{Tells, TellsHere, Within, arguments_told, behind, by_when, class_told, front, here, initialised, initialised_told, left_out, quietly, where_false, where_true, wider}
+use Rattle.vx_may_end.proofs.Told.{TellsHere, Within, arguments_told, behind, by_when, class_told, here, initialised, initialised_told, left_out, quietly, where_false, where_true, wider}
 
 -- ---- a method that is carried out
 
@@ -55,7 +54,7 @@ entered h when_so m None values rest =
     (left_out h when_so native_word (method_text h.program (method_at h.program m)))
     native_comes
 entered h when_so m (Some code) values rest =
-    quietly h.program [] (here h) (enter h m (Some code) values rest) (chosen (nat_lt (depth h.state) frame_bound) (Go (state_in_callee h m values rest)) (raise h "java/lang/StackOverflowError") goes raises)
+    quietly h.program [] (here h) (enter h m (Some code) values rest) (chosen quiet h.program (nat_lt (depth h.state) frame_bound) (Go (state_in_callee h m values rest)) (raise h "java/lang/StackOverflowError") goes raises)
 
 carried : (h : Here) (when_so : When) (values rest : List Value) (o : Selected) → TellsHere h (of_selected h.program when_so o) (carry_out h values rest o)
 carried h when_so values rest (Method m) = entered h when_so m.0 (method_at h.program m.0).code values rest
@@ -74,15 +73,15 @@ module _ (h : Here) where
   constant : (e : Option Entry) → Lacks (of_entry h.program h.pool e) (push_entry h e)
   constant (Some (entry.Class i)) =
       let object = Ref (literal_object h.program h.pool (entry.Class i)) in
-      class_told h Always (utf8 h.pool i) (λ c. []) (λ c. push h object h.state.top.operands) (λ c. calm (push h object h.state.top.operands) (settles h (object ∷ h.state.top.operands)))
+      class_told h Always (utf8 h.pool i) (λ c. []) (λ c. push h object h.state.top.operands) (λ c. calm (push h object h.state.top.operands) (settles quiet_rows h tt (object ∷ h.state.top.operands)))
   constant (Some (entry.Float n)) = left_out h Always float_word (codes "-")
   constant (Some (entry.Double n)) = left_out h Always float_word (codes "-")
   constant (Some (entry.MethodHandle kind i)) = left_out h Always constant_word (codes "-")
   constant (Some (entry.MethodType i)) = left_out h Always constant_word (codes "-")
-  constant (Some (entry.Integer n)) = calm (push h (Int n) h.state.top.operands) (settles h (Int n ∷ h.state.top.operands))
-  constant (Some (entry.Long n)) = calm (push h (Long n) h.state.top.operands) (settles h (Long n ∷ h.state.top.operands))
+  constant (Some (entry.Integer n)) = calm (push h (Int n) h.state.top.operands) (settles quiet_rows h tt (Int n ∷ h.state.top.operands))
+  constant (Some (entry.Long n)) = calm (push h (Long n) h.state.top.operands) (settles quiet_rows h tt (Long n ∷ h.state.top.operands))
   constant (Some (entry.Text i)) =
-      let object = Ref (literal_object h.program h.pool (entry.Text i)) in calm (push h object h.state.top.operands) (settles h (object ∷ h.state.top.operands))
+      let object = Ref (literal_object h.program h.pool (entry.Text i)) in calm (push h object h.state.top.operands) (settles quiet_rows h tt (object ∷ h.state.top.operands))
   constant _ = calm (illegal h) illegal_ends
 
   -- ---- initialisation
@@ -182,39 +181,31 @@ module _ (h : Here) where
       let element = item_or elements_of_numbers (number - 4) int_element in
       where_true h (lack Always float_word (codes "-")) ((element == float_element) || (element == double_element)) (unsupported h float_word (codes "-")) (new_array h (array_class h.program 1 element) h.state.top.operands)
       (left_out h Always float_word (codes "-"))
-      (new_array_quiet h (array_class h.program 1 element) h.state.top.operands)
+      (new_array_comes quiet_rows h tt (array_class h.program 1 element) h.state.top.operands)
 
   cast_against : (name : List ℕ) (v : Value) (rest : List Value)
       → Lacks (of_class h.program Perhaps name (λ c. [])) (with_class h name (λ c. against h v c (λ fits. when fits (go h (v ∷ rest)) (raise h "java/lang/ClassCastException"))))
   cast_against name v rest =
       let later : Bool → Outcome = λ fits. when fits (go h (v ∷ rest)) (raise h "java/lang/ClassCastException") in
-      class_told h Perhaps name (λ c. []) (λ c. against h v c later) (λ c. calm (against h v c later) (against_quiet h v c later (cast_quiet h (v ∷ rest))))
+      class_told h Perhaps name (λ c. []) (λ c. against h v c later) (λ c. calm (against h v c later) (against_comes quiet_rows h v c later (cast_comes quiet_rows h tt (v ∷ rest))))
 
   no_lack : (ls : List Lack) (o : Outcome) → IsQuiet o → Lacks ls o
   no_lack ls o q = quietly h.program ls (here h) o q
 
   cast_told : (name : List ℕ) (operands : List Value) → Lacks (of_class h.program Perhaps name (λ c. [])) (check_cast h name operands)
   cast_told name (Null ∷ rest) = no_lack _ (go h (Null ∷ rest)) goes
-  cast_told name (Top ∷ rest) = cast_against name Top rest
-  cast_told name (Int n ∷ rest) = cast_against name (Int n) rest
-  cast_told name (Long n ∷ rest) = cast_against name (Long n) rest
-  cast_told name (Ref r ∷ rest) = cast_against name (Ref r) rest
-  cast_told name (Text t ∷ rest) = cast_against name (Text t) rest
+  cast_told name (v ∷ rest) = cast_against name v rest
   cast_told name [] = class_told h Perhaps name (λ c. []) (λ c. illegal h) (λ c. calm (illegal h) illegal_ends)
 
   instance_against : (name : List ℕ) (v : Value) (rest : List Value)
       → Lacks (of_class h.program Perhaps name (λ c. [])) (with_class h name (λ c. against h v c (λ fits. push h (int_of_bool fits) rest)))
   instance_against name v rest =
       let later : Bool → Outcome = λ fits. push h (int_of_bool fits) rest in
-      class_told h Perhaps name (λ c. []) (λ c. against h v c later) (λ c. calm (against h v c later) (against_quiet h v c later (λ fits. settles h (int_of_bool fits ∷ rest))))
+      class_told h Perhaps name (λ c. []) (λ c. against h v c later) (λ c. calm (against h v c later) (against_comes quiet_rows h v c later (λ fits. settles quiet_rows h tt (int_of_bool fits ∷ rest))))
 
   instance_told : (name : List ℕ) (operands : List Value) → Lacks (of_class h.program Perhaps name (λ c. [])) (instance_of h name operands)
-  instance_told name (Null ∷ rest) = no_lack _ (push h (int_of_bool false) rest) (settles h (int_of_bool false ∷ rest))
-  instance_told name (Top ∷ rest) = instance_against name Top rest
-  instance_told name (Int n ∷ rest) = instance_against name (Int n) rest
-  instance_told name (Long n ∷ rest) = instance_against name (Long n) rest
-  instance_told name (Ref r ∷ rest) = instance_against name (Ref r) rest
-  instance_told name (Text t ∷ rest) = instance_against name (Text t) rest
+  instance_told name (Null ∷ rest) = no_lack _ (push h (int_of_bool false) rest) (settles quiet_rows h tt (int_of_bool false ∷ rest))
+  instance_told name (v ∷ rest) = instance_against name v rest
   instance_told name [] = class_told h Perhaps name (λ c. []) (λ c. illegal h) (λ c. calm (illegal h) illegal_ends)
 
   -- ---- calls
@@ -227,11 +218,7 @@ module _ (h : Here) where
     where
       by_value : (v : Value) → is_receiver h m named v ≡ true → Lacks ls (non_null h v (λ r. next r rest))
       by_value (Ref r) is = each r rest is
-      by_value Null is = record { told = tt }
-      by_value Top is = record { told = tt }
-      by_value (Int n) is = record { told = tt }
-      by_value (Long n) is = record { told = tt }
-      by_value (Text t) is = record { told = tt }
+      by_value _ is = record { told = tt }
 
       by : (b : Bool) → is_receiver h m named o ≡ b → Lacks ls (when b (non_null h o (λ r. next r rest)) (illegal h))
       by true is = by_value o is
@@ -317,9 +304,7 @@ module _ (h : Here) where
 
   cloned : (mode : Mode) (m : Member) (named : ℕ) → Lacks [] (clone_array h mode m named)
   cloned mode.Static m named = record { told = tt }
-  cloned mode.Virtual m named = received [] m named h.state.top.operands (λ r rest. push_new h (object_at h.state r) rest) (λ r rest is. record { told = tt })
-  cloned mode.Special m named = received [] m named h.state.top.operands (λ r rest. push_new h (object_at h.state r) rest) (λ r rest is. record { told = tt })
-  cloned mode.Interface m named = received [] m named h.state.top.operands (λ r rest. push_new h (object_at h.state r) rest) (λ r rest is. record { told = tt })
+  cloned _ m named = received [] m named h.state.top.operands (λ r rest. push_new h (object_at h.state r) rest) (λ r rest is. record { told = tt })
 
   class_called : (mode : Mode) (m : Member) (named : ℕ) → Lacks (of_named h.program (current_class h.program h.state) mode m named) (on_class h mode m named)
   class_called mode m named = by (is_array_clone h.program named m.name m.descriptor)
@@ -342,56 +327,26 @@ module _ (h : Here) where
   lacked o = lacks_of h.program h.pool (current_class h.program h.state) o
 
   pub row_told : (o : Operation) → Lacks (lacked o) (row_of h o h.state.top.operands)
-  row_told operation.Nop = calm (go h h.state.top.operands) goes
-  row_told operation.PushNull = calm _ (settles h (Null ∷ h.state.top.operands))
-  row_told (operation.PushInt n) = calm _ (settles h (Int n ∷ h.state.top.operands))
-  row_told (operation.PushLong n) = calm _ (settles h (Long n ∷ h.state.top.operands))
   row_told (operation.PushEntry i) = constant (entry_of h.pool i)
-  row_told (operation.Load sort n) = calm _ (load_quiet h sort n)
-  row_told (operation.Store sort n) = calm _ (store_quiet h sort n h.state.top.operands)
-  row_told (operation.LoadElement e) = calm _ (load_element_quiet h e h.state.top.operands)
-  row_told (operation.StoreElement e) = calm _ (store_element_quiet h e h.state.top.operands)
-  row_told (operation.Stack form) = calm _ (stack_quiet h form)
-  row_told (operation.IntArithmetic op) = calm _ (int_arithmetic_quiet h op h.state.top.operands)
-  row_told (operation.LongArithmetic op) = calm _ (long_arithmetic_quiet h op h.state.top.operands)
-  row_told operation.IntNegate = calm _ (on_int_quiet h (λ a. Int (negation w32 a)) h.state.top.operands)
-  row_told operation.LongNegate = calm _ (on_long_quiet h (λ a. Long (negation w64 a)) h.state.top.operands)
-  row_told (operation.IntShift op) = calm _ (int_shift_quiet h op h.state.top.operands)
-  row_told (operation.LongShift op) = calm _ (long_shift_quiet h op h.state.top.operands)
-  row_told (operation.Increase n by) = calm _ (increase_quiet h n by (item_or h.state.top.locals n Top))
-  row_told operation.IntToLong = calm _ (on_int_quiet h (λ a. Long a) h.state.top.operands)
-  row_told operation.LongToInt = calm _ (on_long_quiet h (λ a. Int (long_to_int a)) h.state.top.operands)
-  row_told (operation.IntNarrow to) = calm _ (on_int_quiet h (λ a. Int (narrow_of to a)) h.state.top.operands)
-  row_told operation.LongCompare = calm _ (long_compare_quiet h h.state.top.operands)
-  row_told (operation.IfInt test offset) = calm _ (if_int_quiet h test offset h.state.top.operands)
-  row_told (operation.IfInts test offset) = calm _ (if_ints_quiet h test offset h.state.top.operands)
-  row_told (operation.IfSame wanted offset) = calm _ (if_same_quiet h wanted offset h.state.top.operands)
-  row_told (operation.IfNull wanted offset) = calm _ (if_null_quiet h wanted offset h.state.top.operands)
-  row_told (operation.Goto offset) = calm _ goes
-  row_told (operation.SwitchTable fallback low high first) = calm _ (switch_table_quiet h fallback low high first h.state.top.operands)
-  row_told (operation.SwitchLookup fallback pairs first) = calm _ (switch_lookup_quiet h fallback pairs first h.state.top.operands)
-  row_told (operation.Return sort) = calm _ (return_from_quiet h sort)
   row_told (operation.GetStatic i) =
       let m = member h.pool i in
       static_type m (field_type m.descriptor) (λ found. when (has_room h (width_of_type found.type) h.state.top.operands) (when_initialised h (declaring h found) (λ g. go g (static_value g.state found ∷ g.state.top.operands))) (illegal h)) got_static
   row_told (operation.PutStatic i) =
       let m = member h.pool i in static_type m (field_type m.descriptor) (λ found. put_value h found h.state.top.operands) (λ found. put_static_value found h.state.top.operands)
   row_told (operation.GetField i) =
-      let m = member h.pool i in instance_type m (field_type m.descriptor) (λ found. get_from h found h.state.top.operands) (λ found. get_from_quiet h found h.state.top.operands)
+      let m = member h.pool i in instance_type m (field_type m.descriptor) (λ found. get_from h found h.state.top.operands) (λ found. get_from_comes quiet_rows h tt found h.state.top.operands)
   row_told (operation.PutField i) =
-      let m = member h.pool i in instance_type m (field_type m.descriptor) (λ found. put_into h found h.state.top.operands) (λ found. put_into_quiet h found h.state.top.operands)
+      let m = member h.pool i in instance_type m (field_type m.descriptor) (λ found. put_into h found h.state.top.operands) (λ found. put_into_comes quiet_rows h tt found h.state.top.operands)
   row_told (operation.Invoke mode i) = invoked mode i
   row_told (operation.New i) = class_told h Always (class_name h.pool i) (of_new h.program) (new_of_class h) new_told
   row_told (operation.NewPrimitives number) = primitives_told number
   row_told (operation.NewReferences i) =
       let later : ℕ → Outcome = λ c. new_array h (array_over h.program c) h.state.top.operands in
-      class_told h Always (class_name h.pool i) (λ c. []) later (λ c. calm (later c) (new_array_quiet h (array_over h.program c) h.state.top.operands))
+      class_told h Always (class_name h.pool i) (λ c. []) later (λ c. calm (later c) (new_array_comes quiet_rows h tt (array_over h.program c) h.state.top.operands))
   row_told (operation.NewGrid i d) =
       let later : ℕ → Outcome = λ c. new_grid_of h c (lengths_off d [] h.state.top.operands) in
-      class_told h Always (class_name h.pool i) (λ c. []) later (λ c. calm (later c) (new_grid_of_quiet h c (lengths_off d [] h.state.top.operands)))
-  row_told operation.Length = calm _ (array_length_quiet h h.state.top.operands)
-  row_told operation.Throw = calm _ (throw_top_quiet h h.state.top.operands)
-  row_told operation.Monitor = calm _ (monitor_quiet h h.state.top.operands)
+      class_told h Always (class_name h.pool i) (λ c. []) later (λ c. calm (later c) (new_grid_of_comes quiet_rows h tt c (lengths_off d [] h.state.top.operands)))
   row_told (operation.CheckCast i) = cast_told (class_name h.pool i) h.state.top.operands
   row_told (operation.InstanceOf i) = instance_told (class_name h.pool i) h.state.top.operands
   row_told (operation.Refuse word) = left_out h Always word (codes "-")
+  row_told o = calm _ (row_quiet h o tt)

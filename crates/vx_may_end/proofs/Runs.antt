@@ -1,5 +1,6 @@
 -- Each run that ends as unsupported ends so at a spot, for what is listed there.
-use Rattle.std.proofs.Common.{Bool, ap, cond, List, None, Ok, Option, Some, [], arith, bytes_eq, false, flat_map, length, map, refl, subst, suc, sym, true, zero, ℕ, ◌&&◌, ◌++◌, ◌+◌, ◌<◌, ◌≤◌, ◌∙◌, ◌∷◌, ◌≡◌}
+use Rattle.std.proofs.Common.{Bool, ap, cond, List, None, Ok, Option, Some, [], arith, bytes_eq, false, flat_map, length, map, refl, subst, suc, sym, true, zero, ℕ, ◌+◌, ◌<◌, ◌≤◌, ◌∙◌, ◌∷◌, ◌≡◌}
+use Rattle.std.proofs.lemmas.Bool.{or_left}
 use Rattle.std.proofs.lemmas.Bool.Decides.{nat_tests}
 use Rattle.std.proofs.lemmas.List.Folds.{list_any-append}
 use Rattle.std.proofs.lemmas.List.Sums.{take_while-cons}
@@ -7,22 +8,24 @@ use Rattle.std.proofs.lemmas.Option.{same_Some}
 use Rattle.std.proofs.lemmas.Slice.Eq.{bytes_eq-Decides}
 use Rattle.std.specs.Cmp.Derive.{both_true}
 use Rattle.std.specs.List.{cons_option, filter_map, list_all, list_any, range_with_len}
-use Rattle.std.specs.Prelude.{All, nat_lt, take_while, unwrap_or, ◌-◌, ◌==◌, ◌||◌}
+use Rattle.std.specs.Prelude.{All, take_while, ◌-◌, ◌==◌, ◌||◌}
 use Rattle.vx_class.specs.File.{Holds}
 use Rattle.vx_class.specs.declared.class_file.ClassFile.{ClassFile}
 use Rattle.vx_class.specs.declared.class_file.Code.{Code}
 use Rattle.vx_pool.specs.Holding.{and_true}
 use Rattle.vx_pool.specs.Instructions.{is_start}
-use Rattle.vx_java.specs.Initialisation.{begin, begin_chain, begin_free, blocked, chain_blocked, init_chain, is_below_failed, is_not, pushed_chain, quiet_chain}
-use Rattle.vx_java.specs.Machine.{Begin, Ended, Ends, Frame, Go, Goes, Native, Next, Outcome, Raise, State, Throw, Write, current_class, depth, frame_bound, init_at, next_object, place, place_at, when, with_inits, with_objects}
-use Rattle.vx_java.specs.Natives.{native, no_code}
+use Rattle.vx_java.specs.Initialisation.{begin, blocked, chain_blocked, is_not}
+use Rattle.vx_java.specs.Machine.{Begin, Ended, Ends, Frame, Goes, Native, Next, Outcome, Raise, State, Throw, current_class, init_at, next_object, place, place_at, with_objects}
+use Rattle.vx_java.specs.Natives.{native}
 use Rattle.vx_java.specs.Operation.{class_word, operation_of}
-use Rattle.vx_java.specs.Returns.{instruction_size}
-use Rattle.vx_java.specs.Row.{row, row_at, row_if, row_in}
-use Rattle.vx_java.specs.Step.{Config, Live, Over, Progress, Run, before_main, begun, if_quiet, next, outcome_carried_out, result, run, run_after, start, step, steps, text_of, with_room}
-use Rattle.vx_java.specs.Throwing.{exception_objects, handler_of, next_after_raise, next_after_throw, next_in_handler, passed_object, passed_state, uncaught, unwind}
-use Rattle.vx_jump_targets.specs.Placed.{starts_in}
-use Rattle.vx_link.specs.ClassNames.{class_text, core_class}
+use Rattle.vx_java.specs.Row.{row, row_if, row_in}
+use Rattle.vx_java.specs.Step.{Config, Live, Over, Progress, Run, before_main, next, outcome_carried_out, result, run, run_after, start, step, steps, text_of}
+use Rattle.vx_java.specs.Throwing.{exception_objects, handler_of, next_in_handler, passed_object, passed_state, uncaught, unwind}
+use Rattle.vx_kept_facts.proofs.Claims.{begin_comes, start_comes}
+use Rattle.vx_kept_facts.proofs.NativeRows.{carried_out_comes, seen}
+use Rattle.vx_kept_facts.proofs.Rows.{begins_there}
+use Rattle.vx_kept_facts.proofs.Places.{or_right}
+use Rattle.vx_link.specs.ClassNames.{class_text}
 use Rattle.vx_link.specs.Hierarchy.{superclasses}
 use Rattle.vx_link.specs.Linked.{linked_program}
 use Rattle.vx_link.specs.Parts.{class_at, method_at, no_method}
@@ -32,23 +35,19 @@ use Rattle.vx_list.specs.Places.{item_or}
 use Rattle.vx_model.specs.declared.model.OptionField.{OptionField}
 use Rattle.vx_opcode.specs.Decode.{instruction_at}
 use Rattle.vx_opcode.specs.declared.instruction.Instruction.{Instruction}
-use Rattle.vx_spelled_ends.proofs.Positions.{start_of}
 use Rattle.vx_spelled_ends.proofs.Runs.{is_good_run, start_good, step_good}
 use Rattle.vx_spelled_ends.proofs.Sound.{linked_sound}
-use Rattle.vx_spelled_ends.proofs.Tests.{or_first, or_second, same_test, tests_same}
+use Rattle.vx_spelled_ends.proofs.Tests.{tests_same}
 use Rattle.vx_spelled_ends.specs.Law.{IsSound}
 use Rattle.vx_spelled_ends.specs.Positions.{all_stand, is_position_of, stands}
 use Rattle.vx_value.specs.declared.end.End.{End}
-use Rattle.vx_value.specs.declared.end.End.TheVariants.{Exit, Illegal, Return, Uncaught, Unfinished, Unsupported}
+use Rattle.vx_value.specs.declared.end.End.TheVariants.{Unsupported}
 use Rattle.vx_value.specs.declared.end.Stream.{Stream}
-use Rattle.vx_value.specs.declared.key.Kind.{Kind}
-use Rattle.vx_value.specs.declared.slot.InitState.TheVariants.{Failed}
 use Rattle.vx_may_end.specs.Lacks.{lacks_at, lacks_in, lacks_of_instruction, of_blocking, of_initialisation}
 use Rattle.vx_may_end.specs.Listed.{first_spots, is_lack, is_one, is_told, positions_of, spot_of, spots, spots_at, spots_of, tells}
 use Rattle.vx_may_end.specs.declared.lack.Lack.{Lack}
 use Rattle.vx_may_end.specs.declared.lack.Spot.{Spot}
-use Rattle.vx_may_end.proofs.Quiet.{IsQuiet}
-use Rattle.vx_may_end.proofs.QuietNatives.{carried_out_quiet}
+use Rattle.vx_may_end.proofs.Quiet.{quiet}
 use Rattle.vx_may_end.proofs.Rows.{row_told}
 use Rattle.vx_may_end.proofs.Told.{IsToldEnd, Tells, are_lacks, is_itself, quietly, same_text}
 
@@ -80,7 +79,7 @@ module _ (p : Program) where
   blocking_first : (test : ℕ → Bool) (c : ℕ) (classes : List ℕ) (i : ℕ) (o : Option ℕ)
       → (elim o [ Some j ↦ Some j | None ↦ chain_blocked p (take_while test classes) ]) ≡ Some i → Blocking test i classes → listed i (cons_option o (filter_map (blocked p) classes)) ≡ true
   blocking_first test c classes i (Some j) e later =
-      or_first _ _ (subst (λ (k : ℕ). is_one class_word (class_text p k) (of_blocking p j) ≡ true) (same_Some j i e) (is_itself (of_blocking p j)))
+      or_left _ _ (subst (λ (k : ℕ). is_one class_word (class_text p k) (of_blocking p j) ≡ true) (same_Some j i e) (is_itself (of_blocking p j)))
   blocking_first test c classes i None e later = later e
 
   blocking_next : (test : ℕ → Bool) (c : ℕ) (classes : List ℕ) (i : ℕ) (b : Bool)
@@ -112,21 +111,6 @@ module _ (p : Program) where
       by true is f later = same_lack ls l word what is parts.0
       by false is f later = later f
 
-  -- a beginning, and a native method, are carried out
-  begun_chain : (ls : List Lack) (at : List ℕ) (s : State) (c : ℕ) (chain : List ℕ) (o : Option ℕ) → ((i : ℕ) → o ≡ Some i → is_lack ls class_word (class_text p i) ≡ true) → place p s ≡ at
-      → Tells p ls at (begin_chain p s c chain o)
-  begun_chain ls at s c chain (Some i) each is = record { told = (each i refl, is) }
-  begun_chain ls at s c chain None each is = by (is_below_failed p s.inits c)
-    where
-      full : (b : Bool) → Tells p ls at (when b (Raise (core_class p "java/lang/StackOverflowError") None s) (Go (pushed_chain p s chain)))
-      full true = record { told = tt }
-      full false = record { told = tt }
-
-      by : (b : Bool) → Tells p ls at (when b (Raise (core_class p "java/lang/NoClassDefFoundError") None (with_inits s Failed chain))
-          (when (nat_lt frame_bound (depth s + length chain)) (Raise (core_class p "java/lang/StackOverflowError") None s) (Go (pushed_chain p s chain))))
-      by true = record { told = tt }
-      by false = full (nat_lt frame_bound (depth s + length chain))
-
   -- an outcome that has been carried out is told by its end alone
   abbrev EndTold : List Lack → List ℕ → Outcome → Type 0
   EndTold ls at (Ended e) = IsToldEnd ls at e
@@ -134,28 +118,19 @@ module _ (p : Program) where
 
   tells_end : (ls : List Lack) (at : List ℕ) (o : Outcome) → Tells p ls at o → EndTold ls at o
   tells_end ls at (Ended e) t = t.told
-  tells_end ls at (Go s) t = tt
-  tells_end ls at (Raise class message s) t = tt
-  tells_end ls at (Throw r s) t = tt
-  tells_end ls at (Begin class s) t = tt
-  tells_end ls at (Native m s) t = tt
-  tells_end ls at (Write stream units s) t = tt
+  tells_end ls at _ t = tt
 
   carried : (ls : List Lack) (at : List ℕ) (o : Outcome) → Tells p ls at o → EndTold ls at (outcome_carried_out p o)
-  carried ls at (Go s) t = tt
-  carried ls at (Raise class message s) t = tt
-  carried ls at (Throw r s) t = tt
   carried ls at (Begin c s) t =
-      let chain = init_chain p s.inits c in
-      tells_end ls at (begin p s c) (begun_chain ls at s c chain (chain_blocked p chain)
-      (λ i is. each_is_lack ls (of_initialisation p c) class_word (class_text p i) t.told.0 (blocking_listed (λ d. is_not (init_at s.inits d)) (superclasses p c) i is)) t.told.1)
+      tells_end ls at (begin p s c)
+      (begin_comes (Tells p ls at) p s c
+      (λ i is. record { told = (each_is_lack ls (of_initialisation p c) class_word (class_text p i) t.told.0 (blocking_listed (λ d. is_not (init_at s.inits d)) (superclasses p c) i is), t.told.1) })
+      (record { told = tt }) (record { told = tt }) (record { told = tt }))
   carried ls at (Native m s) t =
-      let code = unwrap_or (method_at p s.top.method).code no_code in
       tells_end ls at (native p s m)
-      (quietly p ls at (native p s m)
-      (carried_out_quiet (record { program = p; state = s; code = code; pool = (class_at p (current_class p s)).pool; size = instruction_size (instruction_at code.bytes s.top.position) }) (method_at p m)))
-  carried ls at (Write stream units s) t = tt
+      (quietly p ls at (native p s m) (carried_out_comes quiet (seen p s (method_at p s.top.method).code) tt (method_at p m)))
   carried ls at (Ended e) t = t.told
+  carried ls at _ t = tt
 
   -- ---- where an outcome leads
 
@@ -178,22 +153,19 @@ module _ (p : Program) where
       by None later = later
 
   followed : (ls : List Lack) (at : List ℕ) (o : Outcome) → EndTold ls at o → NextTold ls at (next p o)
-  followed ls at (Go s) t = tt
   followed ls at (Raise class message s) t =
       let objects = exception_objects p s class message in
       unwound ls at (with_objects s objects) (next_object s + length objects - 1) s.callers
   followed ls at (Throw r s) t = unwound ls at s r s.callers
-  followed ls at (Begin c s) t = tt
-  followed ls at (Native m s) t = tt
-  followed ls at (Write stream units s) t = tt
   followed ls at (Ended e) t = t
+  followed ls at _ t = tt
 
   -- ---- spots
 
   -- a lack of a place is at the spot there
   lack_told : (word : ℕ) (what : List ℕ) (m at : ℕ) (ls : List Lack) → is_lack ls word what ≡ true → list_any (tells p word what (place_at p m at)) (spot_of m at ls) ≡ true
   lack_told word what m at [] e = absurd cc
-  lack_told word what m at (l ∷ ls) e = or_first _ _ (both_true e (same_text (place_at p m at)))
+  lack_told word what m at (l ∷ ls) e = or_left _ _ (both_true e (same_text (place_at p m at)))
 
   -- what one of some numbers gives
   any_of : (test : Spot → Bool) (f : ℕ → List Spot) (n : ℕ) (numbers : List ℕ) → is_start numbers n ≡ true → list_any test (f n) ≡ true → list_any test (flat_map f numbers) ≡ true
@@ -201,8 +173,8 @@ module _ (p : Program) where
   any_of test f n (k ∷ numbers) e t = list_any-append test (f k) (flat_map f numbers) ∙ by (k == n) refl e (λ later. any_of test f n numbers later t)
     where
       by : (b : Bool) → (k == n) ≡ b → (b || is_start numbers n) ≡ true → (is_start numbers n ≡ true → list_any test (flat_map f numbers) ≡ true) → (list_any test (f k) || list_any test (flat_map f numbers)) ≡ true
-      by true is any later = or_first _ _ (subst (λ (j : ℕ). list_any test (f j) ≡ true) (sym (tests_same k n is)) t)
-      by false is any later = or_second (list_any test (f k)) _ (later any)
+      by true is any later = or_left _ _ (subst (λ (j : ℕ). list_any test (f j) ≡ true) (sym (tests_same k n is)) t)
+      by false is any later = or_right (list_any test (f k)) _ (later any)
 
   in_numbers : (n from many : ℕ) → from ≤ n → n < from + many → is_start (range_with_len from many) n ≡ true
   in_numbers n from zero least less = absurd (omega (arith, least, less))
@@ -234,7 +206,7 @@ module _ (p : Program) where
       by_instruction code coded None found e = absurd cc
       by_instruction code coded (Some i) found e = record {
         method = has_number p.methods m code coded;
-        position = rw coded (start_of code at i found (rw coded at stand));
+        position = rw coded (begins_there code at i found (rw coded at stand));
       }
 
       by_code : (o : Option Code) → (method_at p m).code ≡ o → is_lack (lacks_in p (method_at p m).class.0 o at) word what ≡ true → IsListed m at
@@ -249,15 +221,11 @@ module _ (p : Program) where
       let here = any_of test (spots_at p m) at (positions_of (method_at p m).code) listed.position (lack_told word what m at (lacks_at p m at) lack) in
       let less = listed.method in
       let there = any_of test (spots_of p) m (range_with_len 0 (length p.methods)) (in_numbers m 0 (length p.methods) (omega arith) (omega (arith, less))) here in
-      list_any-append test (first_spots p) (flat_map (spots_of p) (range_with_len 0 (length p.methods))) ∙ or_second (list_any test (first_spots p)) _ there
+      list_any-append test (first_spots p) (flat_map (spots_of p) (range_with_len 0 (length p.methods))) ∙ or_right (list_any test (first_spots p)) _ there
 
   end_is_told : (m at : ℕ) (e : End) → is_position_of (method_at p m).code at ≡ true → IsToldEnd (lacks_at p m at) (place_at p m at) e → is_told p e ≡ true
   end_is_told m at (Unsupported word what there) stand t = rw t.1 (lack_is_told m at word what stand t.0)
-  end_is_told m at Return stand t = refl
-  end_is_told m at (Exit k) stand t = refl
-  end_is_told m at (Uncaught class) stand t = refl
-  end_is_told m at (Illegal there) stand t = refl
-  end_is_told m at Unfinished stand t = refl
+  end_is_told m at _ stand t = refl
 
   -- ---- runs
 
@@ -284,27 +252,15 @@ module _ (p : Program) where
 
   -- ---- the start
 
-  room_told : (s : State) (chain : List ℕ) (b : Bool) → RunTold (with_room p s chain b)
-  room_told s chain true = refl
-  room_told s chain false = tt
-
-  quiet_told : (s : State) (chain : List ℕ) (b : Bool) → RunTold (if_quiet p s chain b)
-  quiet_told s chain true = tt
-  quiet_told s chain false = room_told s chain (nat_lt frame_bound (depth s + length chain))
-
-  begun_told : (s : State) (c : ℕ) (chain : List ℕ) (o : Option ℕ) → ((i : ℕ) → o ≡ Some i → is_told p (Unsupported class_word (class_text p i) (place p s)) ≡ true) → RunTold (begun p s c chain o)
-  begun_told s c chain (Some i) each = each i refl
-  begun_told s c chain None each = quiet_told s chain (quiet_chain p s.inits c)
-
   start_told : (config : Config) → RunTold (start p config)
   start_told config =
       let s = before_main p config in
       let c = current_class p s in
-      let chain = init_chain p s.inits c in
-      begun_told s c chain (chain_blocked p chain) (λ i is.
-      let test = tells p class_word (class_text p i) (place p s) in
-      list_any-append test (first_spots p) (flat_map (spots_of p) (range_with_len 0 (length p.methods)))
-      ∙ or_first _ _ (lack_told class_word (class_text p i) p.main.0 0 (of_initialisation p c) (blocking_listed (λ d. is_not (init_at s.inits d)) (superclasses p c) i is)))
+      start_comes RunTold p config
+      (λ i is.
+      list_any-append (tells p class_word (class_text p i) (place p s)) (first_spots p) (flat_map (spots_of p) (range_with_len 0 (length p.methods)))
+      ∙ or_left _ _ (lack_told class_word (class_text p i) p.main.0 0 (of_initialisation p c) (blocking_listed (λ d. is_not (init_at s.inits d)) (superclasses p c) i is)))
+      refl tt tt
 
   result_told : (r : Run) → RunTold r → is_told p (result r).end ≡ true
   result_told (Live g) t = refl

@@ -1,19 +1,20 @@
 -- What an outcome lacks is among lacks, at a place. Here is what many rows share.
-use Rattle.std.proofs.Common.{Bool, List, None, Option, Some, [], bytes_eq, codes, false, if◌then◌else◌, map, refl, subst, sym, true, ℕ, ◌&&◌, ◌++◌, ◌∙◌, ◌∷◌, ◌≡◌}
+use Rattle.std.proofs.Common.{Bool, List, None, Option, Some, [], bytes_eq, false, if◌then◌else◌, refl, true, ℕ, ◌++◌, ◌∙◌, ◌∷◌, ◌≡◌}
+use Rattle.std.proofs.lemmas.Bool.{or_left}
 use Rattle.std.proofs.lemmas.List.Folds.{list_any-append}
 use Rattle.std.specs.Cmp.Derive.{both_true}
-use Rattle.std.specs.List.{filter_map, list_all, list_any}
-use Rattle.std.specs.Prelude.{◌==◌, ◌||◌}
+use Rattle.std.specs.List.{list_all}
 use Rattle.vx_pool.specs.Holding.{and_true}
 use Rattle.vx_java.specs.Calls.{if_arguments}
 use Rattle.vx_java.specs.Checks.{if_there, with_class}
-use Rattle.vx_java.specs.Initialisation.{blocked, by_state, init_chain, quiet_chain, when_initialised, when_not}
-use Rattle.vx_java.specs.Machine.{Begin, Ended, Go, Here, Native, Outcome, Raise, Throw, Value, Write, in_state, init_at, inits_with, place, unsupported, when}
+use Rattle.vx_java.specs.Initialisation.{by_state, init_chain, quiet_chain, when_initialised, when_not}
+use Rattle.vx_java.specs.Machine.{Begin, Ended, Here, Outcome, Value, in_state, init_at, inits_with, place, unsupported, when}
+use Rattle.vx_kept_facts.proofs.Places.{or_right}
 use Rattle.vx_link.specs.ClassNames.{class_named}
 use Rattle.vx_link.specs.declared.program.Program.{Program}
-use Rattle.vx_spelled_ends.proofs.Tests.{or_first, or_second, same_test}
+use Rattle.vx_spelled_ends.proofs.Tests.{same_test}
 use Rattle.vx_value.specs.declared.end.End.{End}
-use Rattle.vx_value.specs.declared.end.End.TheVariants.{Exit, Illegal, Return, Uncaught, Unfinished, Unsupported}
+use Rattle.vx_value.specs.declared.end.End.TheVariants.{Unsupported}
 use Rattle.vx_value.specs.declared.slot.InitState.{InitState}
 use Rattle.vx_value.specs.declared.slot.InitState.TheVariants as init
 use Rattle.vx_may_end.specs.Lacks.{lack, of_class, of_initialisation, of_there}
@@ -39,10 +40,10 @@ pub is_itself : (l : Lack) → is_one l.word l.what l ≡ true
 is_itself l = both_true (same_test l.word l.word refl) (same_text l.what)
 
 pub front : (ls ms : List Lack) → Within ls (ls ++ ms)
-front ls ms word what e = list_any-append (is_one word what) ls ms ∙ or_first _ _ e
+front ls ms word what e = list_any-append (is_one word what) ls ms ∙ or_left _ _ e
 
 pub behind : (ls ms : List Lack) → Within ms (ls ++ ms)
-behind ls ms word what e = list_any-append (is_one word what) ls ms ∙ or_second (is_lack ls word what) _ e
+behind ls ms word what e = list_any-append (is_one word what) ls ms ∙ or_right (is_lack ls word what) _ e
 
 are_within : (ls ms these : List Lack) → Within ls ms → are_lacks ls these ≡ true → are_lacks ms these ≡ true
 are_within ls ms [] within e = refl
@@ -54,9 +55,9 @@ are_within ls ms (l ∷ these) within e =
 pub are_all : (before these : List Lack) → are_lacks (before ++ these) these ≡ true
 are_all before [] = refl
 are_all before (l ∷ these) =
-    both_true (behind before (l ∷ these) l.word l.what (or_first _ _ (is_itself l)))
+    both_true (behind before (l ∷ these) l.word l.what (or_left _ _ (is_itself l)))
     (are_within (these) (before ++ (l ∷ these)) these
-    (λ word what e. behind before (l ∷ these) word what (or_second (is_one word what l) _ e)) (are_all [] these))
+    (λ word what e. behind before (l ∷ these) word what (or_right (is_one word what l) _ e)) (are_all [] these))
 
 -- ---- outcomes
 
@@ -74,35 +75,18 @@ pub record Tells (p : Program) (ls : List Lack) (at : List ℕ) (o : Outcome) : 
   pub told : TellsOutcome p ls at o
 
 pub quietly : (p : Program) (ls : List Lack) (at : List ℕ) (o : Outcome) → IsQuiet o → Tells p ls at o
-quietly p ls at (Go s) q = record { told = tt }
-quietly p ls at (Raise class message s) q = record { told = tt }
-quietly p ls at (Throw r s) q = record { told = tt }
-quietly p ls at (Native m s) q = record { told = tt }
-quietly p ls at (Write stream units s) q = record { told = tt }
 quietly p ls at (Begin class s) q = let wrong = q.holds in absurd cc
 quietly p ls at (Ended (Unsupported word what there)) q = let wrong = q.holds in absurd cc
-quietly p ls at (Ended Return) q = record { told = tt }
-quietly p ls at (Ended (Exit k)) q = record { told = tt }
-quietly p ls at (Ended (Uncaught class)) q = record { told = tt }
-quietly p ls at (Ended (Illegal there)) q = record { told = tt }
-quietly p ls at (Ended Unfinished) q = record { told = tt }
+quietly p ls at _ q = record { told = tt }
 
 end_within : (ls ms : List Lack) (at : List ℕ) (e : End) → Within ls ms → IsToldEnd ls at e → IsToldEnd ms at e
 end_within ls ms at (Unsupported word what there) within t = (within word what t.0, t.1)
-end_within ls ms at Return within t = tt
-end_within ls ms at (Exit k) within t = tt
-end_within ls ms at (Uncaught class) within t = tt
-end_within ls ms at (Illegal there) within t = tt
-end_within ls ms at Unfinished within t = tt
+end_within ls ms at _ within t = tt
 
 pub wider : (p : Program) (ls ms : List Lack) (at : List ℕ) (o : Outcome) → Within ls ms → Tells p ls at o → Tells p ms at o
-wider p ls ms at (Go s) within t = record { told = tt }
-wider p ls ms at (Raise class message s) within t = record { told = tt }
-wider p ls ms at (Throw r s) within t = record { told = tt }
-wider p ls ms at (Native m s) within t = record { told = tt }
-wider p ls ms at (Write stream units s) within t = record { told = tt }
 wider p ls ms at (Begin class s) within t = record { told = (are_within ls ms (of_initialisation p class) within t.told.0, t.told.1) }
 wider p ls ms at (Ended e) within t = record { told = end_within ls ms at e within t.told }
+wider p ls ms at _ within t = record { told = tt }
 
 -- ---- what an instruction comes to
 
@@ -114,7 +98,7 @@ abbrev pub TellsHere : Here → List Lack → Outcome → Type 0
 TellsHere h ls o = Tells h.program ls (here h) o
 
 pub left_out : (h : Here) (when : When) (word : ℕ) (what : List ℕ) → TellsHere h (lack when word what) (unsupported h word what)
-left_out h when word what = record { told = (or_first _ _ (both_true (same_test word word refl) (same_text what)), refl) }
+left_out h when word what = record { told = (or_left _ _ (both_true (same_test word word refl) (same_text what)), refl) }
 
 pub by_when : (h : Here) (ls : List Lack) (b : Bool) (x y : Outcome) → TellsHere h ls x → TellsHere h ls y → TellsHere h ls (when b x y)
 by_when h ls true x y first second = first

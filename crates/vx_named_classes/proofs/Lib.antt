@@ -1,5 +1,3 @@
-pub mod Forms
-pub mod Rules
 pub mod Pools
 pub mod Operations
 pub mod NamedFiles

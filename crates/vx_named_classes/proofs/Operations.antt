@@ -10,6 +10,9 @@ use Rattle.vx_pool.specs.Lookups.{class, entry_of, is_field, is_interface_method
 use Rattle.vx_java.specs.Operation.{entry_of as entry_named, operation_of, rules}
 use Rattle.vx_java.specs.declared.operation.Operation.{Operation}
 use Rattle.vx_java.specs.declared.operation.Operation.TheVariants.{CheckCast, GetField, GetStatic, InstanceOf, Invoke, New, NewGrid, NewReferences, PushEntry, PutField, PutStatic, Refuse}
+use Rattle.vx_kept_facts.proofs.Forms.{formed, is_of_shape}
+use Rattle.vx_kept_facts.proofs.Places.{passes_there}
+use Rattle.vx_kept_facts.proofs.Rules.{are_all, each_of, passes_or_is}
 use Rattle.vx_opcode.specs.Decode.{instruction_at}
 use Rattle.vx_opcode.specs.Table.{shape_of}
 use Rattle.vx_opcode.specs.declared.instruction.Instruction.{Instruction}
@@ -17,9 +20,7 @@ use Rattle.vx_opcode.specs.declared.instruction.Operand.{Operand}
 use Rattle.vx_opcode.specs.declared.instruction.Operand.TheVariants as operand
 use Rattle.vx_pool.specs.declared.pool.Pool.{Pool}
 use Rattle.vx_named_classes.specs.Named.{is_named_operation}
-use Rattle.vx_named_classes.proofs.Forms.{formed, is_of_shape}
 use Rattle.vx_named_classes.proofs.Pools.{AreChecked, class_at_index, loaded_at_index, member_at_index}
-use Rattle.vx_named_classes.proofs.Rules.{are_all, each_of, passes_at, passes_or_is}
 
 -- ---- the opcodes that name an entry, and all others
 
@@ -151,5 +152,5 @@ operation_named pool major max_locals code at i checked found holds = by_plain (
     by_plain : (b : Bool) → is_plain (operation_of i) ≡ b → (b || is_start pool_opcodes i.opcode) ≡ true → is_named_operation pool (operation_of i) ≡ true
     by_plain true is any = plain_is_named pool (operation_of i) is
     by_plain false is any =
-        let names : names_entry i.operand ≡ true = entry_is_named (names_entry i.operand) (is_of_shape (shape_of i.opcode) i.operand) (passes_at (is_of_other_shape i.operand) pool_opcodes i.opcode (other_shapes i.operand) any) (formed code at i found) in
+        let names : names_entry i.operand ≡ true = entry_is_named (names_entry i.operand) (is_of_shape (shape_of i.opcode) i.operand) (passes_there (is_of_other_shape i.operand) pool_opcodes i.opcode (other_shapes i.operand) any) (formed code at i found) in
         each_of (IsNamedWith pool major i) pool_opcodes i.opcode (pool_named pool major i checked) any (kind_checked pool major max_locals i.opcode i.operand names holds)

@@ -1,25 +1,20 @@
 -- The beginning of an initialisation: the frames that are put above those that stand begin as their methods' typings do.
-use Rattle.std.proofs.Common.{Bool, List, None, Option, Some, [], ap, arith, cond, false, is_some, length, map, refl, replicate, reverse, subst, suc, sym, true, zero, ℕ, ◌++◌, ◌+◌, ◌-◌, ◌<◌, ◌∙◌, ◌∷◌, ◌≡◌}
+use Rattle.std.proofs.Common.{List, None, Option, Some, [], ap, arith, is_some, length, map, refl, replicate, reverse, subst, suc, sym, true, zero, ℕ, ◌++◌, ◌+◌, ◌-◌, ◌<◌, ◌∙◌, ◌∷◌, ◌≡◌}
 use Prim.Native.String.{String}
 use Rattle.std.proofs.lemmas.Bool.{lt-ltb, ltb-true}
-use Rattle.std.proofs.lemmas.List.{reverse-append}
-use Rattle.std.proofs.lemmas.List.Sums.{take_while-cons}
-use Rattle.std.proofs.lemmas.List.Folds.{list_all-append}
-use Rattle.std.specs.Cmp.Derive.{both_true}
 use Rattle.std.specs.List.{list_all, take_while}
 use Rattle.std.specs.Prelude.{nat_lt, take}
 use Rattle.vx_class.specs.declared.class_file.Code.{Code}
 use Rattle.vx_pool.specs.Holding.{and_true}
-use Rattle.vx_java.specs.Initialisation.{begin, begin_chain, chain_blocked, init_chain, init_frame, is_below_failed, is_not, max_locals, new_frame, pushed_chain, with_frames}
-use Rattle.vx_java.specs.Machine.{Frame, Go, Object, Outcome, Raise, State, Top, Value, depth, frame_bound, init_at, when, with_inits}
-use Rattle.vx_kept_facts.proofs.Claims.{is_raised}
+use Rattle.vx_java.specs.Initialisation.{begin, init_chain, init_frame, is_not, max_locals, new_frame, pushed_chain, with_frames}
+use Rattle.vx_java.specs.Machine.{Frame, Object, Raise, State, Top, Value, init_at, with_inits}
+use Rattle.vx_kept_facts.proofs.Beginning.{has_initialiser, is_there, reversed_pass, taken_pass}
+use Rattle.vx_kept_facts.proofs.Claims.{begin_comes, is_raised}
 use Rattle.vx_kept_facts.proofs.Sites.{length_inits, throwable}
 use Rattle.vx_link.specs.ClassNames.{core_class}
 use Rattle.vx_link.specs.Hierarchy.{superclasses}
-use Rattle.vx_link.specs.Parts.{class_at, class_count, method_at, no_class}
-use Rattle.vx_link.specs.declared.program.LinkedClass.{LinkedClass}
+use Rattle.vx_link.specs.Parts.{class_at, class_count, method_at}
 use Rattle.vx_link.specs.declared.program.Program.{Program}
-use Rattle.vx_list.specs.Places.{item_or}
 use Rattle.vx_sound.specs.Sound.{IsSound}
 use Rattle.vx_sound.specs.Typed.{AreTypedUnder, AreTypings, IsTypedFrame, IsTypedOutcome, IsTypedState, IsTypingOf, Typings}
 use Rattle.vx_sound.specs.Values.{types_of_frame, types_of_values}
@@ -44,21 +39,6 @@ types_of_nothing p heap (suc n) = ap (λ (ts : List VerType). is.Top ∷ ts) (ty
 take_all : (n : ℕ) (t : VerType) → take n (replicate n t) ≡ replicate n t
 take_all zero t = refl
 take_all (suc n) t = ap (λ (ts : List VerType). t ∷ ts) (take_all n t)
-
--- a class whose state of initialisation is Not is there
-is_there : (inits : List InitState) (classes : List LinkedClass) (c : ℕ) → length inits ≡ length classes → is_not (init_at inits c) ≡ true → c < length classes
-is_there [] classes c same is = absurd cc
-is_there (i ∷ inits) [] c same is = absurd (omega (arith, same))
-is_there (i ∷ inits) (class ∷ classes) zero same is = omega arith
-is_there (i ∷ inits) (class ∷ classes) (suc c) same is =
-    let less = is_there inits classes c (omega (arith, same)) is in
-    omega (arith, less)
-
-has_initialiser : (p : Program) (classes : List LinkedClass) (c : ℕ) → list_all (λ c. is_some (method_at p c.initialiser.0).code) classes ≡ true → c < length classes
-    → is_some (method_at p (item_or classes c no_class).initialiser.0).code ≡ true
-has_initialiser p [] c all less = absurd (omega (arith, less))
-has_initialiser p (class ∷ classes) zero all less = (and_true _ _ all).0
-has_initialiser p (class ∷ classes) (suc c) all less = has_initialiser p classes c (and_true _ _ all).1 (omega (arith, less))
 
 module _ (p : Program) (typings : Typings) (sound : IsSound p) (are : AreTypings p typings) where
   ranked : IsRanked p
@@ -100,22 +80,8 @@ module _ (p : Program) (typings : Typings) (sound : IsSound p) (are : AreTypings
   AreThere chain = list_all (λ c. nat_lt c (class_count p)) chain ≡ true
 
   there_in_chain : (inits : List InitState) → length inits ≡ class_count p → (classes : List ℕ) → AreThere (take_while (λ d. is_not (init_at inits d)) classes)
-  there_in_chain inits count [] = refl
-  there_in_chain inits count (c ∷ classes) =
-      ap (list_all (λ c. nat_lt c (class_count p))) (take_while-cons (λ d. is_not (init_at inits d)) c classes)
-      ∙ by (is_not (init_at inits c)) refl (there_in_chain inits count classes)
-    where
-      by : (b : Bool) → is_not (init_at inits c) ≡ b → AreThere (take_while (λ d. is_not (init_at inits d)) classes)
-          → list_all (λ c. nat_lt c (class_count p)) (cond b (c ∷ take_while (λ d. is_not (init_at inits d)) classes) []) ≡ true
-      by true is later = both_true (lt-ltb c (class_count p) (is_there inits p.classes c count is)) later
-      by false is later = refl
-
-  there_reversed : (chain : List ℕ) → AreThere chain → AreThere (reverse chain)
-  there_reversed [] all = refl
-  there_reversed (c ∷ chain) all =
-      ap (list_all (λ c. nat_lt c (class_count p))) (reverse-append (c ∷ []) chain)
-      ∙ list_all-append (λ c. nat_lt c (class_count p)) (reverse chain) (c ∷ [])
-      ∙ both_true (there_reversed chain (and_true _ _ all).1) (both_true (and_true _ _ all).0 refl)
+  there_in_chain inits count classes =
+      taken_pass (λ d. is_not (init_at inits d)) (λ c. nat_lt c (class_count p)) (λ c is. lt-ltb c (class_count p) (is_there inits p.classes c count is)) classes
 
   -- the frames that wait above one that stands
   waiting : (heap : List Object) (m : ℕ) (chain : List ℕ) → AreThere chain → (f : Frame) (below : List Frame) → IsTypedFrame p typings heap f → AreTypedUnder p typings heap f.kind f.method below
@@ -153,28 +119,16 @@ module _ (p : Program) (typings : Typings) (sound : IsSound p) (are : AreTypings
   pub pushed_typed : (s : State) → IsTypedState p typings s → (c : ℕ) → IsTypedState p typings (pushed_chain p s (init_chain p s.inits c))
   pushed_typed s typed c =
       frames_typed (with_inits s Running (init_chain p s.inits c)) (marked_typed s typed Running (init_chain p s.inits c)) (reverse (init_chain p s.inits c))
-      (there_reversed (init_chain p s.inits c) (there_in_chain s.inits typed.inits (superclasses p c)))
+      (reversed_pass (λ c. nat_lt c (class_count p)) (init_chain p s.inits c) (there_in_chain s.inits typed.inits (superclasses p c)))
 
   -- ---- a beginning
 
   raises_in : (s : State) → IsTypedState p typings s → (name : String) → is_raised name ≡ true → IsTypedOutcome p typings (Raise (core_class p name) None s)
   raises_in s typed name among = (throwable p sound.runnable name among, typed)
 
-  chosen : (b : Bool) (x y : Outcome) → IsTypedOutcome p typings x → IsTypedOutcome p typings y → IsTypedOutcome p typings (when b x y)
-  chosen true x y first second = first
-  chosen false x y first second = second
-
   pub begin_typed : (s : State) → IsTypedState p typings s → (c : ℕ) → IsTypedOutcome p typings (begin p s c)
-  begin_typed s typed c = by (chain_blocked p (init_chain p s.inits c))
-    where
-      chain : List ℕ
-      chain = init_chain p s.inits c
-
-      by : (blocking : Option ℕ) → IsTypedOutcome p typings (begin_chain p s c (init_chain p s.inits c) blocking)
-      by (Some i) = refl
-      by None =
-          chosen (is_below_failed p s.inits c) (Raise (core_class p "java/lang/NoClassDefFoundError") None (with_inits s Failed (init_chain p s.inits c)))
-          (when (nat_lt frame_bound (depth s + length (init_chain p s.inits c))) (Raise (core_class p "java/lang/StackOverflowError") None s) (Go (pushed_chain p s (init_chain p s.inits c))))
-          (raises_in (with_inits s Failed (init_chain p s.inits c)) (marked_typed s typed Failed (init_chain p s.inits c)) "java/lang/NoClassDefFoundError" refl)
-          (chosen (nat_lt frame_bound (depth s + length (init_chain p s.inits c))) (Raise (core_class p "java/lang/StackOverflowError") None s) (Go (pushed_chain p s (init_chain p s.inits c)))
-          (raises_in s typed "java/lang/StackOverflowError" refl) (pushed_typed s typed c))
+  begin_typed s typed c =
+      begin_comes (IsTypedOutcome p typings) p s c (λ i is. refl)
+      (raises_in (with_inits s Failed (init_chain p s.inits c)) (marked_typed s typed Failed (init_chain p s.inits c)) "java/lang/NoClassDefFoundError" refl)
+      (raises_in s typed "java/lang/StackOverflowError" refl)
+      (pushed_typed s typed c)

@@ -1,14 +1,15 @@
 -- A run begins in a typed state.
-use Rattle.std.proofs.Common.{Bool, List, None, Option, Some, [], ap, arith, false, inl, inr, length, map, refl, replicate, subst, suc, sym, true, zero, ℕ, ◌++◌, ◌+◌, ◌-◌, ◌<◌, ◌∷◌, ◌≡◌, ◌≤◌, ◌⊎◌}
+use Rattle.std.proofs.Common.{List, Option, Some, [], ap, arith, false, inl, inr, length, map, refl, replicate, subst, suc, sym, true, zero, ℕ, ◌++◌, ◌+◌, ◌-◌, ◌<◌, ◌∷◌, ◌≡◌, ◌≤◌, ◌⊎◌}
 use Rattle.std.proofs.lemmas.Bool.{cases_lt}
 use Rattle.std.proofs.lemmas.List.{length-append, length-replicate}
-use Rattle.std.specs.Prelude.{nat_lt, take}
+use Rattle.std.specs.Prelude.{take}
 use Rattle.vx_class.specs.Members.{STATIC}
 use Rattle.vx_class.specs.declared.class_file.Code.{Code}
 use Rattle.vx_java.specs.FirstObjects.{first_words}
-use Rattle.vx_java.specs.Initialisation.{chain_blocked, init_chain, max_locals, quiet_chain}
-use Rattle.vx_java.specs.Machine.{Ref, Top, Value, current_class, depth, frame_bound}
-use Rattle.vx_java.specs.Step.{Config, before_main, begun, first_inits, first_static, if_quiet, start, with_room}
+use Rattle.vx_java.specs.Initialisation.{max_locals}
+use Rattle.vx_java.specs.Machine.{Ref, Top, Value, current_class}
+use Rattle.vx_java.specs.Step.{Config, before_main, first_inits, first_static, start}
+use Rattle.vx_kept_facts.proofs.Claims.{main_chain, start_comes}
 use Rattle.vx_link.specs.ClassNames.{array_class, class_element, core_class}
 use Rattle.vx_link.specs.CoreFiles.{core_count}
 use Rattle.vx_link.specs.Parts.{class_count, has, is_static_field, method_at, no_field}
@@ -95,16 +96,6 @@ module _ (p : Program) (typings : Typings) (sound : IsSound p) (are : AreTypings
   -- ---- the start
 
   pub start_typed : (c : Config) → IsTypedRun p typings (start p c)
-  start_typed c = by (chain_blocked p (init_chain p (before_main p c).inits (current_class p (before_main p c))))
-    where
-      by_room : (b : Bool) → IsTypedRun p typings (with_room p (before_main p c) (init_chain p (before_main p c).inits (current_class p (before_main p c))) b)
-      by_room true = refl
-      by_room false = pushed_typed p typings sound are (before_main p c) (before_typed c) (current_class p (before_main p c))
-
-      by_quiet : (b : Bool) → IsTypedRun p typings (if_quiet p (before_main p c) (init_chain p (before_main p c).inits (current_class p (before_main p c))) b)
-      by_quiet true = marked_typed p typings sound are (before_main p c) (before_typed c) Done (init_chain p (before_main p c).inits (current_class p (before_main p c)))
-      by_quiet false = by_room (nat_lt frame_bound (depth (before_main p c) + length (init_chain p (before_main p c).inits (current_class p (before_main p c)))))
-
-      by : (o : Option ℕ) → IsTypedRun p typings (begun p (before_main p c) (current_class p (before_main p c)) (init_chain p (before_main p c).inits (current_class p (before_main p c))) o)
-      by (Some i) = refl
-      by None = by_quiet (quiet_chain p (before_main p c).inits (current_class p (before_main p c)))
+  start_typed c =
+      start_comes (IsTypedRun p typings) p c (λ i is. refl) refl (pushed_typed p typings sound are (before_main p c) (before_typed c) (current_class p (before_main p c)))
+      (marked_typed p typings sound are (before_main p c) (before_typed c) Done (main_chain p c))

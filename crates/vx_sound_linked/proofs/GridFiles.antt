@@ -19,9 +19,9 @@ use Rattle.vx_jump_targets.proofs.Lists.{each_passes}
 use Rattle.vx_jump_targets.proofs.PlacedFiles.{starts_are}
 use Rattle.vx_jump_targets.specs.Placed.{starts_in}
 use Rattle.vx_link.specs.Names.{class_name}
-use Rattle.vx_named_classes.proofs.Forms.{formed, is_of_shape}
+use Rattle.vx_kept_facts.proofs.Forms.{formed, is_of_shape}
 use Rattle.vx_named_classes.proofs.Pools.{AreChecked, class_at_index}
-use Rattle.vx_named_classes.proofs.Rules.{are_all, each_of, passes_or_is}
+use Rattle.vx_kept_facts.proofs.Rules.{are_all, each_of, passes_or_is}
 use Rattle.vx_named_classes.specs.Named.{is_given}
 use Rattle.vx_opcode.specs.Decode.{instruction_at}
 use Rattle.vx_opcode.specs.Table.{shape_of}

@@ -10,6 +10,7 @@ use Rattle.vx_class.specs.declared.class_file.ClassFile.{ClassFile}
 use Rattle.vx_pool.specs.Holding.{and_true}
 use Rattle.vx_java.specs.NativeForms.{form_of, has_form}
 use Rattle.vx_kept_states.proofs.Throwables.{AreRows, climbs, core_is, place_in, reaches_by}
+use Rattle.vx_kept_facts.proofs.KeptRows.{item_passes}
 use Rattle.vx_link.specs.ClassNames.{core_class}
 use Rattle.vx_link.specs.CoreFiles.{core_files, native_numbers, number_of}
 use Rattle.vx_link.specs.CoreTable.{core_table}
@@ -61,13 +62,6 @@ is_number_of rows steps row n = (n == 0 || is_some (form_of n)) && is_of_class r
 
 abbrev has_numbers : List WrittenClass → (steps : ℕ) → WrittenClass → Bool
 has_numbers rows steps row = list_all (is_number_of rows steps row) (numbers_of row)
-
--- a place of a list passes a test that what stands past its end passes
-item_passes : {A : Type 0} (test : A → Bool) (xs : List A) (k : ℕ) (d : A) → list_all test xs ≡ true → test d ≡ true → test (item_or xs k d) ≡ true
-item_passes test xs k d all last = elim (item_cases xs k d) [
-  | inl none ↦ subst (λ x. test x ≡ true) (sym none) last
-  | inr found ↦ subst (λ x. test x ≡ true) (sym found.2) (at_place test xs k found.0 all found.1)
-]
 
 numbers_there : (rows : List WrittenClass) (k : ℕ) (row : WrittenClass) → slice_get rows k ≡ Some row → item_or (map numbers_of rows) k [] ≡ numbers_of row
 numbers_there [] k row there = absurd cc

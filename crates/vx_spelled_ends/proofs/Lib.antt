@@ -1,9 +1,7 @@
 pub mod Tests
 pub mod Positions
-pub mod Leads
-pub mod Outcomes
-pub mod Rows
-pub mod Natives
+pub mod Sites
+pub mod Names
 pub mod Throws
 pub mod Runs
 pub mod Reports

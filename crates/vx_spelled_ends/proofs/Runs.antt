@@ -1,50 +1,48 @@
 -- What every run keeps, from its start on.
-use Rattle.std.proofs.Common.{Bool, List, None, Option, Some, [], arith, false, refl, suc, true, zero, ℕ, ◌+◌, ◌≤◌, ◌∷◌, ◌≡◌}
+use Rattle.std.proofs.Common.{Bool, ap, sym, ◌∙◌, List, None, Option, Some, [], arith, refl, suc, true, zero, ℕ, ◌+◌, ◌≤◌, ◌∷◌, ◌≡◌}
 use Rattle.std.specs.Cmp.Derive.{both_true}
 use Rattle.std.specs.List.{list_all}
-use Rattle.std.specs.Prelude.{length, map, nat_lt, reverse, unwrap_or}
+use Rattle.std.specs.Prelude.{length, map, reverse}
 use Rattle.vx_class.specs.declared.class_file.Code.{Code}
 use Rattle.vx_pool.specs.Holding.{and_true}
-use Rattle.vx_java.specs.Initialisation.{begin, begin_chain, begin_free, chain_blocked, init_chain, init_frame, is_below_failed, pushed_chain, quiet_chain, with_frames}
-use Rattle.vx_java.specs.Machine.{Begin, Ended, Ends, Go, Goes, Here, Native, Next, Outcome, Raise, State, Throw, Write, current_class, depth, frame_bound, place, when, with_inits}
-use Rattle.vx_java.specs.Natives.{native, no_code}
+use Rattle.vx_pool.specs.Instructions.{is_start}
+use Rattle.vx_java.specs.Initialisation.{begin, init_chain, init_frame, with_frames}
+use Rattle.vx_java.specs.Machine.{Begin, Ends, Goes, Here, Native, Next, Outcome, Raise, State, Throw, current_class, place, with_inits}
+use Rattle.vx_java.specs.Natives.{native}
 use Rattle.vx_java.specs.Operation.{class_word, operation_of}
-use Rattle.vx_java.specs.Returns.{instruction_size}
 use Rattle.vx_java.specs.Row.{row, row_at, row_if, row_in}
-use Rattle.vx_java.specs.Step.{Config, Live, Over, Progress, Run, before_main, begun, if_quiet, next, outcome_carried_out, result, run, run_after, start, step, steps, text_of, with_room}
-use Rattle.vx_jump_targets.specs.Placed.{has_placed_code, starts_in}
-use Rattle.vx_link.specs.ClassNames.{class_text, core_class}
+use Rattle.vx_java.specs.Step.{Config, Live, Over, Progress, Run, before_main, next, outcome_carried_out, result, run, run_after, start, step, steps, text_of}
+use Rattle.vx_jump_targets.specs.Placed.{has_placed_code, is_well_placed, starts_in}
+use Rattle.vx_link.specs.ClassNames.{class_text}
 use Rattle.vx_link.specs.Parts.{class_at, method_at, no_method}
 use Rattle.vx_link.specs.declared.program.Program.{Program}
 use Rattle.vx_named_classes.specs.Named.{is_named_code, is_named_instruction, is_named_method}
-use Rattle.vx_named_classes.proofs.Rules.{passes_at}
+use Rattle.vx_kept_facts.proofs.Claims.{begin_comes, main_chain, start_comes}
+use Rattle.vx_kept_facts.proofs.KeptRows.{item_passes}
+use Rattle.vx_kept_facts.proofs.Landings.{leads}
+use Rattle.vx_kept_facts.proofs.NativeRows.{carried_out_comes, seen}
+use Rattle.vx_kept_facts.proofs.Operations.{operation_comes}
+use Rattle.vx_kept_facts.proofs.Places.{jump_checked, passes_there, place_behind}
+use Rattle.vx_kept_facts.proofs.Rows.{begins_there, placed}
 use Rattle.vx_opcode.specs.Decode.{instruction_at}
 use Rattle.vx_opcode.specs.declared.instruction.Instruction.{Instruction}
+use Rattle.vx_value.specs.declared.end.End.TheVariants.{Unsupported}
 use Rattle.vx_value.specs.declared.end.Stream.{Stream}
 use Rattle.vx_value.specs.declared.key.Kind.{Kind}
 use Rattle.vx_value.specs.declared.key.Kind.TheVariants.{Init, Wait}
-use Rattle.vx_value.specs.declared.slot.InitState.TheVariants.{Failed, Running}
+use Rattle.vx_value.specs.declared.slot.InitState.TheVariants.{Running}
 use Rattle.vx_spelled_ends.specs.Law.{IsSound, IsSpelledRun}
 use Rattle.vx_spelled_ends.specs.Positions.{all_stand, is_position_of, stands}
 use Rattle.vx_spelled_ends.specs.Spelled.{is_spelled}
-use Rattle.vx_spelled_ends.proofs.Leads.{placed_leads}
-use Rattle.vx_spelled_ends.proofs.Natives.{native_good}
-use Rattle.vx_spelled_ends.proofs.Outcomes.{IsHere, is_good, place_given, unsupported_spelled}
-use Rattle.vx_spelled_ends.proofs.Positions.{first_position, next_position, resumed_position, start_of}
-use Rattle.vx_spelled_ends.proofs.Rows.{row_good}
-use Rattle.vx_spelled_ends.proofs.Tests.{all_append, item_passes}
+use Rattle.vx_spelled_ends.proofs.Names.{all_named}
+use Rattle.vx_spelled_ends.proofs.Positions.{first_position, resumed_position, start_position}
+use Rattle.vx_spelled_ends.proofs.Sites.{AtPosition, good, good_rows, is_good, left_out_spelled, place_given}
+use Rattle.vx_spelled_ends.proofs.Tests.{all_append}
 use Rattle.vx_spelled_ends.proofs.Throws.{class_text_given, is_good_next, raised_good, thrown_good}
 
 module _ (p : Program) (sound : IsSound p) where
   abbrev Good : Outcome → Type 0
   Good o = is_good p o ≡ true
-
-  by_when : (b : Bool) (x y : Outcome) → Good x → Good y → Good (when b x y)
-  by_when true x y f g = f
-  by_when false x y f g = g
-
-  method_placed : (m : ℕ) → has_placed_code (method_at p m).code ≡ true
-  method_placed m = item_passes (λ m. has_placed_code m.code) p.methods m no_method sound.placed refl
 
   method_named : (m : ℕ) → is_named_method p (method_at p m) ≡ true
   method_named m = item_passes (is_named_method p) p.methods m no_method sound.named.codes refl
@@ -58,21 +56,24 @@ module _ (p : Program) (sound : IsSound p) where
     callers : list_all (stands p) s.callers ≡ true
     callers = (and_true (stands p s.top) (list_all (stands p) s.callers) stand).1
 
-    abbrev here_at : Code → Instruction → Here
-    here_at code i = record { program = p; state = s; code = code; pool = (class_at p (current_class p s)).pool; size = i.length }
-
     at_instruction : (code : Code) (i : Instruction) → (method_at p s.top.method).code ≡ Some code → instruction_at code.bytes s.top.position ≡ Some i → Good (row_at p s code i)
     at_instruction code i coded found =
         let at = s.top.position in
-        let position = rw coded at top in
-        let begins = start_of code at i found position in
-        let next : is_position_of (method_at p s.top.method).code (at + i.length) ≡ true = rw coded (next_position code at i found position) in
-        let k : IsHere (here_at code i) = record { here = top; next = next; below = callers } in
-        let names : is_named_code (class_at p (current_class p s)).pool (Some code) ≡ true = rw coded at (method_named s.top.method) in
-        let name : is_named_instruction (class_at p (current_class p s)).pool (instruction_at code.bytes at) ≡ true =
-        passes_at (λ n. is_named_instruction (class_at p (current_class p s)).pool (instruction_at code.bytes n)) (starts_in code) at names begins in
-        let well = rw coded at (method_placed s.top.method) in
-        row_good (here_at code i) k coded (operation_of i) (rw found at name) (placed_leads code at i well begins found)
+        let pool = (class_at p (current_class p s)).pool in
+        let h : Here = record { program = p; state = s; code = code; pool = pool; size = i.length } in
+        let begins : is_start (starts_in code) at ≡ true = begins_there code at i found (ap (λ c. is_position_of c at) (sym coded) ∙ top) in
+        let site : AtPosition h = record {
+          here = top;
+          behind = ap (λ c. is_position_of c (at + i.length)) coded ∙ place_behind code at i found begins;
+          starts = λ to start. ap (λ c. is_position_of c to) coded ∙ start_position code to start;
+          below = callers;
+        } in
+        let names : is_named_code pool (Some code) ≡ true = ap (is_named_code pool) (sym coded) ∙ method_named s.top.method in
+        let name : is_named_instruction pool (instruction_at code.bytes at) ≡ true =
+        passes_there (λ n. is_named_instruction pool (instruction_at code.bytes n)) (starts_in code) at names begins in
+        let well : is_well_placed code ≡ true = ap has_placed_code (sym coded) ∙ placed p sound.placed s.top.method in
+        operation_comes good_rows h site (operation_of i) (leads h i found (jump_checked code at i well found begins))
+        (all_named pool (operation_of i) (ap (is_named_instruction pool) (sym found) ∙ name)) s.top.operands
 
     attempted : Good (row p s)
     attempted = by_code (method_at p s.top.method).code refl
@@ -87,15 +88,25 @@ module _ (p : Program) (sound : IsSound p) where
 
     -- ---- a native method that is carried out
 
+    native_site : (code : Option Code) → (method_at p s.top.method).code ≡ code → AtPosition (seen p s code)
+    native_site None coded = record {
+      here = top;
+      behind = ap (λ c. is_position_of c (s.top.position + (seen p s None).size)) coded;
+      starts = λ to start. ap (λ c. is_position_of c to) coded;
+      below = callers;
+    }
+    native_site (Some code) coded = record {
+      here = top;
+      behind =
+          ap (λ c. is_position_of c (s.top.position + (seen p s (Some code)).size)) coded
+          ∙ resumed_position (Some code) s.top.position (ap (λ c. is_position_of c s.top.position) (sym coded) ∙ top);
+      starts = λ to start. ap (λ c. is_position_of c to) coded ∙ start_position code to start;
+      below = callers;
+    }
+
     native_carried : (m : ℕ) → Good (native p s m)
     native_carried m =
-        let code = unwrap_or (method_at p s.top.method).code no_code in
-        let h : Here = record { program = p; state = s; code = code; pool = (class_at p (current_class p s)).pool; size = instruction_size (instruction_at code.bytes s.top.position) } in
-        native_good h (record { here = top; next = by_code (method_at p s.top.method).code top; below = callers }) (method_at p m)
-      where
-        by_code : (o : Option Code) → is_position_of o s.top.position ≡ true → is_position_of o (s.top.position + instruction_size (instruction_at (unwrap_or o no_code).bytes s.top.position)) ≡ true
-        by_code None e = refl
-        by_code (Some code) e = resumed_position (Some code) s.top.position e
+        carried_out_comes good (seen p s (method_at p s.top.method).code) (native_site (method_at p s.top.method).code refl) (method_at p m)
 
   -- ---- a beginning
 
@@ -110,42 +121,25 @@ module _ (p : Program) (sound : IsSound p) where
   with_frames_stand s [] stand = stand
   with_frames_stand s (c ∷ below) stand = both_true (frame_stands Init c) (all_append (stands p) (map (init_frame p Wait) below) (s.top ∷ s.callers) (frames_stand below) stand)
 
-  begun_free : (s : State) (c : ℕ) (chain : List ℕ) → all_stand p s ≡ true → Good (begin_free p s c chain)
-  begun_free s c chain stand =
-      let failed = Raise (core_class p "java/lang/NoClassDefFoundError") None (with_inits s Failed chain) in
-      let overflow = Raise (core_class p "java/lang/StackOverflowError") None s in
-      let pushed = Go (pushed_chain p s chain) in
-      let full = nat_lt frame_bound (depth s + length chain) in
-      by_when (is_below_failed p s.inits c) failed (when full overflow pushed) stand
-      (by_when full overflow pushed stand (with_frames_stand (with_inits s Running chain) (reverse chain) stand))
-
-  begun_chain : (s : State) (c : ℕ) (chain : List ℕ) (o : Option ℕ) → all_stand p s ≡ true → Good (begin_chain p s c chain o)
-  begun_chain s c chain None stand = begun_free s c chain stand
-  begun_chain s c chain (Some i) stand =
-      unsupported_spelled class_word (class_text p i) (place p s) refl (class_text_given p i sound) refl (place_given p s.top.method s.top.position)
+  blocked_spelled : (s : State) (i : ℕ) → is_spelled (Unsupported class_word (class_text p i) (place p s)) ≡ true
+  blocked_spelled s i = left_out_spelled class_word (class_text p i) (place p s) (class_text_given p i sound) (place_given p s.top.method s.top.position)
 
   begun_good : (s : State) (c : ℕ) → all_stand p s ≡ true → Good (begin p s c)
-  begun_good s c stand = let chain = init_chain p s.inits c in begun_chain s c chain (chain_blocked p chain) stand
+  begun_good s c stand =
+      let chain = init_chain p s.inits c in
+      begin_comes Good p s c (λ i is. blocked_spelled s i) stand stand (with_frames_stand (with_inits s Running chain) (reverse chain) stand)
 
   -- ---- one step
 
   carried : (o : Outcome) → Good o → Good (outcome_carried_out p o)
-  carried (Go s) f = f
-  carried (Raise class message s) f = f
-  carried (Throw r s) f = f
   carried (Begin class s) f = begun_good s class f
   carried (Native m s) f = native_carried s f m
-  carried (Write stream units s) f = f
-  carried (Ended e) f = f
+  carried _ f = f
 
   followed : (o : Outcome) → Good o → is_good_next p (next p o) ≡ true
-  followed (Go s) f = f
   followed (Raise class message s) f = raised_good p s class message sound f
   followed (Throw r s) f = thrown_good p s r sound f
-  followed (Begin class s) f = f
-  followed (Native m s) f = f
-  followed (Write stream units s) f = f
-  followed (Ended e) f = f
+  followed _ f = f
 
   -- ---- runs
 
@@ -168,25 +162,11 @@ module _ (p : Program) (sound : IsSound p) where
   steps_good (suc n) (Over e g) f = f
   steps_good (suc n) (Live g) f = steps_good n (step p g) (step_good g f)
 
-  room_good : (s : State) (chain : List ℕ) (full : Bool) → all_stand p s ≡ true → is_good_run (with_room p s chain full) ≡ true
-  room_good s chain true stand = refl
-  room_good s chain false stand = with_frames_stand (with_inits s Running chain) (reverse chain) stand
-
-  quiet_good : (s : State) (chain : List ℕ) (quiet : Bool) → all_stand p s ≡ true → is_good_run (if_quiet p s chain quiet) ≡ true
-  quiet_good s chain true stand = stand
-  quiet_good s chain false stand = room_good s chain (nat_lt frame_bound (depth s + length chain)) stand
-
-  begun_run : (s : State) (c : ℕ) (chain : List ℕ) (o : Option ℕ) → all_stand p s ≡ true → is_good_run (begun p s c chain o) ≡ true
-  begun_run s c chain (Some i) stand =
-      unsupported_spelled class_word (class_text p i) (place p s) refl (class_text_given p i sound) refl (place_given p s.top.method s.top.position)
-  begun_run s c chain None stand = quiet_good s chain (quiet_chain p s.inits c) stand
-
   pub start_good : (config : Config) → is_good_run (start p config) ≡ true
   start_good config =
       let s = before_main p config in
-      let main_class = current_class p s in
-      let chain = init_chain p s.inits main_class in
-      begun_run s main_class chain (chain_blocked p chain) (both_true (first_position (method_at p p.main.0).code) refl)
+      let stand : all_stand p s ≡ true = both_true (first_position (method_at p p.main.0).code) refl in
+      start_comes (λ r. is_good_run r ≡ true) p config (λ i is. blocked_spelled s i) refl (with_frames_stand (with_inits s Running (main_chain p config)) (reverse (main_chain p config)) stand) stand
 
   pub result_spelled : (r : Run) → is_good_run r ≡ true → is_spelled (result r).end ≡ true
   result_spelled (Live g) f = refl
@@ -213,23 +193,7 @@ used_within p (suc n) (Live g) =
     omega (arith, one, rest)
 
 pub used_none : (p : Program) (config : Config) → used (start p config) ≡ 0
-used_none p config =
-    let s = before_main p config in
-    let main_class = current_class p s in
-    let chain = init_chain p s.inits main_class in
-    by_blocked s main_class chain (chain_blocked p chain)
-  where
-    by_room : (s : State) (chain : List ℕ) (b : Bool) → used (with_room p s chain b) ≡ 0
-    by_room s chain true = refl
-    by_room s chain false = refl
-
-    by_quiet : (s : State) (chain : List ℕ) (b : Bool) → used (if_quiet p s chain b) ≡ 0
-    by_quiet s chain true = refl
-    by_quiet s chain false = by_room s chain (nat_lt frame_bound (depth s + length chain))
-
-    by_blocked : (s : State) (c : ℕ) (chain : List ℕ) (o : Option ℕ) → used (begun p s c chain o) ≡ 0
-    by_blocked s c chain (Some i) = refl
-    by_blocked s c chain None = by_quiet s chain (quiet_chain p s.inits c)
+used_none p config = start_comes (λ r. used r ≡ 0) p config (λ i is. refl) refl refl refl
 
 -- ---- the laws
 

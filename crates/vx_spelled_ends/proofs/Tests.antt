@@ -1,20 +1,12 @@
 -- Tests of texts, of numbers and of lists.
-use Rattle.std.proofs.Common.{Bool, List, [], arith, false, refl, suc, true, zero, ℕ, ◌&&◌, ◌++◌, ◌∙◌, ◌∷◌, ◌≡◌}
+use Rattle.std.proofs.Common.{Bool, List, [], arith, refl, true, ℕ, ◌&&◌, ◌++◌, ◌∙◌, ◌∷◌, ◌≡◌}
 use Rattle.std.proofs.lemmas.Bool.Decides.{nat_tests}
 use Rattle.std.proofs.lemmas.List.Folds.{list_all-append}
 use Rattle.std.specs.Cmp.Derive.{both_true}
 use Rattle.std.specs.List.{list_all}
-use Rattle.std.specs.Prelude.{nat_le, ◌==◌, ◌||◌}
+use Rattle.std.specs.Prelude.{nat_le, ◌==◌}
 use Rattle.vx_pool.specs.Holding.{and_true}
-use Rattle.vx_list.specs.Places.{item_or}
 use Rattle.vx_named_classes.specs.Named.{is_given}
-
-pub or_first : (a b : Bool) → a ≡ true → (a || b) ≡ true
-or_first a b e = rw e refl
-
-pub or_second : (a b : Bool) → b ≡ true → (a || b) ≡ true
-or_second true b e = refl
-or_second false b e = e
 
 pub same_test : (i j : ℕ) → i ≡ j → (i == j) ≡ true
 same_test i j e = grind (arith, nat_tests)
@@ -38,12 +30,7 @@ pub given_behind : (xs ys : List ℕ) → is_given ys ≡ true → is_given (xs 
 given_behind [] ys e = e
 given_behind (x ∷ xs) ys e = refl
 
--- ---- an item of a list, or another
-
-pub item_passes : {A : Type 0} (test : A → Bool) (xs : List A) (i : ℕ) (other : A) → list_all test xs ≡ true → test other ≡ true → test (item_or xs i other) ≡ true
-item_passes test [] i other all e = e
-item_passes test (x ∷ xs) zero other all e = (and_true _ _ all).0
-item_passes test (x ∷ xs) (suc i) other all e = item_passes test xs i other (and_true _ _ all).1 e
+-- ---- lists
 
 pub all_append : {A : Type 0} (test : A → Bool) (xs ys : List A) → list_all test xs ≡ true → list_all test ys ≡ true → list_all test (xs ++ ys) ≡ true
 all_append test xs ys e f = list_all-append test xs ys ∙ both_true e f

@@ -8,20 +8,20 @@ use Rattle.std.specs.Str.{byte}
 use Rattle.vx_pool.specs.Holding.{and_true}
 use Rattle.vx_java.specs.Machine.{Ends, Frame, Goes, Next, State, next_object, object_at, with_objects}
 use Rattle.vx_java.specs.Throwing.{exception_objects, handler_of, next_after_raise, next_after_throw, next_in_handler, passed_object, passed_state, uncaught, unwind}
-use Rattle.vx_jump_targets.specs.Placed.{are_well_placed, has_placed_code}
+use Rattle.vx_kept_facts.proofs.Rows.{placed}
 use Rattle.vx_link.specs.ClassNames.{class_element, class_text, dimensions_of, element_of, primitive_letters, spelled_element}
-use Rattle.vx_link.specs.Parts.{class_at, method_at, no_class, no_method}
+use Rattle.vx_link.specs.Parts.{class_at, method_at, no_class}
 use Rattle.vx_link.specs.declared.program.LinkedClass.{LinkedClass}
 use Rattle.vx_link.specs.declared.program.Program.{Program}
 use Rattle.vx_list.specs.Places.{item_or}
 use Rattle.vx_named_classes.specs.Named.{is_given}
 use Rattle.vx_value.specs.declared.key.Kind.{Kind}
-use Rattle.vx_value.specs.declared.key.Kind.TheVariants.{Call, Init, Wait}
+use Rattle.vx_value.specs.declared.key.Kind.TheVariants.{Wait}
 use Rattle.vx_spelled_ends.specs.Law.{IsSound}
 use Rattle.vx_spelled_ends.specs.Positions.{all_stand, is_position_of, stands}
 use Rattle.vx_spelled_ends.specs.Spelled.{is_spelled}
 use Rattle.vx_spelled_ends.proofs.Positions.{handler_position}
-use Rattle.vx_spelled_ends.proofs.Tests.{given_behind, item_passes}
+use Rattle.vx_spelled_ends.proofs.Tests.{given_behind}
 
 -- what a step leads to
 abbrev pub is_good_next : Program → Next → Bool
@@ -57,14 +57,10 @@ class_text_given p c sound = by_array (nat_lt c (length p.classes)) refl
 
 -- ---- unwinding
 
-code_placed : (p : Program) (m : ℕ) → are_well_placed p ≡ true → has_placed_code (method_at p m).code ≡ true
-code_placed p m placed = item_passes (λ m. has_placed_code m.code) p.methods m no_method placed refl
-
 -- a handler of a frame is a position of its code
 handled : (p : Program) (s : State) (kind : Kind) (r handler : ℕ) → IsSound p → handler_of p s kind r ≡ Some handler → is_position_of (method_at p s.top.method).code handler ≡ true
 handled p s Wait r handler sound e = absurd cc
-handled p s Call r handler sound e = handler_position p (class_at p (method_at p s.top.method).class.0).pool (method_at p s.top.method).code s.top.position (object_at s r).class handler (code_placed p s.top.method sound.placed) e
-handled p s Init r handler sound e = handler_position p (class_at p (method_at p s.top.method).class.0).pool (method_at p s.top.method).code s.top.position (object_at s r).class handler (code_placed p s.top.method sound.placed) e
+handled p s _ r handler sound e = handler_position p (class_at p (method_at p s.top.method).class.0).pool (method_at p s.top.method).code s.top.position (object_at s r).class handler (placed p sound.placed s.top.method) e
 
 pub unwound : (p : Program) (s : State) (r : ℕ) (below : List Frame) → IsSound p → list_all (stands p) s.callers ≡ true → list_all (stands p) below ≡ true → is_good_next p (unwind p s r below) ≡ true
 unwound p s r [] sound callers all = by_handler (handler_of p s s.top.kind r) refl

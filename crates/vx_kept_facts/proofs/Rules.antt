@@ -1,7 +1,7 @@
 -- The table of operations, walked rule by rule.
 use Rattle.std.proofs.Common.{Bool, List, [], arith, false, refl, subst, suc, true, zero, ℕ, ◌&&◌, ◌+◌, ◌∷◌, ◌≡◌}
 use Rattle.std.proofs.lemmas.Bool.Decides.{nat_tests}
-use Rattle.std.specs.List.{AllByRecursion, list_all}
+use Rattle.std.specs.List.{AllByRecursion}
 use Rattle.std.specs.Prelude.{slice_get, unwrap_or, ◌==◌, ◌||◌}
 use Rattle.vx_pool.specs.Holding.{and_true}
 use Rattle.vx_pool.specs.Instructions.{is_start}
@@ -46,13 +46,4 @@ each_of P (m ∷ ns) n all e = by_test (m == n) refl e (each_of P ns n all.1)
   where
     by_test : (b : Bool) → (m == n) ≡ b → (b || is_start ns n) ≡ true → (is_start ns n ≡ true → P n) → P n
     by_test true t f next = subst P (same_number m n t) all.0
-    by_test false t f next = next f
-
--- and a test of each
-pub passes_at : (test : ℕ → Bool) (ns : List ℕ) (n : ℕ) → list_all test ns ≡ true → is_start ns n ≡ true → test n ≡ true
-passes_at test [] n all e = absurd cc
-passes_at test (m ∷ ns) n all e = by_test (m == n) refl e (passes_at test ns n (and_true _ _ all).1)
-  where
-    by_test : (b : Bool) → (m == n) ≡ b → (b || is_start ns n) ≡ true → (is_start ns n ≡ true → test n ≡ true) → test n ≡ true
-    by_test true t f next = subst (λ (k : ℕ). test k ≡ true) (same_number m n t) (and_true _ _ all).0
     by_test false t f next = next f
